@@ -1,6 +1,40 @@
 //! The values that every layer speaks of.
 #![tactic(auto)]
 
+mod action;
+mod arithmetic;
+mod ask;
+mod boxed;
+pub mod built_in;
+mod cell;
+mod code;
+mod grant;
+pub mod limits;
+mod list;
 mod memory;
+mod name;
+mod numbers;
+mod privilege;
+mod reply;
+mod steps;
+mod table;
+mod text;
+mod truth;
 
+pub use action::Action;
+pub use arithmetic::{LARGEST, add, multiply, subtract};
+pub use ask::Ask;
+pub use boxed::Boxed;
+pub use cell::{Cell, compare};
+pub use code::Code;
+pub use grant::{GrantStatement, ObjectRight, Right};
+pub use list::List;
 pub use memory::Memory;
+pub use name::Name;
+pub use numbers::{ClientNo, RowNo, SessionNo, Stamp};
+pub use privilege::Privilege;
+pub use reply::{Reply, Said};
+pub use steps::Steps;
+pub use table::{Column, ColumnKind, TableName, TableReference};
+pub use text::Text;
+pub use truth::Truth;

@@ -1,0 +1,3 @@
+mod ActionLemmas
+mod FindLemmas
+mod PrivilegeLemmas

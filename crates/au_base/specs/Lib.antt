@@ -1,0 +1,9 @@
+pub mod Actions
+pub mod BuiltIn
+pub mod Cells
+pub mod formers
+pub mod Found
+pub mod Naming
+pub mod Numbers
+pub mod Privileges
+pub mod Truths
