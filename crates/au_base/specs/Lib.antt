@@ -1,8 +1,10 @@
 pub mod Actions
 pub mod BuiltIn
+pub mod Calendar
 pub mod Cells
 pub mod formers
 pub mod Found
+pub mod Moments
 pub mod Naming
 pub mod Numbers
 pub mod Privileges
