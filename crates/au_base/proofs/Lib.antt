@@ -2,6 +2,7 @@ mod ActionLemmas
 mod CalendarCounts
 mod CalendarDays
 mod FindLemmas
+mod LikeLemmas
 mod MomentBack
 mod MomentDigits
 mod MomentPairs

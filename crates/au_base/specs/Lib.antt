@@ -4,6 +4,8 @@ pub mod Calendar
 pub mod Cells
 pub mod formers
 pub mod Found
+pub mod Fronts
+pub mod Likes
 pub mod Moments
 pub mod Naming
 pub mod Numbers

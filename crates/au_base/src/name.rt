@@ -1,7 +1,7 @@
 //! Names.
 ghost use Rattle.std.specs.Prelude.{◌≡◌, ◌≤◌, ◌<◌, IsUtf8, IfOk, length};
 ghost use Rattle.au_base.specs.Found.{MakesExactly};
-ghost use Rattle.au_base.specs.Naming.{IsName, IsNameLong};
+ghost use Rattle.au_base.specs.Naming.{IsName, IsNameLong, identifier_of};
 
 use crate::{Memory, Text};
 use std::alloc::{AllocError, Global};
@@ -46,7 +46,7 @@ impl Name {
 
     /// This text as a name. `None` where it is empty or has over 128 bytes. It takes no memory.
     pub fn from_text(text: Text) -> Option<Name>
-        ensures { MakesExactly (IsNameLong text) text result }
+        ensures { MakesExactly (IsName text) text result }
     {
         let len = text.as_bytes().len();
         if len == 0 || len > Name::MAX_LEN {
@@ -63,6 +63,21 @@ impl Name {
         Ok(Name {
             text: Text::from_str(alloc, name)?,
         })
+    }
+
+    /// The name that a user's name or a literal is read as: what stands between two `"`, or else
+    /// the text with its letters of ASCII in upper case. `None` where that is no name.
+    pub fn identifier(alloc: Global, text: &Text) -> Result<Option<Name>, Memory>
+        ensures { IfOk result (MakesExactly (IsName (identifier_of text.now)) (identifier_of text.now)) }
+    {
+        match text.as_bytes() {
+            [b'"', inner @ .., b'"'] => Name::make(alloc, inner),
+            _ => {
+                let mut upper = text.clone()?;
+                upper.make_ascii_uppercase();
+                Ok(Name::from_text(upper))
+            }
+        }
     }
 
     /// The name as a text. It takes no memory.

@@ -98,7 +98,7 @@ fn number_of(digits: &[u8]) -> Option<u32>
     Some(number)
 }
 
-/// The text of a moment reads as that moment.
+/// A law: the text of a moment is read as that moment.
 pub fn read_back(moment: u64) -> Option<u64>
     ensures { result ≡ Some (min moment LAST_MOMENT) }
 {
