@@ -6,4 +6,6 @@ mod LikeLemmas
 mod MomentBack
 mod MomentDigits
 mod MomentPairs
+mod MomentWritten
 mod PrivilegeLemmas
+pub mod SameLemmas

@@ -102,7 +102,7 @@ end-rest pattern text later rest on like =
     let tail = found.like in
     let long : length on.named ≡ length found.named = length-each on.names on.named on.each ∙ sym found.long in
     let cut : on.named ++ rest ≡ (like.0 ++ found.named) ++ found.rest =
-      sym on.text_is ∙ like.2 ∙ ap (λ t. like.0 ++ t) found.text_is ∙ sym (append_assoc like.0 found.named found.rest) in
+    sym on.text_is ∙ like.2 ∙ ap (λ t. like.0 ++ t) found.text_is ∙ sym (append_assoc like.0 found.named found.rest) in
     let part = later_part on.named rest (like.0 ++ found.named) found.rest cut (simp length-append (omega (arith, long))) in
     let front = drop (length on.named) (like.0 ++ found.named) in (
       front ++ tail.0,

@@ -40,9 +40,12 @@ pub use name::Name;
 pub use numbers::{ClientNo, RowNo, SessionNo, Stamp};
 pub use pattern::like;
 pub use privilege::Privilege;
-pub use reading::{read_back, read_moment};
+pub use reading::{read_back, read_moment, written_back};
 pub use reply::{Reply, Said};
 pub use steps::Steps;
 pub use table::{Column, ColumnKind, TableName, TableReference};
 pub use text::Text;
 pub use truth::Truth;
+
+#[cfg(test)]
+mod tests;

@@ -3,6 +3,7 @@ ghost use Rattle.std.specs.Prelude.{◌≡◌, ◌≤◌, ◌<◌, IsUtf8, IfOk,
 ghost use Rattle.au_base.specs.Found.{MakesExactly};
 ghost use Rattle.au_base.specs.Naming.{IsName, IsNameLong, identifier_of};
 
+use crate::limits::NAME_BYTES;
 use crate::{Memory, Text};
 use std::alloc::{AllocError, Global};
 use std::marker::Model;
@@ -28,14 +29,11 @@ impl Model for Name {
 }
 
 impl Name {
-    /// The most bytes of a name.
-    pub const MAX_LEN: usize = 128;
-
     /// The name with these bytes. `None` where they are no name.
     pub fn make(alloc: Global, bytes: &[u8]) -> Result<Option<Name>, Memory>
         ensures { IfOk result (MakesExactly (IsName bytes.now) bytes.now) }
     {
-        if bytes.is_empty() || bytes.len() > Name::MAX_LEN {
+        if bytes.is_empty() || bytes.len() > NAME_BYTES {
             return Ok(None);
         }
         match Text::make(alloc, bytes)? {
@@ -49,7 +47,7 @@ impl Name {
         ensures { MakesExactly (IsName text) text result }
     {
         let len = text.as_bytes().len();
-        if len == 0 || len > Name::MAX_LEN {
+        if len == 0 || len > NAME_BYTES {
             return None;
         }
         Some(Name { text })

@@ -12,7 +12,8 @@ use crate::moment::moment_text;
 /// without, a real date from 1970 to 9999, hours to 23, minutes and seconds to 59. `None` exactly
 /// where the text has not this form.
 pub fn read_moment(text: &[u8]) -> Option<u64>
-    ensures { MatchOption result (TellsNoMoment text.now) (TellsMoment text.now) }
+    ensures cases { MatchOption result (TellsNoMoment text.now) (TellsMoment text.now) }
+    ensures last { IfSome result (λ moment. moment ≤ LAST_MOMENT) }
 {
     let [
         y0,
@@ -103,4 +104,15 @@ pub fn read_back(moment: u64) -> Option<u64>
     ensures { result ≡ Some (min moment LAST_MOMENT) }
 {
     read_moment(moment_text(moment).as_slice())
+}
+
+/// A law: a text of 26 bytes that is read as a moment is the text of that moment.
+pub fn written_back(text: &[u8]) -> Option<[u8; 26]>
+    requires { length text.now ≡ 26 }
+    ensures { IfSome result (λ written. written ≡ text.now) }
+{
+    match read_moment(text) {
+        Some(moment) => Some(moment_text(moment)),
+        None => None,
+    }
 }

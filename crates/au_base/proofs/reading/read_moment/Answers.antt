@@ -4,14 +4,14 @@ use Rattle.au_base.specs.Moments.{fraction_of}
 use Rattle.au_base.proofs.MomentPairs.{HasMarks, HasPairs, date_told, spelled}
 use Rattle.au_base.proofs.reading.read_moment.Goals as goal
 
-pub returns-in_err-days : goal.returns-in_err-days
-returns-in_err-days c =
+pub returns-in_err-days-clause-cases : goal.returns-in_err-days-clause-cases
+returns-in_err-days-clause-cases c =
     rw c.from_residual-in_err-days.ensures (λ k civil s. c.in_err-days.ensures.value
     (date_told k c.args.text.now s.0 c.in_ok-century.century c.in_ok-year.year c.in_ok-month.month c.in_ok-day.day civil s.1
     c.in_ok-century.ensures c.in_ok-year.ensures c.in_ok-month.ensures c.in_ok-day.ensures))
 
-pub returns : goal.returns
-returns c =
+pub returns-clause-cases : goal.returns-clause-cases
+returns-clause-cases c =
     let marks : HasMarks c.args.text.now = record {
       long = omega arith;
       first_dash = omega arith;
@@ -45,3 +45,7 @@ returns c =
       (drop 19 c.args.text.now, text, rest),
       rw (c.from.ensures, c.from-2.ensures, c.from-3.ensures, c.from-4.ensures, date.1) refl,
     )
+
+pub returns-clause-last : goal.returns-clause-last
+returns-clause-last c =
+    omega (arith, c.in_ok-days.ensures.bound, c.in_ok-micro.ensures.small, c.from.ensures, c.from-2.ensures, c.from-3.ensures, c.from-4.ensures)
