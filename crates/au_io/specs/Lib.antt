@@ -1,0 +1,17 @@
+pub mod Areas
+pub mod Contents
+pub mod Disk
+pub mod Faults
+pub mod History
+pub mod HistoryMeaning
+pub mod Image
+pub mod Laws
+pub mod MemDisk
+pub mod MemSink
+pub mod MemSource
+pub mod Moments
+pub mod Replay
+pub mod Soundness
+pub mod Step
+pub mod Stream
+pub mod Time
