@@ -10,6 +10,7 @@ pub mod MemDisk
 pub mod MemSink
 pub mod MemSource
 pub mod Moments
+pub mod Real
 pub mod Replay
 pub mod Soundness
 pub mod Step

@@ -29,7 +29,12 @@ pub struct FileDisk {
 }
 
 impl FileDisk {
-    pub fn new(rt: HostRuntime) -> FileDisk {
+    ghost use Rattle.au_io.specs.Real.{file_disk_faults};
+
+    /// A disk that has opened nothing yet.
+    pub fn new(rt: HostRuntime) -> FileDisk
+        ensures { file_disk_faults result ≡ 0 }
+    {
         FileDisk {
             rt,
             files: None,

@@ -1,5 +1,5 @@
 //! A writer of the system as a sink.
-ghost use Rattle.std.specs.Prelude.{None};
+ghost use Rattle.std.specs.Prelude.{◌≡◌, None};
 
 use crate::{Gave, Sink};
 use std::io::Write;
@@ -14,7 +14,11 @@ pub struct StdSink<W> {
 }
 
 impl<W> StdSink<W> {
-    pub fn new(writer: W) -> Self {
+    ghost use Rattle.au_io.specs.Real.{std_sink_faults};
+
+    pub fn new(writer: W) -> Self
+        ensures { std_sink_faults result ≡ 0 }
+    {
         StdSink { writer, faults: 0 }
     }
 }

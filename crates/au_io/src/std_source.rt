@@ -1,5 +1,5 @@
 //! A reader of the system as a source.
-ghost use Rattle.std.specs.Prelude.{None};
+ghost use Rattle.std.specs.Prelude.{◌≡◌, None};
 
 use crate::{Source, Took};
 use std::io::Read;
@@ -13,7 +13,11 @@ pub struct StdSource<R> {
 }
 
 impl<R> StdSource<R> {
-    pub fn new(reader: R) -> Self {
+    ghost use Rattle.au_io.specs.Real.{std_source_faults};
+
+    pub fn new(reader: R) -> Self
+        ensures { std_source_faults result ≡ 0 }
+    {
         StdSource { reader, faults: 0 }
     }
 }
