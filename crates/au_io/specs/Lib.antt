@@ -1,6 +1,7 @@
 pub mod Areas
 pub mod Contents
 pub mod Disk
+pub mod FaultPlan
 pub mod Faults
 pub mod History
 pub mod HistoryMeaning

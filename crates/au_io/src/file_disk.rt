@@ -1,5 +1,5 @@
 //! A disk of three files.
-ghost use Rattle.std.specs.Prelude.{◌≡◌, ◌≤◌, ◌+◌, ◌-◌, ◌^◌, length, IfSome, OnSome, IsErr, MatchOption};
+ghost use Rattle.std.specs.Prelude.{◌≡◌, ◌≤◌, ◌+◌, ◌-◌, ◌^◌, length, None, IfSome, OnSome, IsErr, MatchOption};
 ghost use Rattle.au_io.specs.Disk.{untold, HasCause};
 
 use crate::{Area, Disk, Failed};
@@ -140,6 +140,8 @@ impl Disk for FileDisk {
     ghost faults = { λ disk. disk.faults };
 
     ghost short = { λ _. 0 };
+
+    ghost plan = { λ _. None };
 
     ghost reads_is_image = { λ _ told. absurd told };
 

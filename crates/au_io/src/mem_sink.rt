@@ -1,5 +1,6 @@
 //! A sink in memory.
 ghost use Rattle.std.specs.Prelude.{◌≡◌, ◌<◌, [], Some, IfOk};
+ghost use Rattle.au_io.specs.FaultPlan.{plan_of};
 
 use crate::fault_plan::FaultPlan;
 use crate::{Failed, Gave, Sink};
@@ -17,7 +18,7 @@ pub struct MemSink {
 }
 
 impl MemSink {
-    ghost use Rattle.au_io.specs.MemSink.{sink_given, sink_faults, sink_short};
+    ghost use Rattle.au_io.specs.MemSink.{sink_given, sink_faults, sink_short, sink_plan};
 
     /// A sink that was given nothing. A piece of 0 counts as 1. Calls are numbered from 0, and the
     /// failed ones count too.
@@ -25,6 +26,7 @@ impl MemSink {
         ensures given { IfOk result (λ sink. sink_given sink ≡ []) }
         ensures faults { IfOk result (λ sink. sink_faults sink ≡ 0) }
         ensures short { IfOk result (λ sink. sink_short sink ≡ 0) }
+        ensures plan { IfOk result (λ sink. sink_plan sink ≡ record { listed = fail.now; next = 0 }) }
     {
         Ok(MemSink {
             given: Vec::new(alloc),
@@ -52,6 +54,10 @@ impl Sink for MemSink {
     ghost given = { λ sink. Some sink.given.items };
 
     ghost faults = { λ sink. sink.plan.faults };
+
+    ghost short = { λ sink. sink.plan.short };
+
+    ghost plan = { λ sink. Some (plan_of sink.plan) };
 
     fn give(&mut self, bytes: &[u8]) -> Gave {
         if self.plan.next_fails() {

@@ -1,5 +1,6 @@
 //! A source in memory.
 ghost use Rattle.std.specs.Prelude.{◌≡◌, ◌<◌, ◌≤◌, Some, [], length, take, drop, vec_len, IfOk};
+ghost use Rattle.au_io.specs.FaultPlan.{plan_of};
 
 use crate::fault_plan::FaultPlan;
 use crate::{Source, Took};
@@ -18,13 +19,14 @@ pub struct MemSource {
 }
 
 impl MemSource {
-    ghost use Rattle.au_io.specs.MemSource.{source_left, source_faults};
+    ghost use Rattle.au_io.specs.MemSource.{source_left, source_faults, source_plan};
 
     /// A source of these bytes. A piece of 0 counts as 1. Calls are numbered from 0, and the failed
     /// ones count too.
     pub fn new(alloc: Global, bytes: &[u8], piece: usize, fail: &[u64]) -> Result<Self, Memory>
         ensures left { IfOk result (λ source. source_left source ≡ bytes.now) }
         ensures faults { IfOk result (λ source. source_faults source ≡ 0) }
+        ensures plan { IfOk result (λ source. source_plan source ≡ record { listed = fail.now; next = 0 }) }
     {
         Ok(MemSource {
             bytes: Vec::from_slice(alloc, bytes)?,
@@ -39,6 +41,8 @@ impl Source for MemSource {
     ghost left = { λ source. Some (drop source.at source.bytes.items) };
 
     ghost faults = { λ source. source.plan.faults };
+
+    ghost plan = { λ source. Some (plan_of source.plan) };
 
     fn take(&mut self, room: &mut [u8]) -> Took {
         if self.plan.next_fails() {

@@ -1,5 +1,6 @@
 //! Where bytes are taken from.
 ghost use Rattle.std.specs.Prelude.{◌≡◌, ◌<◌, ℕ, List, Option, length};
+ghost use Rattle.au_io.specs.Faults.{Plan, KeepsPlan};
 ghost use Rattle.au_io.specs.Stream.{Takes, IsTakeCause};
 
 /// What a source answers to one call.
@@ -21,10 +22,14 @@ pub trait Source {
     /// How often it has failed.
     ghost faults: { Self → ℕ };
 
+    /// The calls that are to fail, where the source tells them.
+    ghost plan: { Self → Option Plan };
+
     /// Takes at most as many bytes as the room has. What stands in the room behind the bytes that
     /// were taken isn't known.
     fn take(&mut self, room: &mut [u8]) -> Took
         requires { 0 < length room.old }
         ensures bytes { Takes (left self.old) (left self.new) room.new result }
-        ensures cause { IsTakeCause (faults self.old) (faults self.new) result };
+        ensures cause { IsTakeCause (faults self.old) (faults self.new) result }
+        ensures planned { KeepsPlan (plan self.old) (plan self.new) (result ≡ Took.Failed) ⊥ };
 }

@@ -28,6 +28,10 @@ impl<W: Write> Sink for StdSink<W> {
 
     ghost faults = { λ sink. sink.faults };
 
+    ghost short = { λ _. 0 };
+
+    ghost plan = { λ _. None };
+
     fn give(&mut self, bytes: &[u8]) -> Gave {
         match self.writer.write(bytes) {
             Ok(count) if count > 0 => Gave::Bytes(count),

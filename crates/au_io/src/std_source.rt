@@ -27,6 +27,8 @@ impl<R: Read> Source for StdSource<R> {
 
     ghost faults = { λ source. source.faults };
 
+    ghost plan = { λ _. None };
+
     fn take(&mut self, room: &mut [u8]) -> Took {
         match self.reader.read(room) {
             Ok(0) => Took::End,
