@@ -1,0 +1,36 @@
+//! The outside: what the program reads from, writes to, tells the time by and keeps its bytes on.
+#![tactic(auto)]
+
+mod call;
+mod clock;
+mod contents;
+mod disk;
+mod fault_plan;
+mod file_disk;
+mod history;
+mod image;
+mod lobby;
+mod mem_disk;
+mod mem_sink;
+mod mem_source;
+mod real_clock;
+mod sink;
+mod source;
+mod std_sink;
+mod std_source;
+
+pub use clock::{Clock, MemClock};
+pub use disk::{Area, Disk, Failed};
+pub use file_disk::FileDisk;
+pub use lobby::{Link, Lobby};
+pub use mem_disk::MemDisk;
+pub use mem_sink::MemSink;
+pub use mem_source::MemSource;
+pub use real_clock::RealClock;
+pub use sink::{Gave, Sink};
+pub use source::{Source, Took};
+pub use std_sink::StdSink;
+pub use std_source::StdSource;
+
+#[cfg(test)]
+mod tests;
