@@ -1,0 +1,4 @@
+pub mod EntriesLemmas
+pub mod RuleLemmas
+pub mod PassLemmas
+pub mod PassLaws

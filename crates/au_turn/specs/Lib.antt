@@ -1,0 +1,4 @@
+pub mod Entries
+pub mod View
+pub mod Rule
+pub mod Pass
