@@ -1,0 +1,110 @@
+//! What a word begins in an expression.
+ghost use Rattle.std.specs.Prelude.{◌≡◌, Some};
+ghost use Rattle.sql_parse.specs.Expressions.{upper};
+ghost use Rattle.sql_parse.specs.MomentReading.{moment_read};
+ghost use Rattle.sql_parse.specs.Symbols.{kinds};
+ghost use Rattle.sql_parse.specs.Reading.{Gives};
+ghost use Rattle.sql_parse.specs.Reading as spec;
+
+use crate::cursor::{behind, expect_mark, sees_mark, sees_word};
+use crate::names::column;
+use crate::stop::Stop;
+use au_base::{Text, read_moment};
+use sql_ast::Expr;
+use sql_lex::{Kind, Mark, Token};
+use std::alloc::Global;
+
+/// An atom that begins with a word.
+#[tactic(auto, unfolding(crate::specs::Reading::worded_atom))]
+pub fn worded_atom(alloc: Global, tokens: &[Token]) -> Result<(Expr, &[Token]), Stop>
+    ensures { Gives (λ x. (x.0, kinds x.1.now)) result (spec.worded_atom (kinds tokens.now)) }
+{
+    let rest = behind(tokens);
+    if sees_word(tokens, b"NULL") {
+        Ok((Expr::Null, rest))
+    } else if sees_word(tokens, b"USER") {
+        Ok((Expr::User, rest))
+    } else if sees_word(tokens, b"SYSTIMESTAMP") {
+        Ok((Expr::Now, rest))
+    } else if sees_word(tokens, b"TIMESTAMP") {
+        moment(rest)
+    } else if sees_word(tokens, b"SYS_CONTEXT") && sees_mark(rest, Mark::OpenParenthesis) {
+        context(behind(rest))
+    } else {
+        column(alloc, tokens)
+    }
+}
+
+// The text literal that comes next.
+#[tactic(auto, unfolding(crate::specs::Reading::literal))]
+fn literal(tokens: &[Token]) -> Result<(&Text, &[Token]), Stop>
+    ensures { Gives (λ x. (x.0.now, kinds x.1.now)) result (spec.literal (kinds tokens.now)) }
+{
+    match tokens {
+        [first, rest @ ..] => match &first.kind {
+            Kind::Text(text) => Ok((text, rest)),
+            _ => Err(Stop::Unread),
+        },
+        [] => Err(Stop::Unread),
+    }
+}
+
+// A moment whose TIMESTAMP came before.
+#[tactic(auto, unfolding(crate::specs::Reading::moment))]
+fn moment(tokens: &[Token]) -> Result<(Expr, &[Token]), Stop>
+    ensures { Gives (λ x. (x.0, kinds x.1.now)) result (spec.moment (kinds tokens.now)) }
+{
+    let (text, rest) = literal(tokens)?;
+    Ok((Expr::Moment(moment_of(text)?), rest))
+}
+
+fn moment_of(text: &Text) -> Result<u64, Stop>
+    ensures { Gives (λ x. x) result (moment_read text.now) }
+{
+    match read_moment(text.as_bytes()) {
+        Some(moment) => Ok(moment),
+        None => Err(Stop::Unread),
+    }
+}
+
+// A call of SYS_CONTEXT whose opening parenthesis came before.
+#[tactic(auto, unfolding(crate::specs::Reading::context))]
+fn context(tokens: &[Token]) -> Result<(Expr, &[Token]), Stop>
+    ensures { Gives (λ x. (x.0, kinds x.1.now)) result (spec.context (kinds tokens.now)) }
+{
+    let (namespace, rest) = literal(tokens)?;
+    let ((), rest) = expect_mark(rest, Mark::Comma)?;
+    let (parameter, rest) = literal(rest)?;
+    let ((), rest) = expect_mark(rest, Mark::CloseParenthesis)?;
+    attribute_of(namespace, parameter, rest)
+}
+
+fn attribute_of<'t>(
+    namespace: &Text,
+    parameter: &Text,
+    rest: &'t [Token],
+) -> Result<(Expr, &'t [Token]), Stop>
+    ensures { Gives (λ x. (x.0, kinds x.1.now)) result (spec.attribute_of namespace.now parameter.now (kinds rest.now)) }
+{
+    let namespace = upper(namespace)?;
+    let parameter = upper(parameter)?;
+    if namespace.as_str() == "USERENV" && is_attribute(parameter.as_str()) {
+        Ok((Expr::Context(parameter), rest))
+    } else {
+        Err(Stop::Unread)
+    }
+}
+
+fn upper(text: &Text) -> Result<Text, Stop>
+    ensures { Gives (λ x. x) result (Some (upper text.now)) }
+{
+    let mut copy = text.clone()?;
+    copy.make_ascii_uppercase();
+    Ok(copy)
+}
+
+fn is_attribute(parameter: &str) -> bool
+    ensures { result ≡ spec.is_attribute parameter.now }
+{
+    parameter == "SESSION_USER" || parameter == "SESSIONID"
+}
