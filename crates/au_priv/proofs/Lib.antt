@@ -3,5 +3,7 @@ pub mod Chains
 pub mod Entries
 pub mod Mapped
 pub mod Members
+pub mod Refusals
 pub mod Search
 pub mod Unfound
+pub mod Walks

@@ -3,17 +3,20 @@ ghost use Rattle.std.specs.Prelude.{◌≡◌, ◌↔◌, IsTrue, IfOk};
 ghost use Rattle.au_priv.specs.declared.allowed.Allowed.{Allowed};
 ghost use Rattle.au_priv.specs.Allowing.{AllowedIs, IsRefusal};
 ghost use Rattle.au_priv.specs.Changing.{applied_all};
+ghost use Rattle.au_priv.specs.Deciding.{Decides};
 ghost use Rattle.au_priv.specs.Rights.{HoldsRole, HoldsPrivilege};
 
 use crate::allowed::Allowed;
 use crate::allowing::{allowed, refusal};
 use crate::applying::after_all;
 use crate::change::GrantChange;
+use crate::decided::{Decided, Known};
+use crate::deciding::{Case, decide};
 use crate::holding::has_right;
 use crate::right::Sought;
 use crate::staged::StagedGrants;
-use au_base::{Action, Code, List, Memory, Name, Privilege, TableName};
-use std::alloc::AllocError;
+use au_base::{Action, Code, GrantStatement, List, Memory, Name, Privilege, TableName};
+use std::alloc::{AllocError, Global};
 
 /// What was granted to whom (Database Security Guide, "Configuring Privilege and Role
 /// Authorization"). The grantee of each grant stands first.
@@ -68,6 +71,25 @@ impl Grants {
         ensures { IsRefusal self.now user.now table.now result }
     {
         refusal(self, user, table)
+    }
+
+    /// What is decided of a statement GRANT or REVOKE of the user, by these grants and what is
+    /// there.
+    pub fn decide(
+        &self,
+        alloc: Global,
+        user: &Name,
+        statement: &GrantStatement,
+        known: &Known,
+    ) -> Result<Decided, Memory>
+        ensures { IfOk result (Decides self.now known.now user.now statement.now) }
+    {
+        let case = Case {
+            grants: &*self,
+            known: &*known,
+            user: &*user,
+        };
+        decide(alloc, case, statement)
     }
 
     /// Makes the grants ready that there are after the changes, in their order. The present ones
