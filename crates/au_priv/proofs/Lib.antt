@@ -1,0 +1,9 @@
+pub mod Answers
+pub mod Chains
+pub mod Entries
+pub mod Mapped
+pub mod Members
+pub mod Refusals
+pub mod Search
+pub mod Unfound
+pub mod Walks

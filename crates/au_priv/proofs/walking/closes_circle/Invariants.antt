@@ -1,0 +1,8 @@
+use Rattle.std.proofs.Common.{◌≡◌, ℕ, ◌<◌, Some}
+use Rattle.std.specs.List.{slice_get}
+use Rattle.au_priv.specs.declared.change.GrantChange.{GrantChange}
+use Rattle.au_priv.specs.Walking.{Closes}
+use Rattle.au_priv.proofs.walking.closes_circle.Given as goal
+
+abbrev pub invariant-loop-change : goal.invariant-loop-change
+invariant-loop-change l = (k : ℕ) (change : GrantChange) → k < l.change-index → slice_get l.pair k ≡ Some change → ¬ Closes l.grants.role change

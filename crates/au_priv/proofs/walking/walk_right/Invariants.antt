@@ -1,0 +1,9 @@
+use Rattle.std.proofs.Common.{take, Ok}
+use Rattle.std.specs.List.{flat_map}
+use Rattle.au_priv.specs.Pairs.{right_pair}
+use Rattle.au_priv.specs.Walking.{Walked}
+use Rattle.au_priv.proofs.Walks.{single}
+use Rattle.au_priv.proofs.walking.walk_right.Given as goal
+
+abbrev pub invariant-loop-grantee : goal.invariant-loop-grantee
+invariant-loop-grantee l = Walked l.fn.start (flat_map (single (right_pair l.way l.right)) (take l.grantee-index l.grantees)) (Ok l.progress)

@@ -1,0 +1,23 @@
+//! Who may do what, and by which privilege.
+#![tactic(auto)]
+
+mod allowed;
+mod allowing;
+mod applying;
+mod change;
+mod decided;
+mod deciding;
+mod direct;
+mod found;
+mod grants;
+mod holding;
+mod pair;
+mod right;
+mod staged;
+mod walking;
+
+pub use allowed::Allowed;
+pub use change::GrantChange;
+pub use decided::{Decided, Known};
+pub use grants::Grants;
+pub use staged::StagedGrants;

@@ -1,0 +1,286 @@
+//! Pairs in their order, each on the grants that the one before left.
+ghost use Rattle.std.specs.Prelude.{◌≡◌, ◌∷◌, ◌++◌, ◌↔◌, [], IfOk, IsTrue, map, MatchOption, length};
+ghost use Rattle.std.specs.List.{filter, list_any};
+ghost use Rattle.au_base.specs.declared.code.Code.{Code};
+ghost use Rattle.au_priv.specs.Pairs.{right_pair, object_pair, pairs};
+ghost use Rattle.au_priv.specs.Walking.{Walked, RefusesPair, Closes, ClosesCircle, IsOverLimit, grants_privilege_as, grants_role_as, is_effective, is_new, missing_code, made};
+
+use crate::applying::after_all;
+use crate::change::GrantChange;
+use crate::direct::{has_object, has_privilege, has_role, is_same_privilege};
+use crate::grants::Grants;
+use crate::holding::has_right;
+use crate::pair::{Way, changes_of_object_right, changes_of_right};
+use crate::right::Sought;
+use au_base::limits::GRANTS;
+use au_base::{Code, List, Memory, Name, ObjectRight, Privilege, Right, TableName};
+use std::alloc::Global;
+
+/// How far the pairs of a statement are done.
+#[derive(Debug, Drop)]
+pub struct Progress {
+    /// The grants after the changes.
+    pub after: Grants,
+    /// The changes.
+    pub changes: List<GrantChange>,
+}
+
+/// Does the pairs of rights and grantees, up to the first that is refused.
+pub fn walk_rights(
+    alloc: Global,
+    start: Progress,
+    way: Way,
+    rights: &[Right],
+    grantees: &[Name],
+) -> Result<Result<Progress, Code>, Memory>
+    ensures { IfOk result (Walked start (pairs (right_pair way) rights.now grantees.now)) }
+{
+    let mut progress = start;
+    for right in rights {
+        progress = match walk_right(alloc, progress, way, right, grantees)? {
+            Ok(next) => next,
+            Err(code) => return Ok(Err(code)),
+        };
+    }
+    Ok(Ok(progress))
+}
+
+fn walk_right(
+    alloc: Global,
+    start: Progress,
+    way: Way,
+    right: &Right,
+    grantees: &[Name],
+) -> Result<Result<Progress, Code>, Memory>
+    ensures { IfOk result (Walked start (map (right_pair way right.now) grantees.now)) }
+{
+    let mut progress = start;
+    for grantee in grantees {
+        let pair = changes_of_right(alloc, way, right, grantee)?;
+        progress = match walk_pair(alloc, progress, pair.as_slice())? {
+            Ok(next) => next,
+            Err(code) => return Ok(Err(code)),
+        };
+    }
+    Ok(Ok(progress))
+}
+
+/// Does the pairs of rights on a table and grantees, up to the first that is refused.
+pub fn walk_object_rights(
+    alloc: Global,
+    start: Progress,
+    way: Way,
+    table: &TableName,
+    rights: &[ObjectRight],
+    grantees: &[Name],
+) -> Result<Result<Progress, Code>, Memory>
+    ensures { IfOk result (Walked start (pairs (object_pair way table.now) rights.now grantees.now)) }
+{
+    let mut progress = start;
+    for right in rights {
+        progress = match walk_object_right(alloc, progress, way, table, *right, grantees)? {
+            Ok(next) => next,
+            Err(code) => return Ok(Err(code)),
+        };
+    }
+    Ok(Ok(progress))
+}
+
+fn walk_object_right(
+    alloc: Global,
+    start: Progress,
+    way: Way,
+    table: &TableName,
+    right: ObjectRight,
+    grantees: &[Name],
+) -> Result<Result<Progress, Code>, Memory>
+    ensures { IfOk result (Walked start (map (object_pair way table.now right) grantees.now)) }
+{
+    let mut progress = start;
+    for grantee in grantees {
+        let pair = changes_of_object_right(alloc, way, table, right, grantee)?;
+        progress = match walk_pair(alloc, progress, pair.as_slice())? {
+            Ok(next) => next,
+            Err(code) => return Ok(Err(code)),
+        };
+    }
+    Ok(Ok(progress))
+}
+
+fn walk_pair(
+    alloc: Global,
+    start: Progress,
+    pair: &[GrantChange],
+) -> Result<Result<Progress, Code>, Memory>
+    ensures { IfOk result (Walked start (pair.now ∷ [])) }
+{
+    if let Some(code) = pair_refusal(&start.after, pair) {
+        return Ok(Err(code));
+    }
+    let Progress { after, changes } = start;
+    let made = effective(alloc, &after, pair)?;
+    let after = after_all(after, made.as_slice())?;
+    Ok(Ok(Progress {
+        after,
+        changes: joined(changes, made)?,
+    }))
+}
+
+fn effective(
+    alloc: Global,
+    grants: &Grants,
+    pair: &[GrantChange],
+) -> Result<List<GrantChange>, Memory>
+    ensures { IfOk result (λ changes. changes ≡ made grants.now pair.now) }
+{
+    let mut changes = List::new(alloc);
+    for change in pair {
+        if has_effect(grants, change) {
+            changes.push(change.clone()?)?;
+        }
+    }
+    Ok(changes)
+}
+
+fn joined(changes: List<GrantChange>, more: List<GrantChange>) -> Result<List<GrantChange>, Memory>
+    ensures { IfOk result (λ all. all ≡ changes ++ more) }
+{
+    let mut all = changes.into_vec();
+    let mut rest = more.into_vec();
+    all.append(&mut rest)?;
+    Ok(List::from_vec(all))
+}
+
+fn pair_refusal(grants: &Grants, pair: &[GrantChange]) -> Option<Code>
+    ensures { MatchOption result ((code : Code) → ¬ RefusesPair grants.now pair.now code) (RefusesPair grants.now pair.now) }
+{
+    if closes_circle(grants, pair) {
+        return Some(Code::CIRCULAR_ROLE_GRANT);
+    }
+    if is_over_limit(grants, pair) {
+        return Some(Code::TOO_MANY_OBJECTS);
+    }
+    if has_some_effect(grants, pair) {
+        return None;
+    }
+    missing(pair)
+}
+
+fn closes_circle(grants: &Grants, pair: &[GrantChange]) -> bool
+    ensures { IsTrue result ↔ ClosesCircle grants.now.role pair.now }
+{
+    for change in pair {
+        if closes(grants, change) {
+            return true;
+        }
+    }
+    false
+}
+
+fn closes(grants: &Grants, change: &GrantChange) -> bool
+    ensures { IsTrue result ↔ Closes grants.now.role change.now }
+{
+    match change {
+        GrantChange::RoleGrant(grantee, role, _) => {
+            *grantee == *role || has_right(grants, role, Sought::Role(grantee.as_str()))
+        }
+        _ => false,
+    }
+}
+
+fn is_over_limit(grants: &Grants, pair: &[GrantChange]) -> bool
+    ensures { IsTrue result ↔ IsOverLimit grants.now pair.now }
+{
+    let room = GRANTS
+        .saturating_sub(grants.system.len())
+        .saturating_sub(grants.role.len())
+        .saturating_sub(grants.object.len());
+    room < new_count(grants, pair)
+}
+
+fn new_count(grants: &Grants, pair: &[GrantChange]) -> usize
+    ensures { result ≡ length (filter (is_new grants.now) pair.now) }
+{
+    pair.iter()
+        .filter(|change| is_new_grant(grants, change))
+        .count()
+}
+
+fn has_some_effect(grants: &Grants, pair: &[GrantChange]) -> bool
+    ensures { result ≡ list_any (is_effective grants.now) pair.now }
+{
+    pair.iter().any(|change| has_effect(grants, change))
+}
+
+fn has_effect(grants: &Grants, change: &GrantChange) -> bool
+    ensures { result ≡ is_effective grants.now change.now }
+{
+    match change {
+        GrantChange::SystemGrant(grantee, privilege, admin) => {
+            !has_privilege_as(grants.system.as_slice(), grantee, *privilege, *admin)
+        }
+        GrantChange::SystemRevoke(grantee, privilege) => {
+            has_privilege(grants.system.as_slice(), grantee, *privilege)
+        }
+        GrantChange::RoleGrant(grantee, role, admin) => {
+            !has_role_as(grants.role.as_slice(), grantee, role, *admin)
+        }
+        GrantChange::RoleRevoke(grantee, role) => {
+            has_role(grants.role.as_slice(), grantee, role.as_str())
+        }
+        GrantChange::ObjectGrant(grantee, table, action) => {
+            !has_object(grants.object.as_slice(), grantee, table, *action)
+        }
+        GrantChange::ObjectRevoke(grantee, table, action) => {
+            has_object(grants.object.as_slice(), grantee, table, *action)
+        }
+        _ => true,
+    }
+}
+
+fn has_privilege_as(
+    system: &[(Name, Privilege, bool)],
+    grantee: &Name,
+    privilege: Privilege,
+    admin: bool,
+) -> bool
+    ensures { result ≡ list_any (grants_privilege_as grantee.now privilege admin) system.now }
+{
+    system.iter().any(|entry| entry.0 == *grantee
+        && is_same_privilege(entry.1, privilege)
+        && (entry.2 || !admin))
+}
+
+fn has_role_as(roles: &[(Name, Name, bool)], grantee: &Name, role: &Name, admin: bool) -> bool
+    ensures { result ≡ list_any (grants_role_as grantee.now role.now admin) roles.now }
+{
+    roles.iter().any(|entry| entry.0 == *grantee && entry.1 == *role && (entry.2 || !admin))
+}
+
+fn is_new_grant(grants: &Grants, change: &GrantChange) -> bool
+    ensures { result ≡ is_new grants.now change.now }
+{
+    match change {
+        GrantChange::SystemGrant(grantee, privilege, _) => {
+            !has_privilege(grants.system.as_slice(), grantee, *privilege)
+        }
+        GrantChange::RoleGrant(grantee, role, _) => {
+            !has_role(grants.role.as_slice(), grantee, role.as_str())
+        }
+        GrantChange::ObjectGrant(grantee, table, action) => {
+            !has_object(grants.object.as_slice(), grantee, table, *action)
+        }
+        _ => false,
+    }
+}
+
+fn missing(pair: &[GrantChange]) -> Option<Code>
+    ensures { result ≡ missing_code pair.now }
+{
+    match pair {
+        [GrantChange::SystemRevoke(..), ..] => Some(Code::PRIVILEGE_NOT_GRANTED),
+        [GrantChange::RoleRevoke(..), ..] => Some(Code::ROLE_NOT_GRANTED),
+        [GrantChange::ObjectRevoke(..), ..] => Some(Code::OBJECT_PRIVILEGE_NOT_GRANTED),
+        _ => None,
+    }
+}
