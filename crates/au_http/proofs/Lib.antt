@@ -1,0 +1,5 @@
+mod Floats
+mod HeadWalks
+mod MomentBytes
+mod ResponseLines
+mod HeadLengths

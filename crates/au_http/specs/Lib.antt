@@ -1,0 +1,4 @@
+pub mod HeadEnds
+pub mod HeadWalk
+pub mod Replies
+pub mod Responses
