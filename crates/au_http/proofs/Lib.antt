@@ -3,3 +3,6 @@ mod HeadWalks
 mod MomentBytes
 mod ResponseLines
 mod HeadLengths
+mod PlainRoutes
+mod Digits
+mod Tests

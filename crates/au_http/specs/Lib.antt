@@ -1,4 +1,9 @@
+pub mod Bodies
 pub mod HeadEnds
 pub mod HeadWalk
+pub mod Heads
+pub mod Refusals
 pub mod Replies
+pub mod Requests
 pub mod Responses
+pub mod Routes
