@@ -6,14 +6,14 @@ use Rattle.au_http.specs.HeadEnds.{HasHead, HasNoHead, IsWholeHead, head_limit}
 use Rattle.au_http.specs.HeadWalk.{end_from}
 use Rattle.au_http.proofs.HeadWalks.{ends_found, whole_at}
 
-take_front : (head rest : List ℕ) → take (length head) (head ++ rest) ≡ head
+pub take_front : (head rest : List ℕ) → take (length head) (head ++ rest) ≡ head
 take_front head rest = take-append-le (length head) head rest (omega arith) ∙ take_all (length head) head (omega arith)
 
-drop_front : (head rest : List ℕ) → drop (length head) (head ++ rest) ≡ rest
+pub drop_front : (head rest : List ℕ) → drop (length head) (head ++ rest) ≡ rest
 drop_front [] rest = refl
 drop_front (b ∷ head) rest = drop_front head rest
 
-take_past : (head rest : List ℕ) (k : ℕ) → length head ≤ k → take k (head ++ rest) ≡ head ++ take (k - length head) rest
+pub take_past : (head rest : List ℕ) (k : ℕ) → length head ≤ k → take k (head ++ rest) ≡ head ++ take (k - length head) rest
 take_past [] rest k h = ap (λ j. take j rest) (omega arith)
 take_past (b ∷ head) rest zero h = absurd (omega arith)
 take_past (b ∷ head) rest (suc k) h = ap (λ x. b ∷ x) (take_past head rest k (omega arith) ∙ ap (λ j. head ++ take j rest) (omega arith))

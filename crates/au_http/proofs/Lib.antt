@@ -6,3 +6,4 @@ mod HeadLengths
 mod PlainRoutes
 mod Digits
 mod Tests
+mod NeedLaws

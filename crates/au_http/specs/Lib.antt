@@ -2,6 +2,7 @@ pub mod Bodies
 pub mod HeadEnds
 pub mod HeadWalk
 pub mod Heads
+pub mod Pipelines
 pub mod Refusals
 pub mod Replies
 pub mod Requests
