@@ -25,10 +25,10 @@ found_at bytes k n small within e =
     let whole = at.are in
     let tail = at.rest ++ drop k bytes in
     let same : bytes ≡ at.head ++ tail =
-        sym (take-append-drop k bytes) ∙ ap (λ f. f ++ drop k bytes) at.are ∙ append_assoc at.head at.rest (drop k bytes) in
+    sym (take-append-drop k bytes) ∙ ap (λ f. f ++ drop k bytes) at.are ∙ append_assoc at.head at.rest (drop k bytes) in
     let long = at.long in
     let front : take n bytes ≡ at.head =
-        ap (take n) same ∙ ap (λ j. take j (at.head ++ tail)) (sym at.long) ∙ take_front at.head tail in
+    ap (take n) same ∙ ap (λ j. take j (at.head ++ tail)) (sym at.long) ∙ take_front at.head tail in
     let fits : length at.head ≤ k = omega (arith, ap length at.are, length-append at.head at.rest, length-take-le k bytes within) in
     record {
       bytes_are = sym (take-append-drop n bytes);

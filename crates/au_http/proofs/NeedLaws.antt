@@ -50,7 +50,7 @@ no_head_more bytes more long none head rest has =
     let capped = has.capped in
     let inside : length head ≤ length bytes = omega arith in
     let front : take (length head) bytes ≡ head =
-        sym (take-append-le (length head) bytes more inside) ∙ ap (take (length head)) has.bytes_are ∙ take_front head rest in
+    sym (take-append-le (length head) bytes more inside) ∙ ap (take (length head)) has.bytes_are ∙ take_front head rest in
     none head (drop (length head) bytes) (record {
       bytes_are = sym (take-append-drop (length head) bytes) ∙ ap (λ x. x ++ drop (length head) bytes) front;
       whole = has.whole;
@@ -110,8 +110,8 @@ more_after h size rest more n =
     ⊎_elim
     (λ (r : (status : ℕ) × (refusal_of h ≡ Some status)). refused h size rest (rest ++ more) (refusal_of h) r.0 r.1)
     (λ (fit : body_length h ≤ length rest).
-        let long : body_length h ≤ length (rest ++ more) = omega (arith, length-append rest more) in
-        same_after h size rest (rest ++ more) (refusal_of h) fit long (take-append-le (body_length h) rest more fit))
+    let long : body_length h ≤ length (rest ++ more) = omega (arith, length-append rest more) in
+    same_after h size rest (rest ++ more) (refusal_of h) fit long (take-append-le (body_length h) rest more fit))
     (fits h size rest (refusal_of h) (nat_lt (length rest) (body_length h)) refl n)
 
 stay_behind : (head rest more : List ℕ) (need : Need) → NeedsBehind head rest need → need ≢ More → NeedsBehind head (rest ++ more) need
@@ -182,17 +182,19 @@ alone bytes head rest h used asked close has is g =
     let inside : length head ≤ used = omega arith in
     let body : used - length head ≡ n = omega arith in
     let cut : take used bytes ≡ head ++ take n rest =
-        ap (take used) has.bytes_are ∙ take_past head rest used inside ∙ ap (λ j. head ++ take j rest) body in
-    (omega arith, λ other.
-        let tail = take n rest ++ other in
-        let there : HasHead (take used bytes ++ other) head tail = record {
-          bytes_are = ap (λ x. x ++ other) cut ∙ append_assoc head (take n rest) other;
-          whole = has.whole;
-          capped = has.capped;
-        } in
-        let lengths : length tail ≡ length (take n rest) + length other = length-append (take n rest) other in
-        let room : n ≤ length tail = omega (arith, length-take-le n rest fit) in
-        inr (head, tail, there, inr (h, is, g ∙ same_after k (length head) rest tail (refusal_of k) fit room (take_own n rest other fit))))
+    ap (take used) has.bytes_are ∙ take_past head rest used inside ∙ ap (λ j. head ++ take j rest) body in (
+      omega arith,
+      λ other.
+          let tail = take n rest ++ other in
+          let there : HasHead (take used bytes ++ other) head tail = record {
+            bytes_are = ap (λ x. x ++ other) cut ∙ append_assoc head (take n rest) other;
+            whole = has.whole;
+            capped = has.capped;
+          } in
+          let lengths : length tail ≡ length (take n rest) + length other = length-append (take n rest) other in
+          let room : n ≤ length tail = omega (arith, length-take-le n rest fit) in
+          inr (head, tail, there, inr (h, is, g ∙ same_after k (length head) rest tail (refusal_of k) fit room (take_own n rest other fit))),
+    )
 
 unended_got : (n used : ℕ) (asked : Ask) (close short : Bool) → nat_lt n head_limit ≡ short → Got used asked close ≡ unended_need n → ⊥
 unended_got n used asked close true e g = let clash : Got used asked close ≡ More = rw e at g in cc

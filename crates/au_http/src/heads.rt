@@ -4,8 +4,8 @@ ghost use Rattle.std.specs.Str.{str_eq_ignore_ascii_case};
 ghost use Rattle.au_http.specs.Heads.{AreSpans, IsNoHead, SpansHead, spanned};
 ghost use Rattle.au_http.specs.Refusals.{values_of};
 
-use au_base::limits::HEAD_FIELDS;
 use au_base::Memory;
+use au_base::limits::HEAD_FIELDS;
 use httparse::Status;
 use httparse::spans::{EMPTY_HEADER_SPAN, HeaderSpan, Span, parse_request};
 use std::alloc::Global;

@@ -43,12 +43,7 @@ fn logon_status(code: Code) -> StatusCode
     }
 }
 
-fn written(
-    alloc: Global,
-    status: StatusCode,
-    close: bool,
-    body: &str,
-) -> Result<Vec<u8>, Memory>
+fn written(alloc: Global, status: StatusCode, close: bool, body: &str) -> Result<Vec<u8>, Memory>
     requires { (status == 405) ≡ false }
     ensures { IfOk result (λ bytes. bytes.items ≡ response_text status close body.now) }
 {
@@ -76,13 +71,21 @@ fn write_head(
 fn write_status(text: &mut String, status: StatusCode) -> Result<(), AllocError>
     ensures { OnOk result (string_bytes text.new ≡ string_bytes text.old ++ status_line status) }
 {
-    write!(text, "HTTP/1.1 {} {}\r\n", status.as_u16(), phrase_of(status))
+    write!(
+        text,
+        "HTTP/1.1 {} {}\r\n",
+        status.as_u16(),
+        phrase_of(status)
+    )
 }
 
 fn write_content(text: &mut String, count: usize) -> Result<(), AllocError>
     ensures { OnOk result (string_bytes text.new ≡ string_bytes text.old ++ content_lines count) }
 {
-    write!(text, "Content-Type: application/json\r\nContent-Length: {count}\r\n")
+    write!(
+        text,
+        "Content-Type: application/json\r\nContent-Length: {count}\r\n"
+    )
 }
 
 fn phrase_of(status: StatusCode) -> &'static str
@@ -111,10 +114,14 @@ pub fn bad_response(status: u16) -> &'static [u8]
     }
 }
 
-const BAD_REQUEST: &[u8] = b"HTTP/1.1 400 Bad Request\r\nContent-Type: application/json\r\nContent-Length: 13\r\nConnection: close\r\n\r\n{\"error\":400}";
+const BAD_REQUEST: &[u8] =
+    b"HTTP/1.1 400 Bad Request\r\nContent-Type: application/json\r\nContent-Length: 13\r\nConnection: close\r\n\r\n{\"error\":400}";
 
-const NOT_FOUND: &[u8] = b"HTTP/1.1 404 Not Found\r\nContent-Type: application/json\r\nContent-Length: 13\r\nConnection: close\r\n\r\n{\"error\":404}";
+const NOT_FOUND: &[u8] =
+    b"HTTP/1.1 404 Not Found\r\nContent-Type: application/json\r\nContent-Length: 13\r\nConnection: close\r\n\r\n{\"error\":404}";
 
-const METHOD_NOT_ALLOWED: &[u8] = b"HTTP/1.1 405 Method Not Allowed\r\nAllow: POST\r\nContent-Type: application/json\r\nContent-Length: 13\r\nConnection: close\r\n\r\n{\"error\":405}";
+const METHOD_NOT_ALLOWED: &[u8] =
+    b"HTTP/1.1 405 Method Not Allowed\r\nAllow: POST\r\nContent-Type: application/json\r\nContent-Length: 13\r\nConnection: close\r\n\r\n{\"error\":405}";
 
-const PAYLOAD_TOO_LARGE: &[u8] = b"HTTP/1.1 413 Payload Too Large\r\nContent-Type: application/json\r\nContent-Length: 13\r\nConnection: close\r\n\r\n{\"error\":413}";
+const PAYLOAD_TOO_LARGE: &[u8] =
+    b"HTTP/1.1 413 Payload Too Large\r\nContent-Type: application/json\r\nContent-Length: 13\r\nConnection: close\r\n\r\n{\"error\":413}";
