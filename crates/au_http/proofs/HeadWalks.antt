@@ -1,5 +1,5 @@
 -- The walk over a head's bytes ends where the head does.
-use Rattle.std.proofs.Common.{◌≡◌, ◌≢◌, ◌∙◌, inl, inr, ◌+◌, ◌==◌, ℕ, List, [], ◌∷◌, ◌++◌, append_assoc, length, length-append, true, false, Bool, Option, Some, None, option_map, refl, ap, sym, subst, arith, ⊎_elim}
+use Rattle.std.proofs.Common.{◌≡◌, ◌≢◌, ◌∙◌, inl, inr, ◌+◌, ◌<◌, ◌==◌, ℕ, List, [], ◌∷◌, ◌++◌, append_assoc, length, length-append, true, false, Bool, Option, Some, None, option_map, refl, ap, sym, subst, arith, ⊎_elim}
 use Rattle.std.proofs.lemmas.Bool.Decides.{nat_tests}
 use Rattle.au_http.specs.declared.head_end.Place.{Place}
 use Rattle.au_http.specs.declared.head_end.Place.TheVariants.{Start, StartReturn, Line, Fresh, FreshReturn}
@@ -178,7 +178,7 @@ start_goes b f = rw (unlike b 10 f) refl
 regroup : (line rest y bytes : List ℕ) → bytes ≡ line ++ 10 ∷ rest → bytes ++ y ≡ line ++ 10 ∷ (rest ++ y)
 regroup line rest y bytes e = ap (λ x. x ++ y) e ∙ append_assoc line (10 ∷ rest) y
 
-longer : (line rest bytes : List ℕ) → bytes ≡ line ++ 10 ∷ rest → length bytes ≡ length line + 1 + length rest
+pub longer : (line rest bytes : List ℕ) → bytes ≡ line ++ 10 ∷ rest → length bytes ≡ length line + 1 + length rest
 longer line rest bytes e = omega (arith, ap length e ∙ length-append line (10 ∷ rest))
 
 last_at : (line y : List ℕ) → IsEmptyLine line → end_from Fresh (line ++ 10 ∷ y) ≡ Some (length line + 1)
@@ -206,3 +206,7 @@ whole_at x (blank bytes line rest empty more are) y =
 whole_at x (first bytes line rest full ends are) y =
     rw (regroup line rest y bytes are)
     (walk_full Start StartReturn refl start_goes line (rest ++ y) (length rest) (length bytes) full (end_at rest ends y) (longer line rest bytes are))
+
+pub not_empty : (x : List ℕ) → IsWholeHead x → 0 < length x
+not_empty x (blank bytes line rest empty more are) = omega (arith, longer line rest bytes are)
+not_empty x (first bytes line rest full ends are) = omega (arith, longer line rest bytes are)

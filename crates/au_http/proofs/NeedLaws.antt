@@ -1,5 +1,7 @@
 -- What bytes need is decided by the bytes of the request alone.
-use Rattle.std.proofs.Common.{◌≡◌, ◌≢◌, ◌⊎◌, ◌∙◌, inl, inr, ◌+◌, ◌-◌, ◌≤◌, ℕ, Bool, true, false, nat_lt, List, [], ◌∷◌, ◌++◌, append_assoc, length, length-append, take, drop, Option, Some, None, option_and_then, ⊎_elim, refl, ap, sym, subst, arith, take-append-drop}
+use Rattle.std.proofs.Common.{◌≡◌, ◌<◌, ◌≢◌, ◌⊎◌, ◌∙◌, inl, inr, ◌+◌, ◌-◌, ◌≤◌, ℕ, Bool, true, false, nat_lt, List, [], ◌∷◌, ◌++◌, append_assoc, length, length-append, take, drop, Option, Some, None, option_and_then, ⊎_elim, refl, ap, sym, subst, arith, take-append-drop}
+use Rattle.std.specs.List.{find}
+use Rattle.std.specs.Prelude.{is_none, not, option_map}
 use Rattle.std.proofs.lemmas.Bool.Decides.{nat_tests}
 use Rattle.std.proofs.lemmas.List.{take-append-le, drop-append-le, length-take-le, take_all}
 use Rattle.httparse.specs.Grammar.{RequestHead}
@@ -12,12 +14,13 @@ use Rattle.au_http.specs.Bodies.{ask_of}
 use Rattle.au_http.specs.HeadEnds.{HasHead, HasNoHead, head_limit}
 use Rattle.au_http.specs.HeadWalk.{end_from}
 use Rattle.au_http.specs.Heads.{Head, head_of, IsHead}
-use Rattle.au_http.specs.Refusals.{body_length, closes, refusal_of}
-use Rattle.au_http.specs.Requests.{Needs, NeedsBehind, head_need, need_after, taken_need, unended_need, whole_need}
+use Rattle.au_http.specs.Refusals.{body_length, body_limit, closes, has_host, is_post, refusal_of, stated_length}
+use Rattle.au_http.specs.Requests.{FitsBytes, Needs, NeedsBehind, head_need, need_after, taken_need, unended_need, whole_need}
+use Rattle.au_http.specs.Responses.{IsRefusal}
 use Rattle.au_http.specs.Routes.{route_of}
 use Rattle.au_http.specs.Pipelines.{AreRequests, Request}
 use Rattle.au_http.proofs.HeadLengths.{take_front, drop_front, take_past}
-use Rattle.au_http.proofs.HeadWalks.{whole_at}
+use Rattle.au_http.proofs.HeadWalks.{not_empty, whole_at}
 
 -- ---- the head and what follows it
 
@@ -205,6 +208,60 @@ pub stands_alone : (bytes : List ℕ) (used : ℕ) (asked : Ask) (close : Bool) 
 stands_alone bytes used asked close (inl (none, e)) = absurd (unended_got (length bytes) used asked close (nat_lt (length bytes) head_limit) refl e)
 stands_alone bytes used asked close (inr (head, rest, has, inl (none, e))) = absurd (cc)
 stands_alone bytes used asked close (inr (head, rest, has, inr (h, is, g))) = alone bytes head rest h used asked close has is g
+
+-- ---- what fits
+
+five : (a b c d e : Bool) (status : ℕ)
+    → option_map (λ (r : Bool × ℕ). r.1) (find (λ r. r.0) ((a, 400) ∷ (b, 404) ∷ (c, 405) ∷ (d, 400) ∷ (e, 413) ∷ [])) ≡ Some status → IsRefusal status
+five true b c d e status is = inl (cc)
+five false true c d e status is = inr (inl (cc))
+five false false true d e status is = inr (inr (inl (cc)))
+five false false false true e status is = inl (cc)
+five false false false false true status is = inr (inr (inr (cc)))
+five false false false false false status is = absurd (cc)
+
+refusal_status : (h : Head) (status : ℕ) → refusal_of h ≡ Some status → IsRefusal status
+refusal_status h status is =
+    five (not (has_host h)) (is_none (route_of h.target)) (not (is_post h)) (is_none (stated_length h)) (nat_lt body_limit (body_length h)) status is
+
+whole_bad : (a : Option Ask) (end status : ℕ) (close : Bool) → Bad status ≡ whole_need a end close → IsRefusal status
+whole_bad None end status close e = inl (cc)
+whole_bad (Some a) end status close e = absurd (cc)
+
+taken_bad : (h : Head) (size status : ℕ) (rest : List ℕ) (short : Bool) → nat_lt (length rest) (body_length h) ≡ short
+    → Bad status ≡ taken_need h size rest → IsRefusal status
+taken_bad h size status rest true e g = let clash : Bad status ≡ More = rw e at g in absurd (cc)
+taken_bad h size status rest false e g =
+    let body = option_and_then (λ route. ask_of route (take (body_length h) rest)) (route_of h.target) in
+    let whole : Bad status ≡ whole_need body (size + body_length h) (closes h) = rw e at g in
+    whole_bad body (size + body_length h) status (closes h) whole
+
+after_bad : (h : Head) (size status : ℕ) (rest : List ℕ) (o : Option ℕ) → refusal_of h ≡ o → Bad status ≡ need_after o h size rest
+    → IsRefusal status
+after_bad h size status rest (Some other) is g = let same : other ≡ status = cc in refusal_status h status (is ∙ ap Some same)
+after_bad h size status rest None is g = taken_bad h size status rest (nat_lt (length rest) (body_length h)) refl g
+
+unended_bad : (n status : ℕ) (short : Bool) → nat_lt n head_limit ≡ short → Bad status ≡ unended_need n → status ≡ 413
+unended_bad n status true e g = let clash : Bad status ≡ More = rw e at g in absurd (cc)
+unended_bad n status false e g = let same : Bad status ≡ Bad 413 = rw e at g in cc
+
+used_some : (bytes : List ℕ) (used : ℕ) (asked : Ask) (close : Bool) → Needs bytes (Got used asked close) → 0 < used
+used_some bytes used asked close (inl (none, e)) = absurd (unended_got (length bytes) used asked close (nat_lt (length bytes) head_limit) refl e)
+used_some bytes used asked close (inr (head, rest, has, inl (none, e))) = absurd (cc)
+used_some bytes used asked close (inr (head, rest, has, inr (h, is, g))) =
+    let w = after_got (head_of h) (length head) used rest asked close (refusal_of (head_of h)) g in
+    let some = not_empty head has.whole in
+    let ends = w.ends in
+    omega arith
+
+pub needs_fit : (bytes : List ℕ) (need : Need) → Needs bytes need → FitsBytes (length bytes) need
+needs_fit bytes More n = tt
+needs_fit bytes (Got used asked close) n = (used_some bytes used asked close n, (stands_alone bytes used asked close n).0)
+needs_fit bytes (Bad status) (inl (none, e)) =
+    inr (inr (inr (unended_bad (length bytes) status (nat_lt (length bytes) head_limit) refl e)))
+needs_fit bytes (Bad status) (inr (head, rest, has, inl (none, e))) = inl (cc)
+needs_fit bytes (Bad status) (inr (head, rest, has, inr (h, is, g))) =
+    after_bad (head_of h) (length head) status rest (refusal_of (head_of h)) refl g
 
 -- ---- requests one by one
 

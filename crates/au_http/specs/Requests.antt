@@ -1,6 +1,6 @@
 -- What the bytes of a connection need that follow its last request (RFC 9112, sections 2.1 and 6.3; the order
 -- of the refusals and the limits are this project's profile).
-use Rattle.std.specs.Prelude.{◌≡◌, ◌⊎◌, ℕ, ◌+◌, nat_lt, Bool, List, length, take, if◌then◌else◌, Option, Some, None, option_and_then}
+use Rattle.std.specs.Prelude.{◌≡◌, ◌⊎◌, ℕ, ◌+◌, ◌<◌, ◌≤◌, nat_lt, Bool, List, length, take, if◌then◌else◌, Option, Some, None, option_and_then, ⊤}
 use Rattle.httparse.specs.Grammar.{RequestHead}
 use Rattle.au_base.specs.declared.ask.Ask.{Ask}
 use Rattle.au_http.specs.declared.refusals.Verdict.{Verdict}
@@ -11,6 +11,7 @@ use Rattle.au_http.specs.Bodies.{ask_of}
 use Rattle.au_http.specs.HeadEnds.{HasHead, HasNoHead, head_limit}
 use Rattle.au_http.specs.Heads.{Head, head_of, IsHead, IsNoHead}
 use Rattle.au_http.specs.Refusals.{body_length, closes, refusal_of}
+use Rattle.au_http.specs.Responses.{IsRefusal}
 use Rattle.au_http.specs.Routes.{route_of}
 
 -- with no end of a head among so many bytes: more, up to the limit
@@ -47,6 +48,12 @@ abbrev pub Needs : List ℕ → Need → Type 0
 Needs bytes need =
     (HasNoHead bytes × (need ≡ unended_need (length bytes)))
     ⊎ ((head : List ℕ) × (rest : List ℕ) × HasHead bytes head rest × NeedsBehind head rest need)
+
+-- a request takes up some of the bytes, and a refusal has a status of its own
+abbrev pub FitsBytes : ℕ → Need → Type 0
+FitsBytes count More = ⊤
+FitsBytes count (Got used asked close) = (0 < used) × (used ≤ count)
+FitsBytes count (Bad status) = IsRefusal status
 
 -- ---- for private clauses
 

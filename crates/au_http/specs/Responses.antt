@@ -1,6 +1,6 @@
 -- The bytes of a response (RFC 9112, sections 2.1 and 4; RFC 9110, sections 8.3, 8.6, 10.2.1 and 15.5.6;
 -- which fields there are, and their order, is this project's profile).
-use Rattle.std.specs.Prelude.{ℕ, ◌==◌, ◌||◌, Bool, true, List, [], ◌∷◌, ◌++◌, length, codes, decimal, unwrap_or, if◌then◌else◌}
+use Rattle.std.specs.Prelude.{◌≡◌, ◌⊎◌, ℕ, ◌==◌, ◌||◌, Bool, true, List, [], ◌∷◌, ◌++◌, length, codes, decimal, unwrap_or, if◌then◌else◌}
 use Rattle.au_base.specs.declared.ask.Ask.{Ask}
 use Rattle.au_base.specs.declared.ask.Ask.TheVariants as ask
 use Rattle.au_base.specs.declared.reply.Said.{Said}
@@ -75,3 +75,7 @@ error_text status = compact_text (object (member (codes "error") (number (unsign
 -- the response to a request that is refused with this status, after which the connection closes
 unfoldable pub refusal_text : ℕ → List ℕ
 refusal_text status = response_text status true (error_text status)
+
+-- the statuses of refused requests
+abbrev pub IsRefusal : ℕ → Type 0
+IsRefusal status = (status ≡ 400) ⊎ ((status ≡ 404) ⊎ ((status ≡ 405) ⊎ (status ≡ 413)))

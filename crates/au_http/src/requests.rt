@@ -1,7 +1,7 @@
 //! What the bytes of a connection ask for.
 ghost use Rattle.std.specs.Prelude.{◌≡◌, ◌≤◌, IfOk, length};
 ghost use Rattle.au_http.specs.HeadEnds.{head_limit};
-ghost use Rattle.au_http.specs.Requests.{Needs, NeedsBehind, unended_need, verdict_need, whole_need};
+ghost use Rattle.au_http.specs.Requests.{FitsBytes, Needs, NeedsBehind, unended_need, verdict_need, whole_need};
 
 use crate::bodies::ask_of;
 use crate::head_end::head_length;
@@ -27,6 +27,13 @@ pub enum Need {
 /// changes it. Until a body is whole it isn't looked at, so that a slow sender costs a scan of the
 /// head for each piece, and no more.
 pub fn next_request(alloc: Global, bytes: &[u8]) -> Result<Need, Memory>
+    ensures needs { IfOk result (Needs bytes.now) }
+    ensures fits { IfOk result (FitsBytes (length bytes.now)) }
+{
+    need_of(alloc, bytes)
+}
+
+fn need_of(alloc: Global, bytes: &[u8]) -> Result<Need, Memory>
     ensures { IfOk result (Needs bytes.now) }
 {
     match head_length(bytes) {
@@ -55,13 +62,13 @@ fn need_behind(alloc: Global, head: &[u8], rest: &[u8]) -> Result<Need, Memory>
     match read_head(head) {
         Some(spans) => {
             let verdict = decide(alloc, head, &spans)?;
-            need_of(alloc, verdict, head.len(), rest)
+            verdict_need(alloc, verdict, head.len(), rest)
         }
         None => Ok(Need::Bad(StatusCode::BAD_REQUEST.as_u16())),
     }
 }
 
-fn need_of(alloc: Global, verdict: Verdict, size: usize, rest: &[u8]) -> Result<Need, Memory>
+fn verdict_need(alloc: Global, verdict: Verdict, size: usize, rest: &[u8]) -> Result<Need, Memory>
     requires { size ≤ head_limit }
     ensures { IfOk result (λ need. need ≡ verdict_need verdict size rest.now) }
 {

@@ -1,7 +1,7 @@
 //! Responses (RFC 9112, section 4).
-ghost use Rattle.std.specs.Prelude.{◌≡◌, ◌==◌, ◌⊎◌, ◌++◌, false, IfOk, OnOk, string_bytes};
+ghost use Rattle.std.specs.Prelude.{◌≡◌, ◌==◌, ◌++◌, false, IfOk, OnOk, string_bytes};
 ghost use Rattle.au_http.specs.Replies.{said_text};
-ghost use Rattle.au_http.specs.Responses.{connection_line, content_lines, head_text, logon_status, phrase_of, refusal_text, response_text, status_line, status_of};
+ghost use Rattle.au_http.specs.Responses.{IsRefusal, connection_line, content_lines, head_text, logon_status, phrase_of, refusal_text, response_text, status_line, status_of};
 
 use crate::replies::said_json;
 use au_base::{Ask, Code, Memory, Said};
@@ -102,7 +102,7 @@ fn connection_line(close: bool) -> &'static str
 
 /// The response to a request that is refused, after which the connection closes.
 pub fn bad_response(status: u16) -> &'static [u8]
-    requires { (status ≡ 400) ⊎ ((status ≡ 404) ⊎ ((status ≡ 405) ⊎ (status ≡ 413))) }
+    requires { IsRefusal status }
     ensures { result.now ≡ refusal_text status }
 {
     match status {
