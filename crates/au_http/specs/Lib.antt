@@ -1,0 +1,10 @@
+pub mod Bodies
+pub mod HeadEnds
+pub mod HeadWalk
+pub mod Heads
+pub mod Pipelines
+pub mod Refusals
+pub mod Replies
+pub mod Requests
+pub mod Responses
+pub mod Routes
