@@ -1,0 +1,6 @@
+pub mod Leaving
+pub mod Lists
+pub mod Seating
+pub mod Standing
+pub mod Steps
+pub mod Walking

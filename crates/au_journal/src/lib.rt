@@ -1,0 +1,23 @@
+//! The journal: frames behind gates, in the areas of a disk.
+#![tactic(auto)]
+
+mod appended;
+mod appending;
+mod doubt;
+mod gates;
+mod head;
+mod journal;
+mod mended;
+mod mending;
+mod mount_fault;
+mod mounting;
+mod seat;
+mod walk;
+mod writing;
+
+pub use appended::Appended;
+pub use doubt::Doubt;
+pub use journal::Journal;
+pub use mended::Mended;
+pub use mount_fault::MountFault;
+pub use seat::Seat;
