@@ -1,0 +1,10 @@
+pub mod Choices
+pub mod Lengths
+pub mod Runs
+pub mod Decisions
+pub mod Digits
+pub mod Gaps
+pub mod Marks
+pub mod Lexemes
+pub mod Leading
+pub mod Unique
