@@ -1,0 +1,34 @@
+use Rattle.std.proofs.Common.{◌≡◌, ◌↔◌, ◌∙◌, sym, ap, subst, Bool, true, List}
+use Rattle.std.specs.List.{list_any}
+use Rattle.au_priv.specs.declared.grants.Grants.{Grants}
+use Rattle.au_priv.specs.declared.right.Sought.{Sought}
+use Rattle.au_priv.specs.Holding.{IsGranted}
+use Rattle.au_priv.specs.Rights.{Name}
+use Rattle.au_priv.proofs.Entries.{role_granted, role_administered, privilege_granted, privilege_administered, object_granted, some_object_granted}
+use Rattle.au_priv.proofs.direct.is_granted.Goals as goal
+
+-- a test of a list that equals another list decides what it does there
+along : {X : Type 0} (test : List X → Bool) {b : Bool} {xs ys : List X} {P : Type 0} → b ≡ test xs → xs ≡ ys → (test ys ≡ true) ↔ P → (b ≡ true) ↔ P
+along test same lists decides = (λ is. decides.0 (sym (same ∙ ap test lists) ∙ is), λ holds. same ∙ ap test lists ∙ decides.1 holds)
+
+-- what is decided of a right is decided of one that equals it
+at_right : (b : Bool) (grants : Grants) (holder : Name) (right same : Sought) → right ≡ same → (b ≡ true) ↔ IsGranted grants holder same → (b ≡ true) ↔ IsGranted grants holder right
+at_right b grants holder right same is decides = subst (λ (r : Sought). (b ≡ true) ↔ IsGranted grants holder r) (sym is) decides
+
+pub returns-in-Role : goal.returns-in-Role
+returns-in-Role c = at_right _ _ _ _ _ c.in-Role.is (along (list_any _) c.has_role.ensures c.as_slice.ensures (role_granted _ _ _))
+
+pub returns-in-RoleWithAdmin : goal.returns-in-RoleWithAdmin
+returns-in-RoleWithAdmin c = at_right _ _ _ _ _ c.in-RoleWithAdmin.is (along (list_any _) c.administers_role.ensures c.as_slice-in-RoleWithAdmin.ensures (role_administered _ _ _))
+
+pub returns-in-Privilege : goal.returns-in-Privilege
+returns-in-Privilege c = at_right _ _ _ _ _ c.in-Privilege.is (along (list_any _) c.has_privilege.ensures c.as_slice-in-Privilege.ensures (privilege_granted _ _ _))
+
+pub returns-in-PrivilegeWithAdmin : goal.returns-in-PrivilegeWithAdmin
+returns-in-PrivilegeWithAdmin c = at_right _ _ _ _ _ c.in-PrivilegeWithAdmin.is (along (list_any _) c.administers_privilege.ensures c.as_slice-in-PrivilegeWithAdmin.ensures (privilege_administered _ _ _))
+
+pub returns-in-Object : goal.returns-in-Object
+returns-in-Object c = at_right _ _ _ _ _ c.in-Object.is (along (list_any _) c.has_object.ensures c.as_slice-in-Object.ensures (object_granted _ _ _ _))
+
+pub returns-in-SomeObject : goal.returns-in-SomeObject
+returns-in-SomeObject c = at_right _ _ _ _ _ c.in-SomeObject.is (along (list_any _) c.has_some_object.ensures c.as_slice-in-SomeObject.ensures (some_object_granted _ _ _))

@@ -1,0 +1,54 @@
+-- The search for who holds a right.
+use Rattle.std.specs.Prelude.{◌==◌, ◌&&◌, Bool, true}
+use Rattle.std.specs.List.{Contains}
+use Rattle.std.specs.Str.{bytes_eq}
+use Rattle.au_base.specs.declared.action.Action.{Action}
+use Rattle.au_base.specs.declared.table.TableName.{TableName}
+use Rattle.au_base.specs.Privileges as privileges
+use Rattle.au_base.specs.Actions as actions
+use Rattle.au_base.specs.declared.privilege.Privilege.{Privilege}
+use Rattle.au_priv.specs.declared.grants.Grants.{Grants}
+use Rattle.au_priv.specs.declared.right.Sought.{Sought}
+use Rattle.au_priv.specs.declared.right.Sought.TheVariants.{Role, RoleWithAdmin, Privilege as SystemPrivilege, PrivilegeWithAdmin, Object, SomeObject}
+use Rattle.au_priv.specs.Rights.{Name, SystemEntry, RoleEntry, ObjectEntry, IsRoleGranted, IsHolder}
+
+-- the right is granted to the holder directly
+abbrev pub IsGranted : Grants → Name → Sought → Type 0
+IsGranted grants holder (Role role) = IsRoleGranted grants.role holder role.now
+IsGranted grants holder (RoleWithAdmin role) = Contains grants.role (holder, role.now, true)
+IsGranted grants holder (SystemPrivilege privilege) = (admin : Bool) × Contains grants.system (holder, privilege, admin)
+IsGranted grants holder (PrivilegeWithAdmin privilege) = Contains grants.system (holder, privilege, true)
+IsGranted grants holder (Object table action) = Contains grants.object (holder, table.now, action)
+IsGranted grants holder (SomeObject table) = (action : Action) × Contains grants.object (holder, table.now, action)
+
+-- the right is granted to the user or to a held role
+abbrev pub HasRight : Grants → Name → Sought → Type 0
+HasRight grants user right = (holder : Name) × IsHolder grants.role user holder × IsGranted grants holder right
+
+-- two names of tables are the same
+abbrev pub same_table : TableName → TableName → Bool
+same_table a b = bytes_eq a.owner b.owner && bytes_eq a.name b.name
+
+-- two system privileges are the same
+abbrev pub same_privilege : Privilege → Privilege → Bool
+same_privilege a b = privileges.code_of a == privileges.code_of b
+
+-- two actions are the same
+abbrev pub same_action : Action → Action → Bool
+same_action a b = actions.code_of a == actions.code_of b
+
+-- the entry grants this role to this grantee
+abbrev pub grants_role : Name → Name → RoleEntry → Bool
+grants_role grantee role entry = bytes_eq entry.0 grantee && bytes_eq entry.1 role
+
+-- the entry grants this system privilege to this grantee
+abbrev pub grants_privilege : Name → Privilege → SystemEntry → Bool
+grants_privilege grantee privilege entry = bytes_eq entry.0 grantee && same_privilege entry.1 privilege
+
+-- the entry grants this object privilege to this grantee
+abbrev pub grants_object : Name → TableName → Action → ObjectEntry → Bool
+grants_object grantee table action entry = bytes_eq entry.0 grantee && same_table entry.1 table && same_action entry.2 action
+
+-- the entry grants some object privilege on the table to this grantee
+abbrev pub grants_some_object : Name → TableName → ObjectEntry → Bool
+grants_some_object grantee table entry = bytes_eq entry.0 grantee && same_table entry.1 table

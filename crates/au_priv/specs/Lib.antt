@@ -1,0 +1,5 @@
+pub mod Allowing
+pub mod Changing
+pub mod Found
+pub mod Holding
+pub mod Rights

@@ -1,0 +1,403 @@
+//! Grants after changes.
+ghost use Rattle.std.specs.Prelude.{◌≡◌, ◌++◌, ◌∷◌, [], IfOk, map};
+ghost use Rattle.std.specs.List.{list_any};
+ghost use Rattle.au_priv.specs.Changing.{applied, applied_all, without, with_admin, with_grant, with_object, system_to, role_to, object_to, names_role, names_table};
+ghost use Rattle.au_priv.specs.Holding.{grants_privilege, grants_role, grants_object};
+
+use crate::change::GrantChange;
+use crate::direct::{
+    has_object, has_privilege, has_role, is_same_action, is_same_privilege, is_same_table,
+};
+use crate::grants::Grants;
+use au_base::{Action, List, Memory, Name, Privilege, TableName};
+
+/// The grants after the changes, in their order.
+pub fn after_all(grants: Grants, changes: &[GrantChange]) -> Result<Grants, Memory>
+    ensures { IfOk result (λ after. after ≡ applied_all changes.now grants) }
+{
+    let mut after = grants;
+    for change in changes {
+        after = after_change(after, change)?;
+    }
+    Ok(after)
+}
+
+/// The grants after the change.
+pub fn after_change(grants: Grants, change: &GrantChange) -> Result<Grants, Memory>
+    ensures { IfOk result (λ after. after ≡ applied change.now grants) }
+{
+    match change {
+        GrantChange::UserGone(user) => Ok(without_user(grants, user)),
+        GrantChange::RoleGone(role) => Ok(without_role(grants, role)),
+        GrantChange::TableGone(table) => Ok(without_table(grants, table)),
+        GrantChange::SystemGrant(grantee, privilege, admin) => {
+            with_system(grants, grantee, *privilege, *admin)
+        }
+        GrantChange::SystemRevoke(grantee, privilege) => {
+            Ok(without_system(grants, grantee, *privilege))
+        }
+        GrantChange::RoleGrant(grantee, role, admin) => { with_role(grants, grantee, role, *admin) }
+        GrantChange::RoleRevoke(grantee, role) => Ok(without_role_grant(grants, grantee, role)),
+        GrantChange::ObjectGrant(grantee, table, action) => {
+            with_object_grant(grants, grantee, table, *action)
+        }
+        GrantChange::ObjectRevoke(grantee, table, action) => {
+            Ok(without_object_grant(grants, grantee, table, *action))
+        }
+    }
+}
+
+fn without_user(grants: Grants, user: &Name) -> Grants
+    ensures { result ≡ applied (GrantChange.UserGone user.now) grants }
+{
+    let Grants {
+        system,
+        role,
+        object,
+    } = grants;
+    Grants {
+        system: without_system_to(system, user),
+        role: without_role_to(role, user),
+        object: without_object_to(object, user),
+    }
+}
+
+fn without_role(grants: Grants, name: &Name) -> Grants
+    ensures { result ≡ applied (GrantChange.RoleGone name.now) grants }
+{
+    let Grants {
+        system,
+        role,
+        object,
+    } = grants;
+    Grants {
+        system: without_system_to(system, name),
+        role: without_role_named(role, name),
+        object: without_object_to(object, name),
+    }
+}
+
+fn without_system_to(
+    system: List<(Name, Privilege, bool)>,
+    name: &Name,
+) -> List<(Name, Privilege, bool)>
+    ensures { result ≡ without (system_to name.now) system }
+{
+    let mut entries = system.into_vec();
+    drop_system_to(&mut entries, name);
+    List::from_vec(entries)
+}
+
+fn drop_system_to(entries: &mut Vec<(Name, Privilege, bool)>, name: &Name)
+    ensures { entries.new.items ≡ without (system_to name.now) entries.old.items }
+{
+    entries.retain(|entry| entry.0 != *name);
+}
+
+fn without_role_to(role: List<(Name, Name, bool)>, name: &Name) -> List<(Name, Name, bool)>
+    ensures { result ≡ without (role_to name.now) role }
+{
+    let mut entries = role.into_vec();
+    drop_role_to(&mut entries, name);
+    List::from_vec(entries)
+}
+
+fn drop_role_to(entries: &mut Vec<(Name, Name, bool)>, name: &Name)
+    ensures { entries.new.items ≡ without (role_to name.now) entries.old.items }
+{
+    entries.retain(|entry| entry.0 != *name);
+}
+
+fn without_object_to(
+    object: List<(Name, TableName, Action)>,
+    name: &Name,
+) -> List<(Name, TableName, Action)>
+    ensures { result ≡ without (object_to name.now) object }
+{
+    let mut entries = object.into_vec();
+    drop_object_to(&mut entries, name);
+    List::from_vec(entries)
+}
+
+fn drop_object_to(entries: &mut Vec<(Name, TableName, Action)>, name: &Name)
+    ensures { entries.new.items ≡ without (object_to name.now) entries.old.items }
+{
+    entries.retain(|entry| entry.0 != *name);
+}
+
+fn without_role_named(role: List<(Name, Name, bool)>, name: &Name) -> List<(Name, Name, bool)>
+    ensures { result ≡ without (names_role name.now) role }
+{
+    let mut entries = role.into_vec();
+    drop_role_named(&mut entries, name);
+    List::from_vec(entries)
+}
+
+fn drop_role_named(entries: &mut Vec<(Name, Name, bool)>, name: &Name)
+    ensures { entries.new.items ≡ without (names_role name.now) entries.old.items }
+{
+    entries.retain(|entry| !(entry.0 == *name || entry.1 == *name));
+}
+
+fn without_table(grants: Grants, table: &TableName) -> Grants
+    ensures { result ≡ applied (GrantChange.TableGone table.now) grants }
+{
+    let Grants {
+        system,
+        role,
+        object,
+    } = grants;
+    let mut entries = object.into_vec();
+    drop_on_table(&mut entries, table);
+    Grants {
+        system,
+        role,
+        object: List::from_vec(entries),
+    }
+}
+
+fn drop_on_table(entries: &mut Vec<(Name, TableName, Action)>, table: &TableName)
+    ensures { entries.new.items ≡ without (names_table table.now) entries.old.items }
+{
+    entries.retain(|entry| !is_same_table(&entry.1, table));
+}
+
+fn without_system(grants: Grants, grantee: &Name, privilege: Privilege) -> Grants
+    ensures { result ≡ applied (GrantChange.SystemRevoke grantee.now privilege) grants }
+{
+    let Grants {
+        system,
+        role,
+        object,
+    } = grants;
+    let mut entries = system.into_vec();
+    drop_privilege(&mut entries, grantee, privilege);
+    Grants {
+        system: List::from_vec(entries),
+        role,
+        object,
+    }
+}
+
+fn drop_privilege(entries: &mut Vec<(Name, Privilege, bool)>, grantee: &Name, privilege: Privilege)
+    ensures { entries.new.items ≡ without (grants_privilege grantee.now privilege) entries.old.items }
+{
+    entries.retain(|entry| !(entry.0 == *grantee && is_same_privilege(entry.1, privilege)));
+}
+
+fn without_role_grant(grants: Grants, grantee: &Name, name: &Name) -> Grants
+    ensures { result ≡ applied (GrantChange.RoleRevoke grantee.now name.now) grants }
+{
+    let Grants {
+        system,
+        role,
+        object,
+    } = grants;
+    let mut entries = role.into_vec();
+    drop_role_grant(&mut entries, grantee, name);
+    Grants {
+        system,
+        role: List::from_vec(entries),
+        object,
+    }
+}
+
+fn drop_role_grant(entries: &mut Vec<(Name, Name, bool)>, grantee: &Name, name: &Name)
+    ensures { entries.new.items ≡ without (grants_role grantee.now name.now) entries.old.items }
+{
+    entries.retain(|entry| !(entry.0 == *grantee && entry.1 == *name));
+}
+
+fn without_object_grant(grants: Grants, grantee: &Name, table: &TableName, action: Action) -> Grants
+    ensures { result ≡ applied (GrantChange.ObjectRevoke grantee.now table.now action) grants }
+{
+    let Grants {
+        system,
+        role,
+        object,
+    } = grants;
+    let mut entries = object.into_vec();
+    drop_object_grant(&mut entries, grantee, table, action);
+    Grants {
+        system,
+        role,
+        object: List::from_vec(entries),
+    }
+}
+
+fn drop_object_grant(
+    entries: &mut Vec<(Name, TableName, Action)>,
+    grantee: &Name,
+    table: &TableName,
+    action: Action,
+)
+    ensures { entries.new.items ≡ without (grants_object grantee.now table.now action) entries.old.items }
+{
+    entries.retain(|entry| {
+        !(entry.0 == *grantee && is_same_table(&entry.1, table) && is_same_action(entry.2, action))
+    });
+}
+
+fn with_system(
+    grants: Grants,
+    grantee: &Name,
+    privilege: Privilege,
+    admin: bool,
+) -> Result<Grants, Memory>
+    ensures { IfOk result (λ after. after ≡ applied (GrantChange.SystemGrant grantee.now privilege admin) grants) }
+{
+    let Grants {
+        system,
+        role,
+        object,
+    } = grants;
+    let system = if has_privilege(system.as_slice(), grantee, privilege) {
+        with_privilege_admin(system, grantee, privilege, admin)
+    } else {
+        with_last_privilege(system, grantee, privilege, admin)?
+    };
+    Ok(Grants {
+        system,
+        role,
+        object,
+    })
+}
+
+fn with_privilege_admin(
+    system: List<(Name, Privilege, bool)>,
+    grantee: &Name,
+    privilege: Privilege,
+    admin: bool,
+) -> List<(Name, Privilege, bool)>
+    ensures { result ≡ map (with_admin (grants_privilege grantee.now privilege) admin) system }
+{
+    let mut entries = system.into_vec();
+    set_privilege_admin(&mut entries, grantee, privilege, admin);
+    List::from_vec(entries)
+}
+
+fn set_privilege_admin(
+    entries: &mut [(Name, Privilege, bool)],
+    grantee: &Name,
+    privilege: Privilege,
+    admin: bool,
+)
+    ensures { entries.new ≡ map (with_admin (grants_privilege grantee.now privilege) admin) entries.old }
+{
+    for place in 0..entries.len() {
+        set_admin_of_privilege(&mut entries[place], grantee, privilege, admin);
+    }
+}
+
+fn set_admin_of_privilege(
+    entry: &mut (Name, Privilege, bool),
+    grantee: &Name,
+    privilege: Privilege,
+    admin: bool,
+)
+    ensures { entry.new ≡ with_admin (grants_privilege grantee.now privilege) admin entry.old }
+{
+    if entry.0 == *grantee && is_same_privilege(entry.1, privilege) {
+        entry.2 = admin;
+    }
+}
+
+fn with_last_privilege(
+    system: List<(Name, Privilege, bool)>,
+    grantee: &Name,
+    privilege: Privilege,
+    admin: bool,
+) -> Result<List<(Name, Privilege, bool)>, Memory>
+    ensures { IfOk result (λ after. after ≡ system ++ (grantee.now, privilege, admin) ∷ []) }
+{
+    let mut after = system;
+    after.push((grantee.clone()?, privilege, admin))?;
+    Ok(after)
+}
+
+fn with_role(grants: Grants, grantee: &Name, name: &Name, admin: bool) -> Result<Grants, Memory>
+    ensures { IfOk result (λ after. after ≡ applied (GrantChange.RoleGrant grantee.now name.now admin) grants) }
+{
+    let Grants {
+        system,
+        role,
+        object,
+    } = grants;
+    let role = if has_role(role.as_slice(), grantee, name.as_str()) {
+        with_role_admin(role, grantee, name, admin)
+    } else {
+        with_last_role(role, grantee, name, admin)?
+    };
+    Ok(Grants {
+        system,
+        role,
+        object,
+    })
+}
+
+fn with_role_admin(
+    role: List<(Name, Name, bool)>,
+    grantee: &Name,
+    name: &Name,
+    admin: bool,
+) -> List<(Name, Name, bool)>
+    ensures { result ≡ map (with_admin (grants_role grantee.now name.now) admin) role }
+{
+    let mut entries = role.into_vec();
+    set_role_admin(&mut entries, grantee, name, admin);
+    List::from_vec(entries)
+}
+
+fn set_role_admin(entries: &mut [(Name, Name, bool)], grantee: &Name, name: &Name, admin: bool)
+    ensures { entries.new ≡ map (with_admin (grants_role grantee.now name.now) admin) entries.old }
+{
+    for place in 0..entries.len() {
+        set_admin_of_role(&mut entries[place], grantee, name, admin);
+    }
+}
+
+fn set_admin_of_role(entry: &mut (Name, Name, bool), grantee: &Name, name: &Name, admin: bool)
+    ensures { entry.new ≡ with_admin (grants_role grantee.now name.now) admin entry.old }
+{
+    if entry.0 == *grantee && entry.1 == *name {
+        entry.2 = admin;
+    }
+}
+
+fn with_last_role(
+    role: List<(Name, Name, bool)>,
+    grantee: &Name,
+    name: &Name,
+    admin: bool,
+) -> Result<List<(Name, Name, bool)>, Memory>
+    ensures { IfOk result (λ after. after ≡ role ++ (grantee.now, name.now, admin) ∷ []) }
+{
+    let mut after = role;
+    after.push((grantee.clone()?, name.clone()?, admin))?;
+    Ok(after)
+}
+
+fn with_object_grant(
+    grants: Grants,
+    grantee: &Name,
+    table: &TableName,
+    action: Action,
+) -> Result<Grants, Memory>
+    ensures { IfOk result (λ after. after ≡ applied (GrantChange.ObjectGrant grantee.now table.now action) grants) }
+{
+    if has_object(grants.object.as_slice(), grantee, table, action) {
+        return Ok(grants);
+    }
+    let Grants {
+        system,
+        role,
+        object,
+    } = grants;
+    let mut after = object;
+    after.push((grantee.clone()?, table.clone()?, action))?;
+    Ok(Grants {
+        system,
+        role,
+        object: after,
+    })
+}
