@@ -12,6 +12,7 @@ use crate::run::{
     split_word,
 };
 use crate::token::Kind;
+use au_base::limits::NAME_BYTES;
 use au_base::{Memory, Name, Text};
 use std::alloc::Global;
 
@@ -50,7 +51,7 @@ fn word(alloc: Global, bytes: &[u8]) -> Result<Option<(Kind, &[u8])>, Memory>
     ensures { IfOk result (λ found. MatchOption found (spec.word bytes.now ≡ None) (λ x. spec.word bytes.now ≡ Some (x.0, x.1.now))) }
 {
     let (text, rest) = split_word(bytes);
-    if text.len() > Name::MAX_LEN {
+    if text.len() > NAME_BYTES {
         return Ok(None);
     }
     let mut word = Text::from_ascii(alloc, text)?;

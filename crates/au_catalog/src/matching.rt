@@ -1,0 +1,143 @@
+//! Which statements a policy is for.
+ghost use Rattle.std.specs.Prelude.{◌≡◌};
+ghost use Rattle.std.specs.List.{list_any};
+ghost use Rattle.std.specs.Str.{bytes_eq};
+ghost use Rattle.au_catalog.specs.Matching.{covers_action, covers_privilege, covers_role, has_outcome, is_enabled_for, lists_outcome, names_action, names_table, parts_match};
+ghost use Rattle.au_priv.specs.Holding.{same_action, same_privilege, same_table, grants_privilege};
+
+use crate::facts::Facts;
+use crate::policy::{AuditPolicy, Enabled, Outcomes};
+use au_base::{Action, Code, Name, Privilege, TableName};
+use au_priv::Grants;
+
+/// Whether some part of the policy meets the statement.
+pub fn matches(policy: &AuditPolicy, facts: &Facts, grants: &Grants) -> bool
+    ensures { result ≡ parts_match grants.now facts.now policy.now }
+{
+    has_action(policy.actions.as_slice(), facts)
+        || (has_privilege(policy.privileges.as_slice(), facts)
+            || has_role(policy.roles.as_slice(), facts, grants))
+}
+
+/// Whether the policy is enabled for a statement of this user with this code.
+pub fn enabled_for(enabled: &Enabled, user: &Name, code: Code) -> bool
+    ensures { result ≡ is_enabled_for enabled.now user.now code }
+{
+    match enabled {
+        Enabled::Off => false,
+        Enabled::By(users) => lists_user(users.as_slice(), user, code),
+        Enabled::Except(users, outcomes) => {
+            !has_name(users.as_slice(), user) && has_outcome(*outcomes, code)
+        }
+    }
+}
+
+fn has_action(parts: &[(Action, Option<TableName>)], facts: &Facts) -> bool
+    ensures { result ≡ list_any (covers_action facts.now) parts.now }
+{
+    parts.iter().any(|part| covers_action(facts, part))
+}
+
+fn covers_action(facts: &Facts, part: &(Action, Option<TableName>)) -> bool
+    ensures { result ≡ covers_action facts.now part.now }
+{
+    names_action(facts.action, part.0) && names_table(facts.tables.as_slice(), &part.1)
+}
+
+fn names_action(action: Action, part: Action) -> bool
+    ensures { result ≡ names_action action part }
+{
+    is_same_action(part, action) || is_same_action(part, Action::All)
+}
+
+fn names_table(tables: &[TableName], part: &Option<TableName>) -> bool
+    ensures { result ≡ names_table tables.now part.now }
+{
+    match part {
+        None => true,
+        Some(table) => has_table(tables, table),
+    }
+}
+
+fn has_table(tables: &[TableName], table: &TableName) -> bool
+    ensures { result ≡ list_any (same_table table.now) tables.now }
+{
+    tables.iter().any(|other| is_same_table(table, other))
+}
+
+fn has_privilege(privileges: &[Privilege], facts: &Facts) -> bool
+    ensures { result ≡ list_any (covers_privilege facts.now) privileges.now }
+{
+    privileges
+        .iter()
+        .any(|privilege| is_used(facts.used.as_slice(), *privilege))
+}
+
+fn is_used(used: &[Privilege], privilege: Privilege) -> bool
+    ensures { result ≡ list_any (same_privilege privilege) used.now }
+{
+    used.iter()
+        .any(|other| is_same_privilege(privilege, *other))
+}
+
+fn has_role(roles: &[Name], facts: &Facts, grants: &Grants) -> bool
+    ensures { result ≡ list_any (covers_role grants.now facts.now) roles.now }
+{
+    roles
+        .iter()
+        .any(|role| covers_role(grants, facts.used.as_slice(), role))
+}
+
+fn covers_role(grants: &Grants, used: &[Privilege], role: &Name) -> bool
+    ensures { result ≡ list_any (λ privilege. list_any (grants_privilege role.now privilege) grants.now.system) used.now }
+{
+    used.iter().any(|privilege| is_granted(grants.system.as_slice(), role, *privilege))
+}
+
+fn is_granted(system: &[(Name, Privilege, bool)], role: &Name, privilege: Privilege) -> bool
+    ensures { result ≡ list_any (grants_privilege role.now privilege) system.now }
+{
+    system.iter().any(|entry| entry.0 == *role && is_same_privilege(entry.1, privilege))
+}
+
+fn lists_user(users: &[(Name, Outcomes)], user: &Name, code: Code) -> bool
+    ensures { result ≡ list_any (lists_outcome user.now code) users.now }
+{
+    users
+        .iter()
+        .any(|entry| entry.0 == *user && has_outcome(entry.1, code))
+}
+
+fn has_name(users: &[Name], user: &Name) -> bool
+    ensures { result ≡ list_any (bytes_eq user.now) users.now }
+{
+    users.iter().any(|other| *user == *other)
+}
+
+fn has_outcome(outcomes: Outcomes, code: Code) -> bool
+    ensures { result ≡ has_outcome outcomes code }
+{
+    if code.0 == 0 {
+        outcomes.success
+    } else {
+        outcomes.failure
+    }
+}
+
+fn is_same_table(a: &TableName, b: &TableName) -> bool
+    ensures { result ≡ same_table a.now b.now }
+{
+    a.owner == b.owner && a.name == b.name
+}
+
+fn is_same_privilege(a: Privilege, b: Privilege) -> bool
+    ensures { result ≡ same_privilege a b }
+{
+    a.code() == b.code()
+}
+
+fn is_same_action(a: Action, b: Action) -> bool
+    ensures { result ≡ same_action a b }
+{
+    a.code() == b.code()
+}
