@@ -9,6 +9,7 @@ ghost use Rattle.sql_parse.specs.Reading as spec;
 use crate::cursor::{behind, sees_mark};
 use crate::stop::Stop;
 use au_base::Name;
+use au_base::limits::NAME_BYTES;
 use sql_ast::Expr;
 use sql_lex::{Kind, Mark, Token};
 use std::alloc::Global;
@@ -76,7 +77,7 @@ const RESERVED: [&[u8]; 56] = [
 fn is_free(word: &[u8]) -> bool
     ensures { result ≡ is_free word.now }
 {
-    !is_reserved(word) && 1 <= word.len() && word.len() <= Name::MAX_LEN
+    !is_reserved(word) && 1 <= word.len() && word.len() <= NAME_BYTES
 }
 
 #[tactic(auto, unfolding(crate::specs::Symbols::is_reserved))]
