@@ -1,5 +1,6 @@
 pub mod Answers
 pub mod Chains
+pub mod Circles
 pub mod Entries
 pub mod Mapped
 pub mod Members

@@ -1,5 +1,5 @@
 -- Pairs after one another.
-use Rattle.std.proofs.Common.{◌≡◌, ℕ, suc, ◌+◌, ◌≤◌, ◌<◌, List, [], ◌∷◌, ◌++◌, map, take, drop, get_or, length, refl, sym, subst, ap, ◌∙◌, append_assoc, arith, inl, inr, Result, Ok, Err}
+use Rattle.std.proofs.Common.{◌≡◌, ℕ, ◌+◌, ◌≤◌, ◌<◌, List, [], ◌∷◌, ◌++◌, map, take, drop, get_or, length, refl, sym, subst, ap, ◌∙◌, append_assoc, inl, inr, Result, Ok, Err}
 use Rattle.std.specs.List.{flat_map}
 use Rattle.std.proofs.lemmas.List.{append-nil, take_more, take_all, take-append-drop, drop_more}
 use Rattle.au_base.specs.declared.code.Code.{Code}
@@ -10,7 +10,7 @@ use Rattle.au_priv.specs.Changing.{applied_all}
 use Rattle.au_priv.specs.Pairs.{Pair}
 use Rattle.au_priv.specs.Walking.{Walked, AllPass, SomeRefused, made, made_all}
 
-applied_joined : (xs ys : List GrantChange) (grants : Grants) → applied_all (xs ++ ys) grants ≡ applied_all ys (applied_all xs grants)
+pub applied_joined : (xs ys : List GrantChange) (grants : Grants) → applied_all (xs ++ ys) grants ≡ applied_all ys (applied_all xs grants)
 applied_joined [] ys grants = refl
 applied_joined (x ∷ xs) ys grants = applied_joined xs ys _
 

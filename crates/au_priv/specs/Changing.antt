@@ -61,3 +61,10 @@ applied (TableGone table) grants = record grants { object = without (names_table
 abbrev pub applied_all : List GrantChange → Grants → Grants
 applied_all [] grants = grants
 applied_all (change ∷ changes) grants = applied_all changes (applied change grants)
+
+-- the change drops a user, a role or a table
+abbrev pub IsDrop : GrantChange → Type 0
+IsDrop (UserGone user) = Unit {0}
+IsDrop (RoleGone role) = Unit {0}
+IsDrop (TableGone table) = Unit {0}
+IsDrop _ = ⊥

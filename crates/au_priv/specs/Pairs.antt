@@ -1,6 +1,6 @@
 -- The pairs of rights and grantees that GRANT and REVOKE name, and what is asked for each (SQL Language Reference,
 -- "GRANT" and "REVOKE"; the order of the pairs is this project's profile).
-use Rattle.std.specs.Prelude.{List, [], ◌∷◌, map, Bool}
+use Rattle.std.specs.Prelude.{List, [], ◌∷◌, map}
 use Rattle.std.specs.List.{flat_map}
 use Rattle.au_base.specs.declared.action.Action.{Action}
 use Rattle.au_base.specs.declared.action.Action.TheVariants as A

@@ -35,6 +35,10 @@ IsChain roles from (role ∷ path) = IsRoleGranted roles from role × IsChain ro
 abbrev pub HoldsRole : List RoleEntry → Name → Name → Type 0
 HoldsRole roles user role = (path : List Name) × IsChain roles user (path ++ role ∷ [])
 
+-- no chain of role grants leads from a name back to itself
+abbrev pub HasNoCircle : List RoleEntry → Type 0
+HasNoCircle roles = (name : Name) → ¬ HoldsRole roles name name
+
 -- a name whose rights the user has: the user's own, or that of a role that the user holds
 abbrev pub IsHolder : List RoleEntry → Name → Name → Type 0
 IsHolder roles user holder = (holder ≡ user) ⊎ HoldsRole roles user holder

@@ -1,7 +1,7 @@
 -- What becomes of pairs that are taken in order, each on the grants that the one before left (SQL Language
 -- Reference, "GRANT" and "REVOKE"; the codes and the limit are this project's profile).
-use Rattle.std.specs.Prelude.{◌≡◌, ◌<◌, ◌+◌, ℕ, List, [], ◌∷◌, ◌++◌, length, Bool, true, false, not, ◌&&◌, ◌||◌, Option, Some, None, Result, Ok, Err, ◌⊎◌, IsTrue}
-use Rattle.std.specs.List.{Contains, filter, list_any, slice_get}
+use Rattle.std.specs.Prelude.{◌≡◌, ◌<◌, ◌+◌, ℕ, List, [], ◌∷◌, ◌++◌, length, Bool, true, false, not, ◌&&◌, ◌||◌, Option, Some, None, Result, Ok, Err, ◌⊎◌}
+use Rattle.std.specs.List.{filter, list_any, slice_get}
 use Rattle.au_base.specs.declared.code.Code.{Code}
 use Rattle.au_base.specs.declared.code.TheConstants.Code.{CIRCULAR_ROLE_GRANT, TOO_MANY_OBJECTS, PRIVILEGE_NOT_GRANTED, ROLE_NOT_GRANTED, OBJECT_PRIVILEGE_NOT_GRANTED}
 use Rattle.au_base.specs.declared.limits.TheConstants.{GRANTS}

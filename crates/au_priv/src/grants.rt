@@ -4,7 +4,7 @@ ghost use Rattle.au_priv.specs.declared.allowed.Allowed.{Allowed};
 ghost use Rattle.au_priv.specs.Allowing.{AllowedIs, IsRefusal};
 ghost use Rattle.au_priv.specs.Changing.{applied_all};
 ghost use Rattle.au_priv.specs.Deciding.{Decides};
-ghost use Rattle.au_priv.specs.Rights.{HoldsRole, HoldsPrivilege};
+ghost use Rattle.au_priv.specs.Rights.{HasNoCircle, HoldsPrivilege, HoldsRole};
 
 use crate::allowed::Allowed;
 use crate::allowing::{allowed, refusal};
@@ -82,7 +82,8 @@ impl Grants {
         statement: &GrantStatement,
         known: &Known,
     ) -> Result<Decided, Memory>
-        ensures { IfOk result (Decides self.now known.now user.now statement.now) }
+        ensures decided { IfOk result (Decides self.now known.now user.now statement.now) }
+        ensures no_circle { IfOk result (λ decided. HasNoCircle self.now.role → HasNoCircle (applied_all decided.grants self.now).role) }
     {
         let case = Case {
             grants: &*self,

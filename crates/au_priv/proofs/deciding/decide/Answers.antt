@@ -1,4 +1,4 @@
-use Rattle.std.proofs.Common.{◌≡◌, false, List, Result, sym, subst, ◌∙◌}
+use Rattle.std.proofs.Common.{◌≡◌, false, List, Result, sym, subst}
 use Rattle.std.specs.Prelude.{IfOk}
 use Rattle.au_base.specs.declared.grant.GrantStatement.{GrantStatement}
 use Rattle.au_base.specs.declared.grant.ObjectRight.{ObjectRight}

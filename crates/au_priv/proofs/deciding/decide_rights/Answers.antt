@@ -1,4 +1,4 @@
-use Rattle.std.proofs.Common.{◌≡◌, inl, refl, sym, subst}
+use Rattle.std.proofs.Common.{inl, refl, sym, subst}
 use Rattle.au_priv.specs.declared.decided.Decided.{Decided}
 use Rattle.au_priv.specs.Deciding.{DecidesRights}
 use Rattle.au_priv.proofs.deciding.decide_rights.Goals as goal

@@ -1,4 +1,4 @@
-use Rattle.std.proofs.Common.{◌≡◌, arith}
+use Rattle.std.proofs.Common.{arith}
 use Rattle.au_priv.specs.Deciding.{RefusesRight}
 use Rattle.au_priv.proofs.Refusals.{none_more, none_all, first_here}
 use Rattle.au_priv.proofs.deciding.rights_refusal.Goals as goal

@@ -1,4 +1,4 @@
-use Rattle.std.proofs.Common.{◌<◌, length, map, refl, arith}
+use Rattle.std.proofs.Common.{map, refl, arith}
 use Rattle.au_base.specs.declared.grant.ObjectRight.TheVariants.{Select}
 use Rattle.au_priv.specs.Pairs.{object_pair}
 use Rattle.au_priv.proofs.Walks.{stops_in, more_in}

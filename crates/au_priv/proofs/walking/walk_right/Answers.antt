@@ -1,4 +1,4 @@
-use Rattle.std.proofs.Common.{◌<◌, length, arith}
+use Rattle.std.proofs.Common.{arith}
 use Rattle.au_priv.proofs.Walks.{stops_at, more_at}
 use Rattle.au_priv.proofs.walking.walk_right.Goals as goal
 

@@ -1,4 +1,4 @@
-use Rattle.std.proofs.Common.{◌<◌, length, map, arith}
+use Rattle.std.proofs.Common.{map, arith}
 use Rattle.au_priv.specs.Pairs.{right_pair}
 use Rattle.au_priv.proofs.Walks.{stops_in, more_in}
 use Rattle.au_priv.proofs.walking.walk_rights.Goals as goal
