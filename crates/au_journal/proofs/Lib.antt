@@ -1,3 +1,4 @@
+pub mod Created
 pub mod Leaving
 pub mod Lists
 pub mod Seating

@@ -1,4 +1,5 @@
 pub mod Causes
+pub mod Creation
 pub mod Frames
 pub mod Images
 pub mod Journals

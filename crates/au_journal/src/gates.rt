@@ -11,7 +11,7 @@ use au_io::{Area, Disk, Failed};
 pub(crate) const OPEN: u8 = 0xa5;
 
 /// The byte that closes a gate.
-const SHUT: u8 = 0;
+pub(crate) const SHUT: u8 = 0;
 
 /// Writes behind the closed gate, and syncs.
 pub(crate) fn stage<D: Disk>(

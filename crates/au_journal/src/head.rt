@@ -1,11 +1,12 @@
 //! Which area is selected, and how an area begins.
-ghost use Rattle.std.specs.Prelude.{◌≡◌, ◌↔◌, true, ◌++◌, take, drop, OnOk, IfOk, IfErr, MatchOption, ⊤};
+ghost use Rattle.std.specs.Prelude.{◌≡◌, ◌↔◌, true, false, ◌++◌, take, drop, OnOk, IfOk, IfErr, MatchOption, ⊤};
 ghost use Rattle.std.specs.Int.{w32, to_be_bytes};
 ghost use Rattle.au_io.specs.Areas.{area_of};
 ghost use Rattle.au_io.specs.Disk.{Stays, HasCause};
+ghost use Rattle.au_journal.specs.Creation.{IsSelectedFormatted};
 ghost use Rattle.au_journal.specs.Frames.{header, IsLimit, IsOpen};
 ghost use Rattle.au_journal.specs.Images.{Selects};
-ghost use Rattle.au_journal.specs.Walk.{IsFormatted, IsNamed, HeadDamage, IsStill};
+ghost use Rattle.au_journal.specs.Walk.{IsFormatted, IsNamed, HeadDamage, IsStill, IsUnformatted};
 
 use crate::gates::OPEN;
 use au_base::limits::{JOURNAL_LIMIT_MAX, JOURNAL_LIMIT_MIN};
@@ -60,6 +61,22 @@ pub(crate) fn read_head<D: Disk>(
         Ok(Some(room))
     } else {
         Ok(None)
+    }
+}
+
+/// Whether the selected area is formatted, after a sync of the three areas.
+pub(crate) fn is_formatted<D: Disk>(disk: &mut D) -> Result<bool, Failed>
+    ensures yes { D.told → IfOk result (λ is. is ≡ true → IsSelectedFormatted (D.meaning disk.old).reads) }
+    ensures not { D.told → IfOk result (λ is. is ≡ false → IsUnformatted (D.meaning disk.old).reads) }
+    ensures still { OnOk result (IsStill (D.meaning disk.new)) }
+    ensures stays { Stays (D.meaning disk.old) (D.meaning disk.new) }
+    ensures cause { HasCause (D.faults disk.old) (D.faults disk.new) result }
+{
+    sync_all(disk)?;
+    let area = selected(disk)?;
+    match read_head(disk, area)? {
+        Some(_) => Ok(true),
+        None => Ok(false),
     }
 }
 

@@ -3,7 +3,10 @@
 
 mod appended;
 mod appending;
+mod creating;
+mod creation;
 mod doubt;
+mod formatting;
 mod gates;
 mod head;
 mod journal;
@@ -17,6 +20,7 @@ mod writing;
 
 pub use appended::Appended;
 pub use doubt::Doubt;
+pub use formatting::Formatting;
 pub use journal::Journal;
 pub use mended::Mended;
 pub use mount_fault::MountFault;
