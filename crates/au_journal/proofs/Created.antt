@@ -113,9 +113,9 @@ shut_way rest c shut = in_way rest c (record { selected = shut.selected; here = 
 
 pub rest_way : (rest : List ℕ) (c : Areas) → In A (HasRest rest) c → IsOnTheWay rest c
 rest_way rest c has = elim (cases_eq has.here.gate 165) [
-    | inl is_open ↦ inr (record { selected = has.selected; here = has.here.split ∙ ap (λ (g : ℕ). g ∷ rest) is_open })
-    | inr shut ↦ in_way rest c (record { selected = has.selected; here = λ formed. shut (subst IsOpen has.here.split formed.opens) })
-  ]
+  | inl is_open ↦ inr (record { selected = has.selected; here = has.here.split ∙ ap (λ (g : ℕ). g ∷ rest) is_open })
+  | inr shut ↦ in_way rest c (record { selected = has.selected; here = λ formed. shut (subst IsOpen has.here.split formed.opens) })
+]
 
 pub cut_blanks : (c : Areas) → ACut c → AreBlank c
 cut_blanks c cut = record { a = λ formed. let no : 14 ≤ length c.a = formed.long in omega (arith, no, ap length cut.a); b = cut.b }
@@ -123,10 +123,10 @@ cut_blanks c cut = record { a = λ formed. let no : 14 ≤ length c.a = formed.l
 -- a new area stands for its one body
 new_split : (limit : ℕ) (framed body area : List ℕ) → IsFramed framed body → area ≡ 165 ∷ new_rest limit framed → area ≡ front limit (body ∷ []) ++ 0 ∷ []
 new_split limit framed body area is whole =
-      whole ∙ ap (λ (l : List ℕ). 165 ∷ new_rest limit l) is.is
-      ∙ sym (append_assoc (header limit) (165 ∷ spelled body) (0 ∷ []))
-      ∙ ap (λ (l : List ℕ). (l ++ 165 ∷ spelled body) ++ 0 ∷ []) (sym (front-nil limit))
-      ∙ ap (λ (l : List ℕ). l ++ 0 ∷ []) (sym (front-push limit [] body))
+    whole ∙ ap (λ (l : List ℕ). 165 ∷ new_rest limit l) is.is
+    ∙ sym (append_assoc (header limit) (165 ∷ spelled body) (0 ∷ []))
+    ∙ ap (λ (l : List ℕ). (l ++ 165 ∷ spelled body) ++ 0 ∷ []) (sym (front-nil limit))
+    ∙ ap (λ (l : List ℕ). l ++ 0 ∷ []) (sym (front-push limit [] body))
 
 new_stands : (limit : ℕ) (framed body area : List ℕ) → IsLimit limit → IsFramed framed body → area ≡ 165 ∷ new_rest limit framed → Stands limit (body ∷ []) area
 new_stands limit framed body area in_range is whole =

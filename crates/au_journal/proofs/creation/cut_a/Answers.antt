@@ -28,7 +28,7 @@ returns-clause-done g c = λ told leaves.
     let new = g.D.Disk.meaning c.sync.new.self in
     let reads = leaves old.reads (laws.reads_is_image c.args.disk.now told) in
     on_ok c.sync.result _ _ (λ durable. λ image is.
-        let both = step_synced (AreBlank) (AreBlank) A (On A (Cut 0)) old mid new (cut_blank) leaves (laws.counts_now c.cut.new.self) c.cut.ensures.crash c.cut.ensures.time c.sync.ensures.stays
-            (take 0 old.reads.a) (c.in_ok-cut.ensures.cut told) (laws.counts_now c.sync.new.self) durable image is in
-        cut_done image both.0 both.1)
+    let both = step_synced (AreBlank) (AreBlank) A (On A (Cut 0)) old mid new (cut_blank) leaves (laws.counts_now c.cut.new.self) c.cut.ensures.crash c.cut.ensures.time c.sync.ensures.stays
+    (take 0 old.reads.a) (c.in_ok-cut.ensures.cut told) (laws.counts_now c.sync.new.self) durable image is in
+    cut_done image both.0 both.1)
     c.sync.ensures.durable

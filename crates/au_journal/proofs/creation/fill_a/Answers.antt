@@ -25,7 +25,7 @@ returns-in_err-write_rest-clause-any_moment g c = λ told leaves.
     let two = g.D.Disk.meaning c.write_rest.new.disk in
     let shut = c.in_ok-shut_a.ensures.done told leaves in
     let second = both_calls (IsOnTheWay rest) old one two c.shut_a.ensures.time c.write_rest.ensures.time first
-        (weaker_since (In A IsGateShut) (IsOnTheWay rest) one two (shut_way rest) (c.write_rest.ensures.any_moment shut)) in
+    (weaker_since (In A IsGateShut) (IsOnTheWay rest) one two (shut_way rest) (c.write_rest.ensures.any_moment shut)) in
     second
 
 pub returns-clause-any_moment : goal.returns-clause-any_moment
@@ -37,10 +37,10 @@ returns-clause-any_moment g c = λ told leaves.
     let two = g.D.Disk.meaning c.write_rest.new.disk in
     let shut = c.in_ok-shut_a.ensures.done told leaves in
     let second = both_calls (IsOnTheWay rest) old one two c.shut_a.ensures.time c.write_rest.ensures.time first
-        (weaker_since (In A IsGateShut) (IsOnTheWay rest) one two (shut_way rest) (c.write_rest.ensures.any_moment shut)) in
+    (weaker_since (In A IsGateShut) (IsOnTheWay rest) one two (shut_way rest) (c.write_rest.ensures.any_moment shut)) in
     let new = g.D.Disk.meaning c.open_a.new.disk in
     both_calls (IsOnTheWay rest) old two new (both_pass old one two c.shut_a.ensures.time c.write_rest.ensures.time) c.open_a.ensures.time second
-        (weaker_since (In A (HasRest rest)) (IsOnTheWay rest) two new (rest_way rest) (c.open_a.ensures.any_moment rest (c.in_ok-write_rest.ensures.done told shut)))
+    (weaker_since (In A (HasRest rest)) (IsOnTheWay rest) two new (rest_way rest) (c.open_a.ensures.any_moment rest (c.in_ok-write_rest.ensures.done told shut)))
 
 pub returns-clause-done : goal.returns-clause-done
 returns-clause-done g c = λ told leaves.

@@ -25,7 +25,7 @@ returns-in_err-select_a-clause-any_moment g c = λ told leaves.
     let two = g.D.Disk.meaning c.select_a.new.disk in
     let cut = c.in_ok-cut_a.ensures.done told leaves in
     let second = both_calls (IsOnTheWay rest) old one two c.cut_a.ensures.time c.select_a.ensures.time first
-        (weaker_since ACut (IsOnTheWay rest) one two (λ image is. blank_way rest image (cut_blanks image is)) (c.select_a.ensures.any_moment cut)) in
+    (weaker_since ACut (IsOnTheWay rest) one two (λ image is. blank_way rest image (cut_blanks image is)) (c.select_a.ensures.any_moment cut)) in
     second
 
 pub returns-clause-any_moment : goal.returns-clause-any_moment
@@ -37,7 +37,7 @@ returns-clause-any_moment g c = λ told leaves.
     let two = g.D.Disk.meaning c.select_a.new.disk in
     let cut = c.in_ok-cut_a.ensures.done told leaves in
     let second = both_calls (IsOnTheWay rest) old one two c.cut_a.ensures.time c.select_a.ensures.time first
-        (weaker_since ACut (IsOnTheWay rest) one two (λ image is. blank_way rest image (cut_blanks image is)) (c.select_a.ensures.any_moment cut)) in
+    (weaker_since ACut (IsOnTheWay rest) one two (λ image is. blank_way rest image (cut_blanks image is)) (c.select_a.ensures.any_moment cut)) in
     let new = g.D.Disk.meaning c.fill_a.new.disk in
     both_calls (IsOnTheWay rest) old two new (both_pass old one two c.cut_a.ensures.time c.select_a.ensures.time) c.fill_a.ensures.time second
-        (c.fill_a.ensures.any_moment told (c.in_ok-select_a.ensures.done told cut))
+    (c.fill_a.ensures.any_moment told (c.in_ok-select_a.ensures.done told cut))

@@ -28,7 +28,7 @@ returns-clause-done g c = λ told rest leaves.
     let new = g.D.Disk.meaning c.sync.new.self in
     let reads = leaves old.reads (laws.reads_is_image c.args.disk.now told) in
     on_ok c.sync.result _ _ (λ durable. λ image is.
-        let both = step_synced (In A (λ (area : List ℕ). area ≡ 0 ∷ rest)) (In A (HasRest rest)) A (On A (Torn 0 1)) old mid new (step_in A (λ (area : List ℕ). area ≡ 0 ∷ rest) (HasRest rest) (HasRest rest) (Torn 0 1) (rest_torn rest)) leaves (laws.counts_now c.write_at.new.self) c.write_at.ensures.crash c.write_at.ensures.time c.sync.ensures.stays
-            (overwritten old.reads.a 0 (165 ∷ [])) (c.in_ok-write_at.ensures.written told) (laws.counts_now c.sync.new.self) durable image is in
-        record { selected = both.0.selected; here = both.1 ∙ opened rest old.reads.a reads.here })
+    let both = step_synced (In A (λ (area : List ℕ). area ≡ 0 ∷ rest)) (In A (HasRest rest)) A (On A (Torn 0 1)) old mid new (step_in A (λ (area : List ℕ). area ≡ 0 ∷ rest) (HasRest rest) (HasRest rest) (Torn 0 1) (rest_torn rest)) leaves (laws.counts_now c.write_at.new.self) c.write_at.ensures.crash c.write_at.ensures.time c.sync.ensures.stays
+    (overwritten old.reads.a 0 (165 ∷ [])) (c.in_ok-write_at.ensures.written told) (laws.counts_now c.sync.new.self) durable image is in
+    record { selected = both.0.selected; here = both.1 ∙ opened rest old.reads.a reads.here })
     c.sync.ensures.durable

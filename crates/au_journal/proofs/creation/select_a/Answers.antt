@@ -28,7 +28,7 @@ returns-clause-done g c = λ told leaves.
     let new = g.D.Disk.meaning c.sync.new.self in
     let reads = leaves old.reads (laws.reads_is_image c.args.disk.now told) in
     on_ok c.sync.result _ _ (λ durable. λ image is.
-        let both = step_synced (ACut) (ACut) Head (On Head (Torn 0 1)) old mid new (head_cut 1) leaves (laws.counts_now c.write_at.new.self) c.write_at.ensures.crash c.write_at.ensures.time c.sync.ensures.stays
-            (overwritten old.reads.head 0 (65 ∷ [])) (c.in_ok-write_at.ensures.written told) (laws.counts_now c.sync.new.self) durable image is in
-        select_done old.reads.head image both.0 both.1)
+    let both = step_synced (ACut) (ACut) Head (On Head (Torn 0 1)) old mid new (head_cut 1) leaves (laws.counts_now c.write_at.new.self) c.write_at.ensures.crash c.write_at.ensures.time c.sync.ensures.stays
+    (overwritten old.reads.head 0 (65 ∷ [])) (c.in_ok-write_at.ensures.written told) (laws.counts_now c.sync.new.self) durable image is in
+    select_done old.reads.head image both.0 both.1)
     c.sync.ensures.durable

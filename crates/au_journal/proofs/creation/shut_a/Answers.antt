@@ -28,7 +28,7 @@ returns-clause-done g c = λ told leaves.
     let new = g.D.Disk.meaning c.sync.new.self in
     let reads = leaves old.reads (laws.reads_is_image c.args.disk.now told) in
     on_ok c.sync.result _ _ (λ durable. λ image is.
-        let both = step_synced (In A (λ (area : List ℕ). area ≡ [])) (In A IsBlank) A (On A (Torn 0 1)) old mid new (step_in A (λ (area : List ℕ). area ≡ []) IsBlank IsBlank (Torn 0 1) shut_torn) leaves (laws.counts_now c.write_at.new.self) c.write_at.ensures.crash c.write_at.ensures.time c.sync.ensures.stays
-            (overwritten old.reads.a 0 (0 ∷ [])) (c.in_ok-write_at.ensures.written told) (laws.counts_now c.sync.new.self) durable image is in
-        record { selected = both.0.selected; here = both.1 ∙ ap (λ (l : List ℕ). overwritten l 0 (0 ∷ [])) reads.here })
+    let both = step_synced (In A (λ (area : List ℕ). area ≡ [])) (In A IsBlank) A (On A (Torn 0 1)) old mid new (step_in A (λ (area : List ℕ). area ≡ []) IsBlank IsBlank (Torn 0 1) shut_torn) leaves (laws.counts_now c.write_at.new.self) c.write_at.ensures.crash c.write_at.ensures.time c.sync.ensures.stays
+    (overwritten old.reads.a 0 (0 ∷ [])) (c.in_ok-write_at.ensures.written told) (laws.counts_now c.sync.new.self) durable image is in
+    record { selected = both.0.selected; here = both.1 ∙ ap (λ (l : List ℕ). overwritten l 0 (0 ∷ [])) reads.here })
     c.sync.ensures.durable

@@ -19,7 +19,7 @@ returns-in-Ok-clause-done g c = λ told body is others done.
     let none = all_blank old.reads (others old.reads (laws.reads_is_image c.args.disk.now told)) (c.in-Ok-false.ensures.not told c.in-Ok-false.field-0-test) in
     let blank : Leaves AreBlank mid = λ image is. subst AreBlank (sym (c.in-Ok-false.ensures.still image is ∙ stays.reads)) none in
     weaker (In A (λ (area : List ℕ). area ≡ 165 ∷ new_rest limit framed)) (In A (IsNew limit body)) new (in_weaker A (λ (area : List ℕ). area ≡ 165 ∷ new_rest limit framed) (IsNew limit body) (λ area. new_area limit framed body area c.requires.in_range is))
-        (c.in-Ok.ensures.done told blank)
+    (c.in-Ok.ensures.done told blank)
 
 pub returns-in-Ok-clause-any_moment : goal.returns-in-Ok-clause-any_moment
 returns-in-Ok-clause-any_moment g c = λ told body is others.
@@ -34,9 +34,9 @@ returns-in-Ok-clause-any_moment g c = λ told body is others.
     let blank : Leaves AreBlank mid = λ image is. subst AreBlank (sym (c.in-Ok-false.ensures.still image is ∙ stays.reads)) none in
     let Y = FormatLeaves old limit body in
     both_calls Y old mid new stays.time c.lay_down.ensures.time (λ image since. inl (stays.images image since))
-        (weaker_since (IsOnTheWay (new_rest limit framed)) Y mid new
-            (λ image way. inr (⊎_elim inl (λ whole. inr (in_weaker A (λ (area : List ℕ). area ≡ 165 ∷ new_rest limit framed) (IsNew limit body) (λ area. new_area limit framed body area c.requires.in_range is) image whole)) way))
-            (c.lay_down.ensures.any_moment told blank))
+    (weaker_since (IsOnTheWay (new_rest limit framed)) Y mid new
+    (λ image way. inr (⊎_elim inl (λ whole. inr (in_weaker A (λ (area : List ℕ). area ≡ 165 ∷ new_rest limit framed) (IsNew limit body) (λ area. new_area limit framed body area c.requires.in_range is) image whole)) way))
+    (c.lay_down.ensures.any_moment told blank))
 
 pub returns-in-Err-lay_down-clause-any_moment : goal.returns-in-Err-lay_down-clause-any_moment
 returns-in-Err-lay_down-clause-any_moment g c = λ told body is others.
@@ -51,6 +51,6 @@ returns-in-Err-lay_down-clause-any_moment g c = λ told body is others.
     let blank : Leaves AreBlank mid = λ image is. subst AreBlank (sym (c.in-Ok-false.ensures.still image is ∙ stays.reads)) none in
     let Y = FormatLeaves old limit body in
     both_calls Y old mid new stays.time c.lay_down.ensures.time (λ image since. inl (stays.images image since))
-        (weaker_since (IsOnTheWay (new_rest limit framed)) Y mid new
-            (λ image way. inr (⊎_elim inl (λ whole. inr (in_weaker A (λ (area : List ℕ). area ≡ 165 ∷ new_rest limit framed) (IsNew limit body) (λ area. new_area limit framed body area c.requires.in_range is) image whole)) way))
-            (c.lay_down.ensures.any_moment told blank))
+    (weaker_since (IsOnTheWay (new_rest limit framed)) Y mid new
+    (λ image way. inr (⊎_elim inl (λ whole. inr (in_weaker A (λ (area : List ℕ). area ≡ 165 ∷ new_rest limit framed) (IsNew limit body) (λ area. new_area limit framed body area c.requires.in_range is) image whole)) way))
+    (c.lay_down.ensures.any_moment told blank))
