@@ -23,3 +23,6 @@ pub use decided::{Decided, Known};
 pub use grants::Grants;
 pub use laws::drops_close_no_circle;
 pub use staged::StagedGrants;
+
+#[cfg(test)]
+mod tests;
