@@ -2,6 +2,7 @@
 #![tactic(auto)]
 
 mod catalog;
+mod change;
 mod facts;
 mod fine_grained;
 mod kept;
@@ -11,6 +12,7 @@ mod results;
 mod trail_record;
 
 pub use catalog::{Catalog, Table};
+pub use change::Change;
 pub use facts::{Demanded, Facts};
 pub use fine_grained::{FgaName, FgaPolicy};
 pub use kept::Kept;
