@@ -1,5 +1,5 @@
 -- Each question has one answer.
-use Rattle.std.proofs.Common.{◌≡◌, ◌⊎◌, inl, inr, Bool, true, false, ◌↔◌, refl, sym, subst, ap, ◌∙◌}
+use Rattle.std.proofs.Common.{◌≡◌, inl, inr, Bool, true, false, ◌↔◌, Some, refl, sym, subst, ap, ◌∙◌}
 use Rattle.std.proofs.lemmas.Option.{same_Some}
 use Rattle.au_base.specs.declared.action.Action.{Action}
 use Rattle.au_base.specs.declared.action.Action.TheVariants as A
@@ -11,19 +11,33 @@ use Rattle.au_base.specs.BuiltIn.{dual, trail}
 use Rattle.au_priv.specs.declared.allowed.Allowed.{Allowed}
 use Rattle.au_priv.specs.declared.allowed.Allowed.TheVariants.{Owner, Object, System, Refused}
 use Rattle.au_priv.specs.declared.grants.Grants.{Grants}
-use Rattle.au_priv.specs.Allowing.{AllowedIs, AllowedOnTable, AllowedOnTrail, IsRefusal, HoldsSomeAnyTable}
-use Rattle.au_priv.specs.Holding.{same_table}
-use Rattle.au_priv.specs.Rights.{Name, HoldsPrivilege}
+use Rattle.au_priv.specs.Allowing.{AllowedIs, AllowedOnTable, AllowedOnTrail, IsRefusal, HoldsSomeAnyTable, any_table_privilege}
+use Rattle.au_priv.specs.declared.right.Sought.TheVariants.{AnyTable}
+use Rattle.au_priv.specs.Holding.{HasRight, is_any_table, same_table}
+use Rattle.au_priv.specs.Rights.{Name}
 use Rattle.au_priv.proofs.Entries.{same_table-is, same_table-refl}
 
--- which of the four privileges it is
-pub which_any_table : (grants : Grants) (user : Name) → HoldsSomeAnyTable grants user
-    → HoldsPrivilege grants user SelectAnyTable ⊎ (HoldsPrivilege grants user InsertAnyTable ⊎ (HoldsPrivilege grants user UpdateAnyTable ⊎ HoldsPrivilege grants user DeleteAnyTable))
-which_any_table grants user (A.Select, privilege, (is, holds)) = inl (subst (λ (p : Privilege). HoldsPrivilege grants user p) (sym (same_Some SelectAnyTable privilege is)) holds)
-which_any_table grants user (A.Insert, privilege, (is, holds)) = inr (inl (subst (λ (p : Privilege). HoldsPrivilege grants user p) (sym (same_Some InsertAnyTable privilege is)) holds))
-which_any_table grants user (A.Update, privilege, (is, holds)) = inr (inr (inl (subst (λ (p : Privilege). HoldsPrivilege grants user p) (sym (same_Some UpdateAnyTable privilege is)) holds)))
-which_any_table grants user (A.Delete, privilege, (is, holds)) = inr (inr (inr (subst (λ (p : Privilege). HoldsPrivilege grants user p) (sym (same_Some DeleteAnyTable privilege is)) holds)))
-which_any_table grants user (_, privilege, (is, holds)) = absurd (cc)
+-- the privileges that allow some action on any table
+pub some_action : (privilege : Privilege) → is_any_table privilege ≡ true → (action : Action) × (any_table_privilege action ≡ Some privilege)
+some_action SelectAnyTable is = (A.Select, refl)
+some_action InsertAnyTable is = (A.Insert, refl)
+some_action UpdateAnyTable is = (A.Update, refl)
+some_action DeleteAnyTable is = (A.Delete, refl)
+some_action _ is = absurd (let e : false ≡ true = is in cc)
+
+any_table_of : (action : Action) (privilege : Privilege) → any_table_privilege action ≡ Some privilege → is_any_table privilege ≡ true
+any_table_of A.Select privilege is = ap is_any_table (sym (same_Some SelectAnyTable privilege is))
+any_table_of A.Insert privilege is = ap is_any_table (sym (same_Some InsertAnyTable privilege is))
+any_table_of A.Update privilege is = ap is_any_table (sym (same_Some UpdateAnyTable privilege is))
+any_table_of A.Delete privilege is = ap is_any_table (sym (same_Some DeleteAnyTable privilege is))
+any_table_of _ privilege is = absurd (cc)
+
+-- who has one of them holds it
+pub any_table_held : (grants : Grants) (user : Name) → HasRight grants user AnyTable ↔ HoldsSomeAnyTable grants user
+any_table_held grants user = (
+  λ (holder, is, (privilege, admin, any, has)). (let some = some_action privilege any in (some.0, privilege, (some.1, (holder, is, (admin, has))))),
+  λ (action, privilege, (allows, (holder, is, (admin, has)))). (holder, is, (privilege, admin, any_table_of action privilege allows, has)),
+)
 
 -- there is one code for a missing right
 pub one_refusal : (grants : Grants) (user : Name) (table : TableName) (a b : Code) → IsRefusal grants user table a → IsRefusal grants user table b → a ≡ b

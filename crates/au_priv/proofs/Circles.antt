@@ -20,32 +20,13 @@ use Rattle.au_priv.specs.declared.pair.Way.TheVariants.{Grant, Revoke}
 use Rattle.au_priv.specs.Changing.{IsDrop, applied, applied_all, with_admin, with_grant}
 use Rattle.au_priv.specs.Deciding.{Decides, DecidesRights, DecidesOnTable, DecidesPairs}
 use Rattle.au_priv.specs.Holding.{grants_role}
+use Rattle.au_priv.specs.Order.{placed, role_before}
 use Rattle.au_priv.specs.Pairs.{Pair, actions_of, object_change, object_pair, pairs, right_change, right_pair}
 use Rattle.au_priv.specs.Rights.{HasNoCircle, HoldsRole, IsChain, IsHolder, IsRoleGranted, Name, RoleEntry}
 use Rattle.au_priv.specs.Walking.{AllPass, Closes, RefusesPair, is_effective, made, made_all}
 use Rattle.au_priv.proofs.Chains.{behind, direct, holder_behind, joined}
-use Rattle.au_priv.proofs.Members.{append_cases, here, none, split, there}
+use Rattle.au_priv.proofs.Members.{kept, mapped, placed_cases}
 use Rattle.au_priv.proofs.Walks.{applied_joined}
-
--- an element of a filtered list is one of the list
-kept_at : {X : Type 0} (b : Bool) (y : X) (rest ys : List X) (x : X) → (Contains rest x → Contains ys x) → Contains (cond b (y ∷ rest) rest) x → Contains (y ∷ ys) x
-kept_at true y rest ys x more has = elim (split y rest x has) [
-  | inl same ↦ subst (λ z. Contains (y ∷ ys) z) same (here y ys)
-  | inr later ↦ there y ys x (more later)
-]
-kept_at false y rest ys x more has = there y ys x (more has)
-
-kept : {X : Type 0} (test : X → Bool) (xs : List X) (x : X) → Contains (filter test xs) x → Contains xs x
-kept test [] x has = has
-kept test (y ∷ ys) x has = kept_at (test y) y (filter test ys) ys x (kept test ys x) has
-
--- an element of a mapped list comes from one of the list
-mapped : {X Y : Type 0} (f : X → Y) (xs : List X) (y : Y) → Contains (map f xs) y → (x : X) × Contains xs x × (f x ≡ y)
-mapped f [] y has = absurd (none y has)
-mapped f (x ∷ xs) y has = elim (split (f x) (map f xs) y has) [
-  | inl same ↦ (x, here x xs, same)
-  | inr later ↦ (let found = mapped f xs y later in (found.0, there x xs found.0 found.1, found.2))
-]
 
 -- fewer grants of roles hold no more
 fewer_hold : (roles fewer : List RoleEntry) → ((entry : RoleEntry) → Contains fewer entry → Contains roles entry) → (user role : Name) (path : List Name) → IsChain fewer user (path ++ role ∷ []) → HoldsRole roles user role
@@ -75,22 +56,19 @@ was_mapped roles test admin entry has =
     subst (λ (n : Name). IsRoleGranted roles entry.0 n) second (subst (λ (n : Name). IsRoleGranted roles n found.0.1) first granted)
 
 was_or_is_at : (roles : List RoleEntry) (grantee role : Name) (admin b : Bool) (entry : RoleEntry)
-    → Contains (cond b (map (with_admin (grants_role grantee role) admin) roles) (roles ++ (grantee, role, admin) ∷ [])) entry → WasOrIs roles grantee role entry.0 entry.1
+    → Contains (cond b (map (with_admin (grants_role grantee role) admin) roles) (placed role_before (grantee, role, admin) roles)) entry → WasOrIs roles grantee role entry.0 entry.1
 was_or_is_at roles grantee role admin true entry has = inl (was_mapped roles (grants_role grantee role) admin entry has)
-was_or_is_at roles grantee role admin false entry has = elim (append_cases roles ((grantee, role, admin) ∷ []) entry has) [
-  | inl before ↦ inl (entry.2, before)
-  | inr new ↦ elim (split (grantee, role, admin) [] entry new) [
-    | inl same ↦ inr (ap (λ (e : RoleEntry). e.0) (sym same), ap (λ (e : RoleEntry). e.1) (sym same))
-    | inr never ↦ absurd (none entry never)
-  ]
+was_or_is_at roles grantee role admin false entry has = elim (placed_cases role_before (grantee, role, admin) roles entry has) [
+  | inl same ↦ inr (ap (λ (e : RoleEntry). e.0) (sym same), ap (λ (e : RoleEntry). e.1) (sym same))
+  | inr before ↦ inl (entry.2, before)
 ]
 
-was_or_is : (roles : List RoleEntry) (grantee role : Name) (admin : Bool) (a b : Name) → IsRoleGranted (with_grant (grants_role grantee role) (grantee, role, admin) roles) a b → WasOrIs roles grantee role a b
+was_or_is : (roles : List RoleEntry) (grantee role : Name) (admin : Bool) (a b : Name) → IsRoleGranted (with_grant role_before (grants_role grantee role) (grantee, role, admin) roles) a b → WasOrIs roles grantee role a b
 was_or_is roles grantee role admin a b (with, has) = was_or_is_at roles grantee role admin (list_any (grants_role grantee role) roles) (a, b, with) has
 
 -- a chain over the new grant goes to the grantee and on from the role
 held_or_over : (roles : List RoleEntry) (grantee role : Name) (admin : Bool) (user held : Name) (path : List Name)
-    → IsChain (with_grant (grants_role grantee role) (grantee, role, admin) roles) user (path ++ held ∷ [])
+    → IsChain (with_grant role_before (grants_role grantee role) (grantee, role, admin) roles) user (path ++ held ∷ [])
     → HoldsRole roles user held ⊎ (IsHolder roles user grantee × IsHolder roles role held)
 held_or_over roles grantee role admin user held [] chain = elim (was_or_is roles grantee role admin user held chain.0) [
   | inl was ↦ inl (direct roles user held was)
@@ -113,7 +91,7 @@ holder_joined roles a b c (inl one) two = subst (λ (n : Name). IsHolder roles n
 holder_joined roles a b c (inr one) (inl two) = inr (subst (λ (n : Name). HoldsRole roles a n) (sym two) one)
 holder_joined roles a b c (inr one) (inr two) = inr (joined roles a b c one two)
 
-grant_keeps : (roles : List RoleEntry) (grantee role : Name) (admin : Bool) → (IsHolder roles role grantee → ⊥) → HasNoCircle roles → HasNoCircle (with_grant (grants_role grantee role) (grantee, role, admin) roles)
+grant_keeps : (roles : List RoleEntry) (grantee role : Name) (admin : Bool) → (IsHolder roles role grantee → ⊥) → HasNoCircle roles → HasNoCircle (with_grant role_before (grants_role grantee role) (grantee, role, admin) roles)
 grant_keeps roles grantee role admin closes clear name holds = elim (held_or_over roles grantee role admin name name holds.0 holds.1) [
   | inl before ↦ clear name before
   | inr over ↦ closes (holder_joined roles role name grantee over.1 over.0)

@@ -15,12 +15,15 @@ use Rattle.au_base.specs.declared.privilege.TheConstants.Privilege as AllPrivile
 use Rattle.au_base.specs.declared.table.TableName.{TableName}
 use Rattle.au_base.specs.Privileges as privileges
 use Rattle.au_base.specs.Actions as actions
-use Rattle.au_priv.specs.Holding.{same_table, same_privilege, same_action, grants_role, grants_privilege, grants_object, grants_some_object}
+use Rattle.au_priv.specs.Holding.{same_table, same_privilege, same_action, grants_role, grants_privilege, grants_any_table, grants_object, grants_some_object, is_any_table}
 use Rattle.au_priv.specs.Rights.{Name, SystemEntry, RoleEntry, ObjectEntry, IsRoleGranted}
 use Rattle.au_priv.proofs.Members.{any_from, any_to}
 
 nat_eq-is : (m n : ℕ) → (m == n) ≡ true → m ≡ n
 nat_eq-is m n is = grind (arith, nat_tests)
+
+pub nat_eq-to : (m n : ℕ) → m ≡ n → (m == n) ≡ true
+nat_eq-to m n same = grind (arith, nat_tests)
 
 nat_eq-same : (m : ℕ) → (m == m) ≡ true
 nat_eq-same m = grind (arith, nat_tests)
@@ -72,6 +75,9 @@ first_action A.Logoff = refl
 -- the tests of sameness decide
 pub same_name-is : (a b : Name) → bytes_eq a b ≡ true → a ≡ b
 same_name-is a b is = (bytes_eq-Decides a b).0 is
+
+pub same_name-to : (a b : Name) → a ≡ b → bytes_eq a b ≡ true
+same_name-to a b same = (bytes_eq-Decides a b).1 same
 
 pub same_name-refl : (a : Name) → bytes_eq a a ≡ true
 same_name-refl a = (bytes_eq-Decides a a).1 refl
@@ -177,6 +183,15 @@ privilege_administered system grantee privilege = (
       let admin : found.0.2 ≡ true = parts.1 in
       subst (λ (entry : SystemEntry). Contains system entry) (same ∙ ap (λ (b : Bool). (grantee, privilege, b)) admin) found.1),
   λ is. any_to (λ (entry : SystemEntry). grants_privilege grantee privilege entry && entry.2) system (grantee, privilege, true) is (and_from _ _ (grants_privilege-refl grantee privilege true) refl),
+)
+
+pub any_table_granted : (system : List SystemEntry) (grantee : Name) → (list_any (grants_any_table grantee) system ≡ true) ↔ ((privilege : Privilege) × (admin : Bool) × (is_any_table privilege ≡ true) × Contains system (grantee, privilege, admin))
+any_table_granted system grantee = (
+  λ is. (let found = any_from (grants_any_table grantee) system is in
+      let parts = and_parts (bytes_eq found.0.0 grantee) (is_any_table found.0.1) found.2 in
+      let same : found.0.0 ≡ grantee = same_name-is _ _ parts.0 in
+      (found.0.1, found.0.2, parts.1, subst (λ (n : Name). Contains system (n, found.0.1, found.0.2)) same found.1)),
+  λ is. any_to (grants_any_table grantee) system (grantee, is.0, is.1) is.3 (and_from _ _ (same_name-refl grantee) is.2),
 )
 
 pub object_granted : (object : List ObjectEntry) (grantee : Name) (table : TableName) (action : Action) → (list_any (grants_object grantee table action) object ≡ true) ↔ Contains object (grantee, table, action)

@@ -4,7 +4,9 @@ pub mod Circles
 pub mod Entries
 pub mod Mapped
 pub mod Members
+pub mod Ordered
 pub mod Refusals
+pub mod Regranted
 pub mod Search
 pub mod Unfound
 pub mod Walks

@@ -1,7 +1,8 @@
 -- What is an element of a list, and what a test finds there.
-use Rattle.std.proofs.Common.{◌≡◌, suc, zero, Bool, true, false, ◌⊎◌, inl, inr, List, [], ◌∷◌, ◌++◌, refl, ap, subst, ◌∙◌, arith}
-use Rattle.std.specs.List.{Contains, list_any}
+use Rattle.std.proofs.Common.{◌≡◌, suc, zero, Bool, true, false, not, cond, ◌⊎◌, inl, inr, List, [], ◌∷◌, ◌++◌, map, refl, ap, subst, ◌∙◌, arith}
+use Rattle.std.specs.List.{Contains, filter, list_any}
 use Rattle.std.proofs.lemmas.Bool.{or_cases, or_left, or_right}
+use Rattle.au_priv.specs.Order.{placed}
 
 -- the first element
 pub here : {X : Type 0} (x : X) (xs : List X) → Contains (x ∷ xs) x
@@ -56,3 +57,34 @@ any_to test (y ∷ xs) x has passes = elim (split y xs x has) [
   | inl same ↦ or_left (test y) (list_any test xs) (ap test same ∙ passes)
   | inr later ↦ or_right (test y) (list_any test xs) (any_to test xs x later passes)
 ]
+
+-- an element of a filtered list is one of the list
+kept_at : {X : Type 0} (b : Bool) (y : X) (rest ys : List X) (x : X) → (Contains rest x → Contains ys x) → Contains (cond b (y ∷ rest) rest) x → Contains (y ∷ ys) x
+kept_at true y rest ys x more has = elim (split y rest x has) [
+  | inl same ↦ subst (λ z. Contains (y ∷ ys) z) same (here y ys)
+  | inr later ↦ there y ys x (more later)
+]
+kept_at false y rest ys x more has = there y ys x (more has)
+
+pub kept : {X : Type 0} (test : X → Bool) (xs : List X) (x : X) → Contains (filter test xs) x → Contains xs x
+kept test [] x has = has
+kept test (y ∷ ys) x has = kept_at (test y) y (filter test ys) ys x (kept test ys x) has
+
+-- an element of a mapped list comes from one of the list
+pub mapped : {X Y : Type 0} (f : X → Y) (xs : List X) (y : Y) → Contains (map f xs) y → (x : X) × Contains xs x × (f x ≡ y)
+mapped f [] y has = absurd (none y has)
+mapped f (x ∷ xs) y has = elim (split (f x) (map f xs) y has) [
+  | inl same ↦ (x, here x xs, same)
+  | inr later ↦ (let found = mapped f xs y later in (found.0, there x xs found.0 found.1, found.2))
+]
+
+-- an element of the list with a new entry is that entry or one of the list
+pub placed_cases : {X : Type 0} (before : X → X → Bool) (entry : X) (xs : List X) (x : X) → Contains (placed before entry xs) x → (entry ≡ x) ⊎ Contains xs x
+placed_cases before entry xs x has =
+    elim (append_cases (filter (λ other. before other entry) xs) (entry ∷ filter (λ other. not (before other entry)) xs) x has) [
+      | inl front ↦ inr (kept (λ other. before other entry) xs x front)
+      | inr behind ↦ elim (split entry (filter (λ other. not (before other entry)) xs) x behind) [
+        | inl same ↦ inl same
+        | inr later ↦ inr (kept (λ other. not (before other entry)) xs x later)
+      ]
+    ]

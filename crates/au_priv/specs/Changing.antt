@@ -1,5 +1,5 @@
 -- What changes make of grants (SQL Language Reference, "GRANT", "REVOKE", "DROP USER", "DROP ROLE" and "DROP TABLE").
-use Rattle.std.specs.Prelude.{List, [], ◌∷◌, ◌++◌, map, Bool, not, ◌||◌, if◌then◌else◌}
+use Rattle.std.specs.Prelude.{List, [], ◌∷◌, map, Bool, not, ◌||◌, if◌then◌else◌}
 use Rattle.std.specs.List.{filter, list_any}
 use Rattle.std.specs.Str.{bytes_eq}
 use Rattle.au_base.specs.declared.table.TableName.{TableName}
@@ -7,6 +7,7 @@ use Rattle.au_priv.specs.declared.change.GrantChange.{GrantChange}
 use Rattle.au_priv.specs.declared.change.GrantChange.TheVariants.{UserGone, RoleGone, SystemGrant, SystemRevoke, RoleGrant, RoleRevoke, ObjectGrant, ObjectRevoke, TableGone}
 use Rattle.au_priv.specs.declared.grants.Grants.{Grants}
 use Rattle.au_priv.specs.Holding.{same_table, grants_role, grants_privilege, grants_object}
+use Rattle.au_priv.specs.Order.{object_before, placed, role_before, system_before}
 use Rattle.au_priv.specs.Rights.{Name, SystemEntry, RoleEntry, ObjectEntry}
 
 -- the entries that the test doesn't name
@@ -17,9 +18,9 @@ without test entries = filter (λ entry. not (test entry)) entries
 abbrev pub with_admin : {X Y : Type 0} → (X × Y × Bool → Bool) → Bool → X × Y × Bool → X × Y × Bool
 with_admin test admin entry = if test entry then (entry.0, entry.1, admin) else entry
 
--- a grant that is there keeps its place and gets the admin option; a new one comes last
-abbrev pub with_grant : {X Y : Type 0} → (X × Y × Bool → Bool) → X × Y × Bool → List (X × Y × Bool) → List (X × Y × Bool)
-with_grant test grant entries = if list_any test entries then map (with_admin test grant.2) entries else entries ++ grant ∷ []
+-- a grant that is there keeps its place and gets the admin option; a new one stands in order
+abbrev pub with_grant : {X Y : Type 0} → (X × Y × Bool → X × Y × Bool → Bool) → (X × Y × Bool → Bool) → X × Y × Bool → List (X × Y × Bool) → List (X × Y × Bool)
+with_grant before test grant entries = if list_any test entries then map (with_admin test grant.2) entries else placed before grant entries
 
 -- the entry grants something to the name
 abbrev pub system_to : Name → SystemEntry → Bool
@@ -41,17 +42,17 @@ names_role role entry = bytes_eq entry.0 role || bytes_eq entry.1 role
 abbrev pub names_table : TableName → ObjectEntry → Bool
 names_table table entry = same_table entry.1 table
 
--- the grants with the object privilege: one that is there stays, a new one comes last
+-- the grants with the object privilege: one that is there stays, a new one stands in order
 abbrev pub with_object : ObjectEntry → List ObjectEntry → List ObjectEntry
-with_object grant entries = if list_any (grants_object grant.0 grant.1 grant.2) entries then entries else entries ++ grant ∷ []
+with_object grant entries = if list_any (grants_object grant.0 grant.1 grant.2) entries then entries else placed object_before grant entries
 
 -- the grants after the change
 abbrev pub applied : GrantChange → Grants → Grants
 applied (UserGone user) grants = record { system = without (system_to user) grants.system; role = without (role_to user) grants.role; object = without (object_to user) grants.object }
 applied (RoleGone role) grants = record { system = without (system_to role) grants.system; role = without (names_role role) grants.role; object = without (object_to role) grants.object }
-applied (SystemGrant grantee privilege admin) grants = record grants { system = with_grant (grants_privilege grantee privilege) (grantee, privilege, admin) grants.system }
+applied (SystemGrant grantee privilege admin) grants = record grants { system = with_grant system_before (grants_privilege grantee privilege) (grantee, privilege, admin) grants.system }
 applied (SystemRevoke grantee privilege) grants = record grants { system = without (grants_privilege grantee privilege) grants.system }
-applied (RoleGrant grantee role admin) grants = record grants { role = with_grant (grants_role grantee role) (grantee, role, admin) grants.role }
+applied (RoleGrant grantee role admin) grants = record grants { role = with_grant role_before (grants_role grantee role) (grantee, role, admin) grants.role }
 applied (RoleRevoke grantee role) grants = record grants { role = without (grants_role grantee role) grants.role }
 applied (ObjectGrant grantee table action) grants = record grants { object = with_object (grantee, table, action) grants.object }
 applied (ObjectRevoke grantee table action) grants = record grants { object = without (grants_object grantee table action) grants.object }
@@ -61,6 +62,16 @@ applied (TableGone table) grants = record grants { object = without (names_table
 abbrev pub applied_all : List GrantChange → Grants → Grants
 applied_all [] grants = grants
 applied_all (change ∷ changes) grants = applied_all changes (applied change grants)
+
+-- a grant that is there, as the change that grants it
+abbrev pub system_grant : SystemEntry → GrantChange
+system_grant entry = SystemGrant entry.0 entry.1 entry.2
+
+abbrev pub role_grant : RoleEntry → GrantChange
+role_grant entry = RoleGrant entry.0 entry.1 entry.2
+
+abbrev pub object_grant : ObjectEntry → GrantChange
+object_grant entry = ObjectGrant entry.0 entry.1 entry.2
 
 -- the change drops a user, a role or a table
 abbrev pub IsDrop : GrantChange → Type 0

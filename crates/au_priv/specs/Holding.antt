@@ -1,5 +1,5 @@
 -- The search for who holds a right.
-use Rattle.std.specs.Prelude.{◌==◌, ◌&&◌, Bool, true}
+use Rattle.std.specs.Prelude.{◌==◌, ◌&&◌, Bool, true, false, IsTrue}
 use Rattle.std.specs.List.{Contains}
 use Rattle.std.specs.Str.{bytes_eq}
 use Rattle.au_base.specs.declared.action.Action.{Action}
@@ -7,10 +7,19 @@ use Rattle.au_base.specs.declared.table.TableName.{TableName}
 use Rattle.au_base.specs.Privileges as privileges
 use Rattle.au_base.specs.Actions as actions
 use Rattle.au_base.specs.declared.privilege.Privilege.{Privilege}
+use Rattle.au_base.specs.declared.privilege.Privilege.TheVariants.{SelectAnyTable, InsertAnyTable, UpdateAnyTable, DeleteAnyTable}
 use Rattle.au_priv.specs.declared.grants.Grants.{Grants}
 use Rattle.au_priv.specs.declared.right.Sought.{Sought}
-use Rattle.au_priv.specs.declared.right.Sought.TheVariants.{Role, RoleWithAdmin, Privilege as SystemPrivilege, PrivilegeWithAdmin, Object, SomeObject}
+use Rattle.au_priv.specs.declared.right.Sought.TheVariants.{Role, RoleWithAdmin, Privilege as SystemPrivilege, PrivilegeWithAdmin, AnyTable, Object, SomeObject}
 use Rattle.au_priv.specs.Rights.{Name, SystemEntry, RoleEntry, ObjectEntry, IsRoleGranted, IsHolder}
+
+-- the system privilege allows an action on any table
+abbrev pub is_any_table : Privilege → Bool
+is_any_table SelectAnyTable = true
+is_any_table InsertAnyTable = true
+is_any_table UpdateAnyTable = true
+is_any_table DeleteAnyTable = true
+is_any_table _ = false
 
 -- the right is granted to the holder directly
 abbrev pub IsGranted : Grants → Name → Sought → Type 0
@@ -18,6 +27,7 @@ IsGranted grants holder (Role role) = IsRoleGranted grants.role holder role.now
 IsGranted grants holder (RoleWithAdmin role) = Contains grants.role (holder, role.now, true)
 IsGranted grants holder (SystemPrivilege privilege) = (admin : Bool) × Contains grants.system (holder, privilege, admin)
 IsGranted grants holder (PrivilegeWithAdmin privilege) = Contains grants.system (holder, privilege, true)
+IsGranted grants holder AnyTable = (privilege : Privilege) × (admin : Bool) × IsTrue (is_any_table privilege) × Contains grants.system (holder, privilege, admin)
 IsGranted grants holder (Object table action) = Contains grants.object (holder, table.now, action)
 IsGranted grants holder (SomeObject table) = (action : Action) × Contains grants.object (holder, table.now, action)
 
@@ -44,6 +54,10 @@ grants_role grantee role entry = bytes_eq entry.0 grantee && bytes_eq entry.1 ro
 -- the entry grants this system privilege to this grantee
 abbrev pub grants_privilege : Name → Privilege → SystemEntry → Bool
 grants_privilege grantee privilege entry = bytes_eq entry.0 grantee && same_privilege entry.1 privilege
+
+-- the entry grants some system privilege on any table to this grantee
+abbrev pub grants_any_table : Name → SystemEntry → Bool
+grants_any_table grantee entry = bytes_eq entry.0 grantee && is_any_table entry.1
 
 -- the entry grants this object privilege to this grantee
 abbrev pub grants_object : Name → TableName → Action → ObjectEntry → Bool

@@ -3,6 +3,7 @@ pub mod Changing
 pub mod Deciding
 pub mod Found
 pub mod Holding
+pub mod Order
 pub mod Pairs
 pub mod Rights
 pub mod Walking

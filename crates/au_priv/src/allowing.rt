@@ -99,14 +99,5 @@ fn has_something(grants: &Grants, user: &Name, table: &TableName) -> bool
 fn holds_some_any_table(grants: &Grants, user: &Name) -> bool
     ensures { IsTrue result ↔ HoldsSomeAnyTable grants.now user.now }
 {
-    if has_right(grants, user, Sought::Privilege(Privilege::SelectAnyTable)) {
-        return true;
-    }
-    if has_right(grants, user, Sought::Privilege(Privilege::InsertAnyTable)) {
-        return true;
-    }
-    if has_right(grants, user, Sought::Privilege(Privilege::UpdateAnyTable)) {
-        return true;
-    }
-    has_right(grants, user, Sought::Privilege(Privilege::DeleteAnyTable))
+    has_right(grants, user, Sought::AnyTable)
 }

@@ -1,14 +1,16 @@
 //! Grants after changes.
-ghost use Rattle.std.specs.Prelude.{◌≡◌, ◌++◌, ◌∷◌, [], IfOk, map};
+ghost use Rattle.std.specs.Prelude.{◌≡◌, IfOk, map};
 ghost use Rattle.std.specs.List.{list_any};
 ghost use Rattle.au_priv.specs.Changing.{applied, applied_all, without, with_admin, with_grant, with_object, system_to, role_to, object_to, names_role, names_table};
 ghost use Rattle.au_priv.specs.Holding.{grants_privilege, grants_role, grants_object};
+ghost use Rattle.au_priv.specs.Order.{object_before, placed, role_before, system_before};
 
 use crate::change::GrantChange;
 use crate::direct::{
     has_object, has_privilege, has_role, is_same_action, is_same_privilege, is_same_table,
 };
 use crate::grants::Grants;
+use crate::order::with_new;
 use au_base::{Action, List, Memory, Name, Privilege, TableName};
 
 /// The grants after the changes, in their order.
@@ -254,7 +256,7 @@ fn with_system(
     let system = if has_privilege(system.as_slice(), grantee, privilege) {
         with_privilege_admin(system, grantee, privilege, admin)
     } else {
-        with_last_privilege(system, grantee, privilege, admin)?
+        with_new_privilege(system, grantee, privilege, admin)?
     };
     Ok(Grants {
         system,
@@ -302,17 +304,15 @@ fn set_admin_of_privilege(
     }
 }
 
-fn with_last_privilege(
+fn with_new_privilege(
     system: List<(Name, Privilege, bool)>,
     grantee: &Name,
     privilege: Privilege,
     admin: bool,
 ) -> Result<List<(Name, Privilege, bool)>, Memory>
-    ensures { IfOk result (λ after. after ≡ system ++ (grantee.now, privilege, admin) ∷ []) }
+    ensures { IfOk result (λ after. after ≡ placed system_before (grantee.now, privilege, admin) system) }
 {
-    let mut after = system;
-    after.push((grantee.clone()?, privilege, admin))?;
-    Ok(after)
+    with_new(system, (grantee.clone()?, privilege, admin))
 }
 
 fn with_role(grants: Grants, grantee: &Name, name: &Name, admin: bool) -> Result<Grants, Memory>
@@ -326,7 +326,7 @@ fn with_role(grants: Grants, grantee: &Name, name: &Name, admin: bool) -> Result
     let role = if has_role(role.as_slice(), grantee, name.as_str()) {
         with_role_admin(role, grantee, name, admin)
     } else {
-        with_last_role(role, grantee, name, admin)?
+        with_new_role(role, grantee, name, admin)?
     };
     Ok(Grants {
         system,
@@ -364,17 +364,15 @@ fn set_admin_of_role(entry: &mut (Name, Name, bool), grantee: &Name, name: &Name
     }
 }
 
-fn with_last_role(
+fn with_new_role(
     role: List<(Name, Name, bool)>,
     grantee: &Name,
     name: &Name,
     admin: bool,
 ) -> Result<List<(Name, Name, bool)>, Memory>
-    ensures { IfOk result (λ after. after ≡ role ++ (grantee.now, name.now, admin) ∷ []) }
+    ensures { IfOk result (λ after. after ≡ placed role_before (grantee.now, name.now, admin) role) }
 {
-    let mut after = role;
-    after.push((grantee.clone()?, name.clone()?, admin))?;
-    Ok(after)
+    with_new(role, (grantee.clone()?, name.clone()?, admin))
 }
 
 fn with_object_grant(
@@ -393,11 +391,21 @@ fn with_object_grant(
         role,
         object,
     } = grants;
-    let mut after = object;
-    after.push((grantee.clone()?, table.clone()?, action))?;
+    let object = with_new_object(object, grantee, table, action)?;
     Ok(Grants {
         system,
         role,
-        object: after,
+        object,
     })
+}
+
+fn with_new_object(
+    object: List<(Name, TableName, Action)>,
+    grantee: &Name,
+    table: &TableName,
+    action: Action,
+) -> Result<List<(Name, TableName, Action)>, Memory>
+    ensures { IfOk result (λ after. after ≡ placed object_before (grantee.now, table.now, action) object) }
+{
+    with_new(object, (grantee.clone()?, table.clone()?, action))
 }

@@ -4,7 +4,8 @@ ghost use Rattle.std.specs.Prelude.{◌≡◌};
 use au_base::{Action, Name, Privilege, TableName};
 use std::alloc::AllocError;
 
-/// A change of grants. The grantee stands first, and a truth value is the admin option.
+/// A change of grants. The grantee stands first, and a truth value is the admin option. A new grant
+/// stands in byte order among those that are there.
 #[derive(Debug, Drop, PartialEq, Eq)]
 pub enum GrantChange {
     /// The user is dropped: what was granted to it is gone.
@@ -20,7 +21,7 @@ pub enum GrantChange {
     RoleGrant(Name, Name, bool),
     /// A role is revoked.
     RoleRevoke(Name, Name),
-    /// An object privilege is granted.
+    /// An object privilege is granted. A grant that is there stays.
     ObjectGrant(Name, TableName, Action),
     /// An object privilege is revoked.
     ObjectRevoke(Name, TableName, Action),

@@ -1,13 +1,14 @@
 //! What is granted directly.
 ghost use Rattle.std.specs.Prelude.{◌≡◌, ◌&&◌, ◌↔◌, IsTrue};
 ghost use Rattle.std.specs.List.{list_any};
-ghost use Rattle.au_priv.specs.Holding.{IsGranted, same_table, same_privilege, same_action, grants_role, grants_privilege, grants_object, grants_some_object};
+ghost use Rattle.au_priv.specs.Holding.{IsGranted, same_table, same_privilege, same_action, grants_role, grants_privilege, grants_any_table, grants_object, grants_some_object, is_any_table};
 
 use crate::grants::Grants;
 use crate::right::Sought;
 use au_base::{Action, Name, Privilege, TableName};
 
-/// Whether the right is granted to the holder directly.
+/// Whether the right is granted to the holder directly. What stands in a grant itself is compared
+/// first, and names after it, whose bytes stand apart.
 pub fn is_granted(grants: &Grants, holder: &Name, right: Sought<'_>) -> bool
     ensures { IsTrue result ↔ IsGranted grants.now holder.now right.entry }
 {
@@ -20,6 +21,7 @@ pub fn is_granted(grants: &Grants, holder: &Name, right: Sought<'_>) -> bool
             holder,
             privilege,
         ),
+        Sought::AnyTable => has_any_table(grants.system.as_slice(), holder),
         Sought::Object(table, action) => has_object(
             grants.object.as_slice(),
             holder,
@@ -53,7 +55,7 @@ pub fn has_privilege(
 ) -> bool
     ensures { result ≡ list_any (grants_privilege grantee.now privilege) system.now }
 {
-    system.iter().any(|entry| entry.0 == *grantee && is_same_privilege(entry.1, privilege))
+    system.iter().any(|entry| is_same_privilege(entry.1, privilege) && entry.0 == *grantee)
 }
 
 fn administers_privilege(
@@ -63,9 +65,17 @@ fn administers_privilege(
 ) -> bool
     ensures { result ≡ list_any (λ entry. grants_privilege grantee.now privilege entry && entry.2) system.now }
 {
-    system.iter().any(|entry| entry.0 == *grantee
-        && is_same_privilege(entry.1, privilege)
+    system.iter().any(|entry| is_same_privilege(entry.1, privilege)
+        && entry.0 == *grantee
         && entry.2)
+}
+
+fn has_any_table(system: &[(Name, Privilege, bool)], grantee: &Name) -> bool
+    ensures { result ≡ list_any (grants_any_table grantee.now) system.now }
+{
+    system
+        .iter()
+        .any(|entry| is_any_table(entry.1) && entry.0 == *grantee)
 }
 
 /// Whether the object privilege is granted to the grantee directly.
@@ -77,9 +87,9 @@ pub fn has_object(
 ) -> bool
     ensures { result ≡ list_any (grants_object grantee.now table.now action) object.now }
 {
-    object.iter().any(|entry| entry.0 == *grantee
-        && is_same_table(&entry.1, table)
-        && is_same_action(entry.2, action))
+    object.iter().any(|entry| is_same_action(entry.2, action)
+        && entry.0 == *grantee
+        && is_same_table(&entry.1, table))
 }
 
 fn has_some_object(object: &[(Name, TableName, Action)], grantee: &Name, table: &TableName) -> bool
@@ -100,6 +110,19 @@ pub fn is_same_privilege(a: Privilege, b: Privilege) -> bool
     ensures { result ≡ same_privilege a b }
 {
     a.code() == b.code()
+}
+
+/// Whether the privilege allows an action on any table.
+pub fn is_any_table(privilege: Privilege) -> bool
+    ensures { result ≡ is_any_table privilege }
+{
+    matches!(
+        privilege,
+        Privilege::SelectAnyTable
+            | Privilege::InsertAnyTable
+            | Privilege::UpdateAnyTable
+            | Privilege::DeleteAnyTable
+    )
 }
 
 /// Whether both are one action.

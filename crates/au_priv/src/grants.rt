@@ -19,7 +19,9 @@ use au_base::{Action, Code, GrantStatement, List, Memory, Name, Privilege, Table
 use std::alloc::{AllocError, Global};
 
 /// What was granted to whom (Database Security Guide, "Configuring Privilege and Role
-/// Authorization"). The grantee of each grant stands first.
+/// Authorization"). The grantee of each grant stands first. Changes keep each list in byte order:
+/// by the grantee, then by the number of the privilege, by the role, or by the table's owner and
+/// name and the number of the action.
 #[derive(Debug, Drop, PartialEq, Eq)]
 pub struct Grants {
     /// Grants of system privileges. The truth value is the admin option.

@@ -1,11 +1,27 @@
 //! Laws of grants.
+ghost use Rattle.std.specs.Prelude.{◌≡◌, [], map};
 ghost use Rattle.au_priv.specs.declared.change.GrantChange.{GrantChange};
 ghost use Rattle.au_priv.specs.declared.grants.Grants.{Grants};
-ghost use Rattle.au_priv.specs.Changing.{IsDrop, applied};
+ghost use Rattle.au_priv.specs.Changing.{IsDrop, applied, applied_all, object_grant, role_grant, system_grant};
+ghost use Rattle.au_priv.specs.Order.{AreInOrder};
 ghost use Rattle.au_priv.specs.Rights.{HasNoCircle};
 
 /// No drop closes a circle of roles. It does nothing, and states the law for its callers; that no
 /// statement GRANT or REVOKE closes one is a clause of `Grants::decide`.
 pub fn drops_close_no_circle()
     ensures { (grants : Grants) (change : GrantChange) → IsDrop change → HasNoCircle grants.role → HasNoCircle (applied change grants).role }
+{}
+
+/// Grants that stand in byte order of their fields stand so after any change. It does nothing, and
+/// states the law for its callers.
+pub fn changes_keep_order()
+    ensures { (grants : Grants) (change : GrantChange) → AreInOrder grants → AreInOrder (applied change grants) }
+{}
+
+/// Grants that stand in order are what they make when they are granted in turn, the first first,
+/// where there are none of their kind. It does nothing, and states the law for its callers.
+pub fn grants_in_order_come_back()
+    ensures system { (grants : Grants) → AreInOrder grants → applied_all (map system_grant grants.system) (record grants { system = [] }) ≡ grants }
+    ensures role { (grants : Grants) → AreInOrder grants → applied_all (map role_grant grants.role) (record grants { role = [] }) ≡ grants }
+    ensures object { (grants : Grants) → AreInOrder grants → applied_all (map object_grant grants.object) (record grants { object = [] }) ≡ grants }
 {}

@@ -12,6 +12,7 @@ mod found;
 mod grants;
 mod holding;
 mod laws;
+mod order;
 mod pair;
 mod right;
 mod staged;
@@ -21,7 +22,7 @@ pub use allowed::Allowed;
 pub use change::GrantChange;
 pub use decided::{Decided, Known};
 pub use grants::Grants;
-pub use laws::drops_close_no_circle;
+pub use laws::{changes_keep_order, drops_close_no_circle, grants_in_order_come_back};
 pub use staged::StagedGrants;
 
 #[cfg(test)]

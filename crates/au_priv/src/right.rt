@@ -13,6 +13,8 @@ pub enum Sought<'a> {
     Privilege(Privilege),
     /// A system privilege with the admin option.
     PrivilegeWithAdmin(Privilege),
+    /// One of the four system privileges on any table.
+    AnyTable,
     /// An object privilege.
     Object(&'a TableName, Action),
     /// Some object privilege on the table.

@@ -681,3 +681,115 @@ fn drops_take_grants_along(rt: HostRuntime) -> Result<(), Fail> {
     drops_close_no_circle();
     Ok(())
 }
+
+// in the order in which they are granted
+const SYSTEM_IN_TURN: [SystemRow; 6] = [
+    ("B", Privilege::SelectAnyTable, false),
+    ("a", Privilege::AlterUser, false),
+    ("AB", Privilege::CreateRole, true),
+    ("B", Privilege::AuditSystem, true),
+    ("A", Privilege::UpdateAnyTable, false),
+    ("B", Privilege::SelectAnyTable, true),
+];
+
+const ROLES_IN_TURN: [RoleRow; 5] = [
+    ("B", "R", true),
+    ("B", "AB", false),
+    ("A", "R", false),
+    ("B", "Q", false),
+    ("B", "R", false),
+];
+
+const OBJECTS_IN_TURN: [ObjectRow; 7] = [
+    ("B", "A.T", UPDATE),
+    ("B", "B.S", SELECT),
+    ("B", "A.T", INSERT),
+    ("A", "B.T", Action::Delete),
+    ("B", "A.S", UPDATE),
+    ("B", "A.T", SELECT),
+    ("B", "A.T", INSERT),
+];
+
+// by grantee, then by the number of the privilege, the name of the role, or table and number of the
+// action; `!` is the admin option
+const IN_ORDER: [&str; 3] = [
+    " A+UPDATE ANY TABLE AB+CREATE ROLE! B+AUDIT SYSTEM! B+SELECT ANY TABLE! a+ALTER USER",
+    " A+R B+AB B+Q B+R",
+    " A+B.T DELETE B+A.S UPDATE B+A.T SELECT B+A.T INSERT B+A.T UPDATE B+B.S SELECT",
+];
+
+fn change_system(alloc: Global, made: &mut Grants, row: SystemRow) -> Result<(), Memory> {
+    let (grantee, privilege, admin) = row;
+    let change = GrantChange::SystemGrant(name(alloc, grantee)?, privilege, admin);
+    settle_one(alloc, made, change)
+}
+
+fn change_role(alloc: Global, made: &mut Grants, row: RoleRow) -> Result<(), Memory> {
+    let (grantee, role, admin) = row;
+    let grantee = name(alloc, grantee)?;
+    let change = GrantChange::RoleGrant(grantee, name(alloc, role)?, admin);
+    settle_one(alloc, made, change)
+}
+
+fn change_object(alloc: Global, made: &mut Grants, row: ObjectRow) -> Result<(), Memory> {
+    let (grantee, on, action) = row;
+    let grantee = name(alloc, grantee)?;
+    let change = GrantChange::ObjectGrant(grantee, table(alloc, on)?, action);
+    settle_one(alloc, made, change)
+}
+
+fn settle_one(alloc: Global, made: &mut Grants, change: GrantChange) -> Result<(), Memory> {
+    let mut changes = List::new(alloc);
+    changes.push(change)?;
+    let staged = made.stage(changes.as_slice())?;
+    made.settle(staged);
+    Ok(())
+}
+
+fn written_system(alloc: Global, made: &Grants) -> Result<String, Memory> {
+    let mut text = String::new(alloc);
+    for (to, privilege, admin) in made.system.as_slice() {
+        write_grant(&mut text, to, "+", privilege.name(), *admin)?;
+    }
+    Ok(text)
+}
+
+fn written_roles(alloc: Global, made: &Grants) -> Result<String, Memory> {
+    let mut text = String::new(alloc);
+    for (to, role, admin) in made.role.as_slice() {
+        write_grant(&mut text, to, "+", role.as_str(), *admin)?;
+    }
+    Ok(text)
+}
+
+fn written_objects(alloc: Global, made: &Grants) -> Result<String, Memory> {
+    let mut text = String::new(alloc);
+    for (to, on, action) in made.object.as_slice() {
+        write_grant(&mut text, to, "+", on.owner.as_str(), false)?;
+        text.push_str(".")?;
+        text.push_str(on.name.as_str())?;
+        text.push_str(" ")?;
+        text.push_str(action.name())?;
+    }
+    Ok(text)
+}
+
+#[test]
+fn a_new_grant_stands_in_byte_order(rt: HostRuntime) -> Result<(), Fail> {
+    let mut made = grants(rt.alloc(), &[], &[], &[])?;
+    for row in SYSTEM_IN_TURN {
+        change_system(rt.alloc(), &mut made, row)?;
+    }
+    for row in ROLES_IN_TURN {
+        change_role(rt.alloc(), &mut made, row)?;
+    }
+    for row in OBJECTS_IN_TURN {
+        change_object(rt.alloc(), &mut made, row)?;
+    }
+    assert_eq!(rt; written_system(rt.alloc(), &made)?.as_str(), IN_ORDER[0]);
+    assert_eq!(rt; written_roles(rt.alloc(), &made)?.as_str(), IN_ORDER[1]);
+    assert_eq!(rt; written_objects(rt.alloc(), &made)?.as_str(), IN_ORDER[2]);
+    changes_keep_order();
+    grants_in_order_come_back();
+    Ok(())
+}

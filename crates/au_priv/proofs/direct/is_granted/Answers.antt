@@ -4,7 +4,7 @@ use Rattle.au_priv.specs.declared.grants.Grants.{Grants}
 use Rattle.au_priv.specs.declared.right.Sought.{Sought}
 use Rattle.au_priv.specs.Holding.{IsGranted}
 use Rattle.au_priv.specs.Rights.{Name}
-use Rattle.au_priv.proofs.Entries.{role_granted, role_administered, privilege_granted, privilege_administered, object_granted, some_object_granted}
+use Rattle.au_priv.proofs.Entries.{role_granted, role_administered, privilege_granted, privilege_administered, any_table_granted, object_granted, some_object_granted}
 use Rattle.au_priv.proofs.direct.is_granted.Goals as goal
 
 -- a test of a list that equals another list decides what it does there
@@ -26,6 +26,9 @@ returns-in-Privilege c = at_right _ _ _ _ _ c.in-Privilege.is (along (list_any _
 
 pub returns-in-PrivilegeWithAdmin : goal.returns-in-PrivilegeWithAdmin
 returns-in-PrivilegeWithAdmin c = at_right _ _ _ _ _ c.in-PrivilegeWithAdmin.is (along (list_any _) c.administers_privilege.ensures c.as_slice-in-PrivilegeWithAdmin.ensures (privilege_administered _ _ _))
+
+pub returns-in-AnyTable : goal.returns-in-AnyTable
+returns-in-AnyTable c = at_right _ _ _ _ _ c.in-AnyTable.is (along (list_any _) c.has_any_table.ensures c.as_slice-in-AnyTable.ensures (any_table_granted _ _))
 
 pub returns-in-Object : goal.returns-in-Object
 returns-in-Object c = at_right _ _ _ _ _ c.in-Object.is (along (list_any _) c.has_object.ensures c.as_slice-in-Object.ensures (object_granted _ _ _ _))
