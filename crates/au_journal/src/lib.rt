@@ -25,3 +25,6 @@ pub use journal::Journal;
 pub use mended::Mended;
 pub use mount_fault::MountFault;
 pub use seat::Seat;
+
+#[cfg(test)]
+mod tests;
