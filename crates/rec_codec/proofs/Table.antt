@@ -1,0 +1,350 @@
+-- Each spelling of the table is exact.
+use Rattle.std.proofs.Common.{◌≡◌, ℕ, Bool, true, false, cond, eqb, List, [], ◌∷◌, ◌++◌, Some, None, refl, sym, ap, subst, ◌∙◌, inl, inr}
+use Rattle.std.specs.Prelude.{◌||◌, IsTrue, nat_le, ◌&&◌, length}
+use Rattle.std.specs.Int.{w16, w32, w64}
+use Rattle.std.specs.Str.{IsUtf8, is_utf8, bytes_eq}
+use Rattle.std.proofs.lemmas.Str.{IsUtf8-from_is_utf8, is_utf8-from_IsUtf8}
+use Rattle.au_base.specs.Naming.{IsName}
+use Rattle.rec_codec.proofs.Names.{IsName-from_is_name, is_name-from_IsName}
+use Rattle.std.proofs.lemmas.Bool.{eqb-true}
+use Rattle.au_base.specs.Actions as actions
+use Rattle.au_base.specs.Privileges as privileges
+use Rattle.au_catalog.specs.declared.change.Change.{Change}
+use Rattle.au_catalog.specs.declared.change.Change.TheVariants.{User, Role, SysGrant, RoleGrant, Policy, Enable, Start}
+use Rattle.au_catalog.specs.declared.policy.Enabled.{Enabled}
+use Rattle.au_catalog.specs.declared.policy.Enabled.TheVariants.{Off, By, Except}
+use Rattle.au_catalog.specs.declared.policy.Evaluate.TheVariants.{Statement, Session, Instance}
+use Rattle.au_catalog.specs.declared.policy.Outcomes.{Outcomes}
+use Rattle.au_catalog.specs.declared.trail_record.RecordKind.{RecordKind}
+use Rattle.au_catalog.specs.declared.trail_record.RecordKind.TheVariants.{Standard, FineGrained}
+use Rattle.rec_codec.specs.declared.frame.Frame.{Frame}
+use Rattle.rec_codec.specs.declared.frame.Frame.TheVariants.{Image, Event}
+use Rattle.rec_codec.specs.Spelling.{Spelling, byte, counted, is_without_repeats, led_by, long, Behind, nothing, number, option, pair, such_that, tagged_first}
+use Rattle.rec_codec.specs.Parts.{is_name, name, text, truth, truth_code, truth_with, stamp, session, return_code, verifier, privilege, privilege_with, action, action_with, outcomes, outcomes_code, outcomes_with, table, names, is_rising, privileges_in_order}
+use Rattle.rec_codec.specs.Changes.{Condition, parts, same_part, when, when_behind, are_users, users, off, enabled, enabled_behind, user, system_grant, role_grant, policy, made_policy, enablement, change, change_behind}
+use Rattle.rec_codec.specs.Records.{kind, kind_code, kind_with, done_action, statement_text, demanding, origin, deed, grounds, trail_record}
+use Rattle.rec_codec.specs.Frames.{body, frame, frame_behind}
+use Rattle.rec_codec.proofs.CodeLaws.{privilege_forth, privilege_back, action_forth, action_back}
+use Rattle.rec_codec.proofs.Exact.{IsBytes, IsExact, Takes, IsBehind, behind_behind, bind_some, byte_exact, chosen, coded_exact, counted_exact, led_by_exact, long_exact, made_of_exact, no_other_behind, nothing_exact, number_exact, only_exact, option_exact, pair_exact, run_exact, some_is, such_that_exact, wide16, wide32, wide64, IsBytes-rest}
+
+exact16 : IsExact (number w16)
+exact16 = number_exact w16 wide16
+
+exact32 : IsExact (number w32)
+exact32 = number_exact w32 wide32
+
+exact64 : IsExact (number w64)
+exact64 = number_exact w64 wide64
+
+pub name_exact : IsExact name
+unfolding name
+name_exact = only_exact (long (number w16)) IsName is_name IsName-from_is_name is_name-from_IsName (long_exact (number w16) exact16)
+
+text_exact : IsExact text
+unfolding text
+text_exact = only_exact (long (number w32)) IsUtf8 is_utf8 IsUtf8-from_is_utf8 is_utf8-from_IsUtf8 (long_exact (number w32) exact32)
+
+truth_forth : (b : Bool) → truth_with (truth_code b) ≡ Some b
+truth_forth false = refl
+truth_forth true = refl
+
+truth_back : (n : ℕ) (b : Bool) → truth_with n ≡ Some b → truth_code b ≡ n
+truth_back n b e =
+    elim (chosen (eqb n 0) (Some false) (cond (eqb n 1) (Some true) None) (Some b) e) [
+      | inl p ↦ ap truth_code (sym (some_is false b p.1)) ∙ sym (eqb-true _ _ p.0)
+      | inr p ↦ (elim (chosen (eqb n 1) (Some true) None (Some b) p.1) [
+        | inl q ↦ ap truth_code (sym (some_is true b q.1)) ∙ sym (eqb-true _ _ q.0)
+        | inr q ↦ absurd (cc q.1)
+      ])
+    ]
+
+truth_exact : IsExact truth
+unfolding truth
+truth_exact = coded_exact truth_code truth_with truth_forth truth_back
+
+kind_forth : (k : RecordKind) → kind_with (kind_code k) ≡ Some k
+kind_forth Standard = refl
+kind_forth FineGrained = refl
+
+kind_back : (n : ℕ) (k : RecordKind) → kind_with n ≡ Some k → kind_code k ≡ n
+kind_back n k e =
+    elim (chosen (eqb n 1) (Some Standard) (cond (eqb n 2) (Some FineGrained) None) (Some k) e) [
+      | inl p ↦ ap kind_code (sym (some_is Standard k p.1)) ∙ sym (eqb-true _ _ p.0)
+      | inr p ↦ (elim (chosen (eqb n 2) (Some FineGrained) None (Some k) p.1) [
+        | inl q ↦ ap kind_code (sym (some_is FineGrained k q.1)) ∙ sym (eqb-true _ _ q.0)
+        | inr q ↦ absurd (cc q.1)
+      ])
+    ]
+
+kind_exact : IsExact kind
+unfolding kind
+kind_exact = coded_exact kind_code kind_with kind_forth kind_back
+
+stamp_exact : IsExact stamp
+unfolding stamp
+stamp_exact = made_of_exact (such_that (number w64) (λ n. nat_le n 253_402_300_799_999_999)) (λ n. record { 0 = n }) (λ s. s.0) (λ n. refl) (λ s. refl) (such_that_exact (number w64) (λ n. nat_le n 253_402_300_799_999_999) exact64)
+
+session_exact : IsExact session
+unfolding session
+session_exact = made_of_exact (such_that (number w64) (λ n. nat_le n 999_999_999_999_999_999)) (λ n. record { 0 = n }) (λ s. s.0) (λ n. refl) (λ s. refl) (such_that_exact (number w64) (λ n. nat_le n 999_999_999_999_999_999) exact64)
+
+return_code_exact : IsExact return_code
+unfolding return_code
+return_code_exact = made_of_exact (number w32) (λ n. record { 0 = n }) (λ s. s.0) (λ n. refl) (λ s. refl) exact32
+
+verifier_exact : IsExact verifier
+unfolding verifier
+verifier_exact = run_exact 32
+
+privilege_exact : IsExact privilege
+unfolding privilege
+privilege_exact = coded_exact privileges.code_of privilege_with privilege_forth privilege_back
+
+action_exact : IsExact action
+unfolding action
+action_exact = coded_exact actions.code_of action_with action_forth action_back
+
+outcomes_forth : (s f : Bool) → IsTrue (s || f) → outcomes_with (outcomes_code (record { success = s; failure = f })) ≡ Some (record { success = s; failure = f })
+outcomes_forth true true h = refl
+outcomes_forth true false h = refl
+outcomes_forth false true h = refl
+outcomes_forth false false h = absurd cc
+
+outcomes_back : (n : ℕ) (o : Outcomes) → outcomes_with n ≡ Some o → (outcomes_code o ≡ n) × IsTrue (o.success || o.failure)
+outcomes_back n o e =
+    let one : Outcomes = record { success = true; failure = false } in
+    let two : Outcomes = record { success = false; failure = true } in
+    let three : Outcomes = record { success = true; failure = true } in
+    elim (chosen (eqb n 1) (Some one) (cond (eqb n 2) (Some two) (cond (eqb n 3) (Some three) None)) (Some o) e) [
+      | inl p ↦ subst (λ (x : Outcomes). (outcomes_code x ≡ n) × IsTrue (x.success || x.failure)) (some_is one o p.1) (sym (eqb-true _ _ p.0), refl)
+      | inr p ↦ (elim (chosen (eqb n 2) (Some two) (cond (eqb n 3) (Some three) None) (Some o) p.1) [
+        | inl q ↦ subst (λ (x : Outcomes). (outcomes_code x ≡ n) × IsTrue (x.success || x.failure)) (some_is two o q.1) (sym (eqb-true _ _ q.0), refl)
+        | inr q ↦ (elim (chosen (eqb n 3) (Some three) None (Some o) q.1) [
+          | inl r ↦ subst (λ (x : Outcomes). (outcomes_code x ≡ n) × IsTrue (x.success || x.failure)) (some_is three o r.1) (sym (eqb-true _ _ r.0), refl)
+          | inr r ↦ absurd (cc r.1)
+        ])
+      ])
+    ]
+
+outcomes_takes : (bytes : List ℕ) (x : Outcomes × List ℕ) → IsBytes bytes → outcomes.first bytes ≡ Some x → Takes outcomes bytes x
+unfolding outcomes
+outcomes_takes [] x fits e = absurd cc
+outcomes_takes (b ∷ bytes) x fits e =
+    let a = bind_some (outcomes_with b) (λ (o : Outcomes). Some (o, bytes)) x e in
+    let back = outcomes_back b a.0 a.1 in
+    subst (Takes outcomes (b ∷ bytes)) (some_is (a.0, bytes) x a.2) (record { spellable = back.1; parts = ap (λ (n : ℕ). n ∷ bytes) (sym back.0); rest_fits = IsBytes-rest b bytes fits })
+
+outcomes_again : (o : Outcomes) (rest : List ℕ) → outcomes.IsSpellable o → outcomes.first (outcomes.spelled o ++ rest) ≡ Some (o, rest)
+unfolding outcomes
+outcomes_again o rest h = rw (outcomes_forth o.success o.failure h) refl
+
+outcomes_exact : IsExact outcomes
+outcomes_exact = record { takes = outcomes_takes; again = outcomes_again }
+
+table_exact : IsExact table
+unfolding table
+table_exact = made_of_exact (pair name name) (λ x. record { owner = x.0; name = x.1 }) (λ t. (t.owner, t.name)) (λ x. refl) (λ t. refl) (pair_exact name name name_exact name_exact)
+
+names_exact : IsExact names
+unfolding names
+names_exact = such_that_exact (counted (number w16) name) (is_without_repeats bytes_eq) (counted_exact (number w16) name exact16 name_exact)
+
+privileges_exact : IsExact privileges_in_order
+unfolding privileges_in_order
+privileges_exact = such_that_exact (counted byte privilege) (is_rising 0) (counted_exact byte privilege byte_exact privilege_exact)
+
+-- ---- changes
+
+parts_exact : IsExact parts
+unfolding parts
+parts_exact = such_that_exact (counted (number w16) (pair action (option table))) (is_without_repeats same_part) (counted_exact (number w16) (pair action (option table)) exact16 (pair_exact action (option table) action_exact (option_exact table table_exact)))
+
+when_reads : IsBehind when when_behind
+unfolding when when_behind
+when_reads =
+    behind_behind when 0 nothing (λ x. None) _ (λ x. refl) (λ x h. tt) nothing_exact
+    (behind_behind when 1 text (λ condition. Some (Statement, condition)) _ (λ x. refl) (λ x h. h) text_exact
+    (behind_behind when 2 text (λ condition. Some (Session, condition)) _ (λ x. refl) (λ x h. h) text_exact
+    (behind_behind when 3 text (λ condition. Some (Instance, condition)) _ (λ x. refl) (λ x h. h) text_exact
+    (no_other_behind when))))
+
+-- a spelling that begins with a tag
+tagged_takes : {X : Type 0} (s : Spelling X) (others : Behind X) → IsBehind s others → ((bytes : List ℕ) → s.first bytes ≡ tagged_first others bytes) → (bytes : List ℕ) (x : X × List ℕ) → IsBytes bytes → s.first bytes ≡ Some x → Takes s bytes x
+tagged_takes s others reads same [] x fits e = let none : tagged_first others [] ≡ Some x = sym (same []) ∙ e in absurd cc
+tagged_takes s others reads same (tag ∷ bytes) x fits e = reads.takes tag bytes x (IsBytes-rest tag bytes fits) (sym (same (tag ∷ bytes)) ∙ e)
+
+when_again : (x : Condition) (rest : List ℕ) → when.IsSpellable x → when.first (when.spelled x ++ rest) ≡ Some (x, rest)
+unfolding when when_behind
+when_again None rest h = refl
+when_again (Some (Statement, condition)) rest h = rw (text_exact.again condition rest h) refl
+when_again (Some (Session, condition)) rest h = rw (text_exact.again condition rest h) refl
+when_again (Some (Instance, condition)) rest h = rw (text_exact.again condition rest h) refl
+
+when_first : (bytes : List ℕ) → when.first bytes ≡ tagged_first when_behind bytes
+unfolding when
+when_first bytes = refl
+
+when_exact : IsExact when
+when_exact = record { takes = tagged_takes when when_behind when_reads when_first; again = when_again }
+
+users_exact : IsExact users
+unfolding users
+users_exact = such_that_exact (counted (number w16) (pair name outcomes)) are_users (counted_exact (number w16) (pair name outcomes) exact16 (pair_exact name outcomes name_exact outcomes_exact))
+
+off_exact : IsExact off
+unfolding off
+off_exact = led_by_exact 0 (led_by 0 (led_by 0 nothing)) (led_by_exact 0 (led_by 0 nothing) (led_by_exact 0 nothing nothing_exact))
+
+off_fits : off.IsSpellable tt
+unfolding off
+off_fits = tt
+
+except_exact : IsExact (pair outcomes names)
+except_exact = pair_exact outcomes names outcomes_exact names_exact
+
+enabled_reads : IsBehind enabled enabled_behind
+unfolding enabled enabled_behind
+enabled_reads =
+    behind_behind enabled 0 off (λ x. Off) _ (λ x. refl) (λ x h. tt) off_exact
+    (behind_behind enabled 1 (led_by 0 users) By _ (λ x. refl) (λ x h. h) (led_by_exact 0 users users_exact)
+    (behind_behind enabled 2 (pair outcomes names) (λ x. Except x.1 x.0) _ (λ x. refl) (λ x h. h) except_exact
+    (no_other_behind enabled)))
+
+enabled_again : (x : Enabled) (rest : List ℕ) → enabled.IsSpellable x → enabled.first (enabled.spelled x ++ rest) ≡ Some (x, rest)
+unfolding enabled enabled_behind
+enabled_again Off rest h = rw (off_exact.again tt rest off_fits) refl
+enabled_again (By us) rest h = rw (users_exact.again us rest h) refl
+enabled_again (Except ns o) rest h = rw (except_exact.again (o, ns) rest h) refl
+
+enabled_first : (bytes : List ℕ) → enabled.first bytes ≡ tagged_first enabled_behind bytes
+unfolding enabled
+enabled_first bytes = refl
+
+enabled_exact : IsExact enabled
+enabled_exact = record { takes = tagged_takes enabled enabled_behind enabled_reads enabled_first; again = enabled_again }
+
+user_exact : IsExact user
+unfolding user
+user_exact = pair_exact name verifier name_exact verifier_exact
+
+system_grant_exact : IsExact system_grant
+unfolding system_grant
+system_grant_exact = pair_exact name (pair privilege truth) name_exact (pair_exact privilege truth privilege_exact truth_exact)
+
+role_grant_exact : IsExact role_grant
+unfolding role_grant
+role_grant_exact = pair_exact name (pair name truth) name_exact (pair_exact name truth name_exact truth_exact)
+
+policy_exact : IsExact policy
+unfolding policy
+policy_exact =
+    pair_exact name (pair privileges_in_order (pair parts (pair names when))) name_exact
+    (pair_exact privileges_in_order (pair parts (pair names when)) privileges_exact
+    (pair_exact parts (pair names when) parts_exact
+    (pair_exact names when names_exact when_exact)))
+
+enablement_exact : IsExact enablement
+unfolding enablement
+enablement_exact = pair_exact name enabled name_exact enabled_exact
+
+change_reads : IsBehind change change_behind
+unfolding change change_behind
+change_reads =
+    behind_behind change 1 user (λ x. User x.0 x.1) _ (λ x. refl) (λ x h. h) user_exact
+    (behind_behind change 3 name Role _ (λ x. refl) (λ x h. h) name_exact
+    (behind_behind change 5 system_grant (λ x. SysGrant x.0 x.1.0 x.1.1) _ (λ x. refl) (λ x h. h) system_grant_exact
+    (behind_behind change 7 role_grant (λ x. RoleGrant x.0 x.1.0 x.1.1) _ (λ x. refl) (λ x h. h) role_grant_exact
+    (behind_behind change 15 policy made_policy _ (λ x. refl) (λ x h. h) policy_exact
+    (behind_behind change 17 enablement (λ x. Enable x.0 x.1) _ (λ x. refl) (λ x h. h) enablement_exact
+    (behind_behind change 21 (number w32) Start _ (λ x. refl) (λ x h. h) exact32
+    (no_other_behind change)))))))
+
+change_again : (x : Change) (rest : List ℕ) → change.IsSpellable x → change.first (change.spelled x ++ rest) ≡ Some (x, rest)
+unfolding change change_behind
+change_again (User n v) rest h = rw (user_exact.again (n, v) rest h) refl
+change_again (Role n) rest h = rw (name_exact.again n rest h) refl
+change_again (SysGrant n p a) rest h = rw (system_grant_exact.again (n, (p, a)) rest h) refl
+change_again (RoleGrant n r a) rest h = rw (role_grant_exact.again (n, (r, a)) rest h) refl
+change_again (Policy n ps ts rs w) rest h = rw (policy_exact.again (n, (ps, (ts, (rs, w)))) rest h) refl
+change_again (Enable n e) rest h = rw (enablement_exact.again (n, e) rest h) refl
+change_again (Start i) rest h = rw (exact32.again i rest h) refl
+
+change_first : (bytes : List ℕ) → change.first bytes ≡ tagged_first change_behind bytes
+unfolding change
+change_first bytes = refl
+
+change_exact : IsExact change
+change_exact = record { takes = tagged_takes change change_behind change_reads change_first; again = change_again }
+
+-- ---- records
+
+done_action_exact : IsExact done_action
+unfolding done_action
+done_action_exact = such_that_exact action (λ a. nat_le 1 (actions.code_of a)) action_exact
+
+statement_text_exact : IsExact statement_text
+unfolding statement_text
+statement_text_exact = such_that_exact text (λ bytes. nat_le 1 (length bytes) && nat_le (length bytes) 32_767) text_exact
+
+demanding_exact : IsExact demanding
+unfolding demanding
+demanding_exact = such_that_exact names (λ ns. nat_le (length ns) 10_001) names_exact
+
+origin_exact : IsExact origin
+unfolding origin
+origin_exact =
+    made_of_exact (pair kind (pair session (pair (number w32) (pair (number w32) (pair stamp name))))) _ _ (λ x. refl) (λ o. refl)
+    (pair_exact kind (pair session (pair (number w32) (pair (number w32) (pair stamp name)))) kind_exact
+    (pair_exact session (pair (number w32) (pair (number w32) (pair stamp name))) session_exact
+    (pair_exact (number w32) (pair (number w32) (pair stamp name)) exact32
+    (pair_exact (number w32) (pair stamp name) exact32
+    (pair_exact stamp name stamp_exact name_exact)))))
+
+deed_exact : IsExact deed
+unfolding deed
+deed_exact =
+    made_of_exact (pair done_action (pair (option name) (pair (option name) (option statement_text)))) _ _ (λ x. refl) (λ d. refl)
+    (pair_exact done_action (pair (option name) (pair (option name) (option statement_text))) done_action_exact
+    (pair_exact (option name) (pair (option name) (option statement_text)) (option_exact name name_exact)
+    (pair_exact (option name) (option statement_text) (option_exact name name_exact) (option_exact statement_text statement_text_exact))))
+
+grounds_exact : IsExact grounds
+unfolding grounds
+grounds_exact =
+    made_of_exact (pair privileges_in_order (pair demanding (pair (option name) return_code))) _ _ (λ x. refl) (λ g. refl)
+    (pair_exact privileges_in_order (pair demanding (pair (option name) return_code)) privileges_exact
+    (pair_exact demanding (pair (option name) return_code) demanding_exact
+    (pair_exact (option name) return_code (option_exact name name_exact) return_code_exact)))
+
+trail_record_exact : IsExact trail_record
+unfolding trail_record
+trail_record_exact =
+    made_of_exact (pair origin (pair deed grounds)) _ _ (λ x. refl) (λ r. refl)
+    (pair_exact origin (pair deed grounds) origin_exact (pair_exact deed grounds deed_exact grounds_exact))
+
+-- ---- frames
+
+body_exact : IsExact body
+unfolding body
+body_exact =
+    pair_exact stamp (pair (counted (number w32) change) (counted (number w32) trail_record)) stamp_exact
+    (pair_exact (counted (number w32) change) (counted (number w32) trail_record) (counted_exact (number w32) change exact32 change_exact) (counted_exact (number w32) trail_record exact32 trail_record_exact))
+
+frame_reads : IsBehind frame frame_behind
+unfolding frame frame_behind
+frame_reads =
+    behind_behind frame 1 body (λ x. Image x.0 x.1.0 x.1.1) _ (λ x. refl) (λ x h. h) body_exact
+    (behind_behind frame 2 body (λ x. Event x.0 x.1.0 x.1.1) _ (λ x. refl) (λ x h. h) body_exact
+    (no_other_behind frame))
+
+frame_again : (x : Frame) (rest : List ℕ) → frame.IsSpellable x → frame.first (frame.spelled x ++ rest) ≡ Some (x, rest)
+unfolding frame frame_behind
+frame_again (Image last changes records) rest h = rw (body_exact.again (last, (changes, records)) rest h) refl
+frame_again (Event moment changes records) rest h = rw (body_exact.again (moment, (changes, records)) rest h) refl
+
+frame_first : (bytes : List ℕ) → frame.first bytes ≡ tagged_first frame_behind bytes
+unfolding frame
+frame_first bytes = refl
+
+pub frame_exact : IsExact frame
+frame_exact = record { takes = tagged_takes frame frame_behind frame_reads frame_first; again = frame_again }

@@ -1,0 +1,6 @@
+pub mod Changes
+pub mod Frames
+pub mod Given
+pub mod Parts
+pub mod Records
+pub mod Spelling

@@ -1,0 +1,24 @@
+//! The frames of the journal: how their bodies are spelled, written and read.
+#![tactic(auto)]
+
+mod changes;
+mod codes;
+mod enabled;
+mod frame;
+mod frames;
+mod lists;
+mod numbers;
+mod parts;
+mod policies;
+mod read_error;
+mod record_parts;
+mod records;
+mod repeats;
+mod spelled;
+mod stamps;
+
+pub use frame::Frame;
+pub use frames::{one_front, one_reading, read, write, write_framed};
+
+#[cfg(test)]
+mod tests;

@@ -1,0 +1,94 @@
+//! Values that have a spelling.
+ghost use Rattle.std.specs.Prelude.{◌≡◌, ◌++◌, OnOk};
+ghost use Rattle.std.specs.List.{flat_map, AllByRecursion};
+ghost use Rattle.rec_codec.specs.Spelling.{Spelling, many_first, pair, option};
+ghost use Rattle.rec_codec.specs.Given.{Gives};
+
+use crate::numbers::{read_u8, write_u8};
+use crate::read_error::ReadError;
+use au_base::{List, Memory};
+use std::alloc::Global;
+
+/// A value that stands in frames in one way.
+pub(crate) trait Spelled: Drop + Sized {
+    ghost spelling: { Spelling Self };
+
+    /// Writes the value at the end.
+    fn write(&self, out: &mut Vec<u8>) -> Result<(), Memory>
+        requires { spelling.IsSpellable self.now }
+        ensures { OnOk result (out.new.items ≡ out.old.items ++ spelling.spelled self.now) };
+
+    /// The value at the front, and the bytes behind it.
+    fn read(alloc: Global, bytes: &[u8]) -> Result<(Self, &[u8]), ReadError>
+        ensures { Gives (λ x. (x.0, x.1.now)) result (spelling.first bytes.now) };
+}
+
+/// Writes the values at the end, one behind the other.
+pub(crate) fn write_many<T: Spelled>(values: &[T], out: &mut Vec<u8>) -> Result<(), Memory>
+    requires { AllByRecursion T.spelling.IsSpellable values.now }
+    ensures { OnOk result (out.new.items ≡ out.old.items ++ flat_map T.spelling.spelled values.now) }
+{
+    for value in values {
+        value.write(out)?;
+    }
+    Ok(())
+}
+
+/// So many values at the front, and the bytes behind them. Memory is taken for what is read, and not
+/// for the count.
+pub(crate) fn read_many<T: Spelled>(
+    alloc: Global,
+    count: u32,
+    bytes: &[u8],
+) -> Result<(List<T>, &[u8]), ReadError>
+    ensures { Gives (λ x. (x.0, x.1.now)) result (many_first T.spelling count bytes.now) }
+{
+    let mut values = List::new(alloc);
+    let mut rest = bytes;
+    for _ in 0..count {
+        let (value, after) = T::read(alloc, rest)?;
+        values.push(value)?;
+        rest = after;
+    }
+    Ok((values, rest))
+}
+
+impl<A: Spelled, B: Spelled> Spelled for (A, B) {
+    ghost spelling = { pair A.spelling B.spelling };
+
+    fn write(&self, out: &mut Vec<u8>) -> Result<(), Memory> {
+        self.0.write(out)?;
+        self.1.write(out)
+    }
+
+    fn read(alloc: Global, bytes: &[u8]) -> Result<(Self, &[u8]), ReadError> {
+        let (first, rest) = A::read(alloc, bytes)?;
+        let (second, rest) = B::read(alloc, rest)?;
+        Ok(((first, second), rest))
+    }
+}
+
+impl<T: Spelled> Spelled for Option<T> {
+    ghost spelling = { option T.spelling };
+
+    fn write(&self, out: &mut Vec<u8>) -> Result<(), Memory> {
+        match self {
+            None => write_u8(out, 0),
+            Some(value) => {
+                write_u8(out, 1)?;
+                value.write(out)
+            }
+        }
+    }
+
+    fn read(alloc: Global, bytes: &[u8]) -> Result<(Self, &[u8]), ReadError> {
+        match bytes {
+            [0, rest @ ..] => Ok((None, rest)),
+            [1, rest @ ..] => {
+                let (value, rest) = T::read(alloc, rest)?;
+                Ok((Some(value), rest))
+            }
+            _ => Err(ReadError::NoFrame),
+        }
+    }
+}
