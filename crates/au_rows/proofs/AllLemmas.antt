@@ -1,0 +1,178 @@
+-- What the end of a client's changes leaves, row by row.
+use Rattle.std.proofs.Common.{◌≡◌, ◌⊎◌, inl, inr, ℕ, zero, suc, ◌+◌, ◌≤◌, Bool, true, false, ◌||◌, List, [], ◌∷◌, length, drop, refl, ap, ap₂, sym, subst, ◌∙◌, arith, Option, Some, None}
+use Rattle.std.specs.Prelude.{◌==◌}
+use Rattle.std.specs.List.{list_all, list_any, count_by}
+use Rattle.std.specs.Option.{option_and_then}
+use Rattle.std.proofs.lemmas.Grind.{common_steps}
+use Rattle.au_base.specs.declared.numbers.RowNo.{RowNo}
+use Rattle.au_base.specs.declared.numbers.ClientNo.{ClientNo}
+use Rattle.au_rows.specs.declared.ending.Ending.{Ending}
+use Rattle.au_rows.specs.declared.place.Place.{Place}
+use Rattle.au_rows.specs.declared.unsettled.Unsettled.{Unsettled}
+use Rattle.au_rows.specs.declared.version.Version.{Version}
+use Rattle.au_rows.specs.Ends.{EndedBefore, IfOwn, IsCovered, KeptOrEnded, RowEnded, is_own, is_own_of}
+use Rattle.au_rows.specs.Held.{is_by, is_this}
+use Rattle.au_rows.specs.Kept.{is_owned, is_version, is_whole, owner_in, place_in, place_owner, place_shown}
+use Rattle.au_rows.specs.Order.{in_order}
+use Rattle.au_rows.proofs.EndLemmas.{frees-trans}
+
+abbrev owner_at : Option Place → Option ClientNo
+owner_at place = option_and_then place_owner place
+
+pub this-table : (table : ℕ) (number : RowNo) (t : ℕ) (n : RowNo) → is_this table number t n ≡ true → t ≡ table
+this-table table number t n h = grind (arith, common_steps)
+
+pub this-number : (table : ℕ) (number : RowNo) (t : ℕ) (n : RowNo) → is_this table number t n ≡ true → n.0 ≡ number.0
+this-number table number t n h = grind (arith, common_steps)
+
+pub same-row : (places : List Place) (table : ℕ) (number : RowNo) (t : ℕ) (n : RowNo) → is_this table number t n ≡ true → place_in t n places ≡ place_in table number places
+same-row places table number t n h =
+    ap₂ (λ (a b : ℕ). place_in a (record { 0 = b }) places) (this-table table number t n h) (this-number table number t n h)
+
+by-own : (by c : ClientNo) (owner : Option ClientNo) → (c.0 == by.0) ≡ true → is_by c owner ≡ is_by by owner
+by-own by c None h = refl
+by-own by c (Some owner) h = let same : c.0 ≡ by.0 = grind (arith, common_steps) in ap (λ (x : ℕ). owner.0 == x) same
+
+pub no-more : (b : Bool) → b ≡ true → b ≡ false → ⊥
+no-more b t f = let e : true ≡ false = sym t ∙ f in cc
+
+pub count-first : {X : Type 0} (f : X → Bool) (x : X) (xs : List X) → f x ≡ true → count_by f (x ∷ xs) ≡ 1 + count_by f xs
+count-first f x xs h = grind (arith, common_steps)
+
+pub count-none : {X : Type 0} (f : X → Bool) (x : X) (xs : List X) → f x ≡ false → count_by f (x ∷ xs) ≡ count_by f xs
+count-none f x xs h = grind (arith, common_steps)
+
+-- nothing has ended before any change has ended
+pub ended-none : (e : Ending) (by : ClientNo) (changes : List Unsettled) (places : List Place) (slots : List (Option Version))
+    → in_order places ≡ true → list_all (is_whole slots) places ≡ true → IsCovered by places changes
+    → EndedBefore e by changes changes places slots places slots
+ended-none e by changes places slots order whole covered = record {
+  order = order;
+  whole = whole;
+  left = λ h. h;
+  open_tables = λ tables h. h;
+  numbered = λ h. h;
+  rows = refl;
+  elsewhere = λ t n slot other is. refl;
+  frees = λ slot. inl refl;
+  others = λ t n. same (is_by by (owner_in t n places)) (place_in t n places);
+  ahead = covered;
+  shown = omega arith;
+}
+  where
+    same : (b : Bool) (o : Option Place) → KeptOrEnded b o o
+    same true o = inl refl
+    same false o = refl
+
+module _ (e : Ending) (by : ClientNo) (change : Unsettled) (rest changes : List Unsettled) (old mid new : List Place) (before during after : List (Option Version))
+    (so_far : EndedBefore e by (change ∷ rest) changes old before mid during)
+    (owned : is_owned old change ≡ true) where
+  step-own : is_own by change ≡ true → RowEnded e change.table change.number by mid during new after → EndedBefore e by rest changes old before new after
+  step-own own row = record {
+    order = row.order;
+    whole = row.whole;
+    left = λ h. row.left (so_far.left h);
+    open_tables = λ tables h. row.open_tables tables (so_far.open_tables tables h);
+    numbered = λ h. row.numbered (so_far.numbered h);
+    rows = row.rows ∙ so_far.rows;
+    elsewhere = λ t n slot non is.
+        let first = so_far.elsewhere t n slot non is in
+        row.elsewhere t n slot (apart t (record { 0 = n }) non) (ap (is_version t n) first ∙ is) ∙ first;
+    frees = frees-trans before during after so_far.frees row.frees;
+    others = λ t n. others t n (is_this change.table change.number t n) refl;
+    ahead = λ t n is. ahead t n is (is_this change.table change.number t n) refl;
+    shown = shown;
+  }
+    where
+      mine : is_by by (owner_in change.table change.number old) ≡ true
+      mine = sym (by-own by change.by (owner_in change.table change.number old) own) ∙ owned
+
+      apart : (t : ℕ) (n : RowNo) → is_by by (owner_in t n old) ≡ false → is_this change.table change.number t n ≡ false
+      apart t n non = go (is_this change.table change.number t n) refl
+        where
+          go : (b : Bool) → is_this change.table change.number t n ≡ b → is_this change.table change.number t n ≡ false
+          go false h = h
+          go true h = absurd (no-more (is_by by (owner_in t n old)) (ap (λ (o : Option Place). is_by by (owner_at o)) (same-row old change.table change.number t n h) ∙ mine) non)
+
+      shown : count_by place_shown new + count_by (is_own by) rest ≤ count_by place_shown old + count_by (is_own by) changes
+      shown =
+          let one = count-first (is_own by) change rest own in
+          let a = so_far.shown in let b = row.shown in omega arith
+
+      others : (t : ℕ) (n : RowNo) (b : Bool) → is_this change.table change.number t n ≡ b → KeptOrEnded (is_by by (owner_in t n old)) (place_in t n old) (place_in t n new)
+      others t n false h = subst (λ (o : Option Place). KeptOrEnded (is_by by (owner_in t n old)) (place_in t n old) o) (sym (row.others t n h)) (so_far.others t n)
+      others t n true h = here row.here
+        where
+          at_new : place_in t n new ≡ place_in change.table change.number new
+          at_new = same-row new change.table change.number t n h
+
+          at_mid : place_in t n mid ≡ place_in change.table change.number mid
+          at_mid = same-row mid change.table change.number t n h
+
+          is_mine : is_by by (owner_in t n old) ≡ true
+          is_mine = ap (λ (o : Option Place). is_by by (owner_at o)) (same-row old change.table change.number t n h) ∙ mine
+
+          here : (owner_in change.table change.number new ≡ None) ⊎ ((is_by by (owner_in change.table change.number mid) ≡ false) × (place_in change.table change.number new ≡ place_in change.table change.number mid))
+              → KeptOrEnded (is_by by (owner_in t n old)) (place_in t n old) (place_in t n new)
+          here (inl none) = rw is_mine (inr (ap owner_at at_new ∙ none))
+          here (inr same) = subst (λ (o : Option Place). KeptOrEnded (is_by by (owner_in t n old)) (place_in t n old) o) (at_mid ∙ (sym same.1 ∙ sym at_new)) (so_far.others t n)
+
+      ahead : (t : ℕ) (n : RowNo) → is_by by (owner_in t n new) ≡ true → (b : Bool) → is_this change.table change.number t n ≡ b → list_any (is_own_of t n by) rest ≡ true
+      ahead t n is false h =
+          let was : is_by by (owner_in t n mid) ≡ true = ap (λ (o : Option Place). is_by by (owner_at o)) (sym (row.others t n h)) ∙ is in
+          let some : list_any (is_own_of t n by) (change ∷ rest) ≡ true = so_far.ahead t n was in
+          let different : is_own_of t n by change ≡ false = other in
+          let or : (is_own_of t n by change || list_any (is_own_of t n by) rest) ≡ true = some in
+          rw different at or
+        where
+          other : is_own_of t n by change ≡ false
+          other = grind (arith, common_steps)
+      ahead t n is true h = absurd (here row.here)
+        where
+          at_new : place_in t n new ≡ place_in change.table change.number new
+          at_new = same-row new change.table change.number t n h
+
+          here : (owner_in change.table change.number new ≡ None) ⊎ ((is_by by (owner_in change.table change.number mid) ≡ false) × (place_in change.table change.number new ≡ place_in change.table change.number mid)) → ⊥
+          here (inl none) = no-more (is_by by (owner_in t n new)) is (ap (λ (o : Option Place). is_by by (owner_at o)) at_new ∙ ap (is_by by) none)
+          here (inr same) = no-more (is_by by (owner_in t n new)) is (ap (λ (o : Option Place). is_by by (owner_at o)) (at_new ∙ same.1) ∙ same.0)
+
+  step-other : is_own by change ≡ false → new ≡ mid → after ≡ during → EndedBefore e by rest changes old before new after
+  step-other non places slots = subst (λ (ps : List Place). EndedBefore e by rest changes old before ps after) (sym places) (subst (λ (ss : List (Option Version)). EndedBefore e by rest changes old before mid ss) (sym slots) same)
+    where
+      same : EndedBefore e by rest changes old before mid during
+      same = record {
+        order = so_far.order;
+        whole = so_far.whole;
+        left = so_far.left;
+        open_tables = so_far.open_tables;
+        numbered = so_far.numbered;
+        rows = so_far.rows;
+        elsewhere = so_far.elsewhere;
+        frees = so_far.frees;
+        others = so_far.others;
+        ahead = λ t n is. ahead t n (so_far.ahead t n is);
+        shown = shown;
+      }
+        where
+          shown : count_by place_shown mid + count_by (is_own by) rest ≤ count_by place_shown old + count_by (is_own by) changes
+          shown =
+              let none = count-none (is_own by) change rest non in
+              let a = so_far.shown in omega arith
+
+          ahead : (t : ℕ) (n : RowNo) → list_any (is_own_of t n by) (change ∷ rest) ≡ true → list_any (is_own_of t n by) rest ≡ true
+          ahead t n some =
+              let not_own : is_own_of t n by change ≡ false = grind (arith, common_steps) in
+              let or : (is_own_of t n by change || list_any (is_own_of t n by) rest) ≡ true = some in
+              rw not_own at or
+
+  pub ended-step : IfOwn (is_own by change) e change.table change.number by mid during new after → EndedBefore e by rest changes old before new after
+  ended-step = go (is_own by change) refl
+    where
+      go : (b : Bool) → is_own by change ≡ b → IfOwn b e change.table change.number by mid during new after → EndedBefore e by rest changes old before new after
+      go true own row = step-own own row
+      go false non same = step-other non same.0 same.1
+
+pub drop-past : {X : Type 0} (xs : List X) (i : ℕ) → length xs ≤ i → drop i xs ≡ []
+drop-past [] i h = grind (arith, common_steps)
+drop-past (x ∷ xs) zero h = absurd (omega arith)
+drop-past (x ∷ xs) (suc i) h = let rest : length xs ≤ i = omega arith in drop-past xs i rest

@@ -1,0 +1,14 @@
+pub mod AgreeLemmas
+pub mod AllLemmas
+pub mod ClosingLemmas
+pub mod DropLemmas
+pub mod EditLemmas
+pub mod EndLemmas
+pub mod FoundLemmas
+pub mod KeyLemmas
+pub mod NumberLemmas
+pub mod OrderLemmas
+pub mod PutLemmas
+pub mod TableLemmas
+pub mod UnderLemmas
+pub mod ViewLemmas

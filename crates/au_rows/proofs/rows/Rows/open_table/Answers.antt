@@ -1,0 +1,24 @@
+use Rattle.std.proofs.Common.{◌∙◌, ◌≤◌, ℕ, ap, filter, length, map, arith}
+use Rattle.au_rows.specs.declared.table.Table.{Table}
+use Rattle.au_rows.specs.Held.{is_of, number_of}
+use Rattle.au_rows.specs.Kept.{held_of}
+use Rattle.au_rows.proofs.TableLemmas.{all-open, named-there, none-of, is-its-name}
+use Rattle.au_rows.proofs.rows.Rows.open_table.Goals as goal
+
+pub invariant_of-self : goal.invariant_of-self
+invariant_of-self c =
+    rw c.add_table.ensures.items (
+      c.self.invariant.0,
+      all-open c.self.inside.tables.items (record { name = c.args.table; key = c.from_vec-key.result }) c.self.inside.places.items c.self.invariant.1,
+      c.self.invariant.2,
+    )
+
+pub returns-clause-empty : goal.returns-clause-empty
+returns-clause-empty c =
+    let tables = c.self.inside.tables.items in
+    let new : Table = record { name = c.args.table; key = c.from_vec-key.result } in
+    let held = map (held_of c.self.inside.versions.slots) c.self.inside.places.items in
+    let absent = rw (← c.self.view_is) at c.requires.new in
+    let none : length tables ≤ number_of c.args.table tables = omega arith in
+    ap (λ (t : ℕ). filter (is_of t) held) (ap (number_of c.args.table) c.add_table.ensures.items ∙ named-there c.args.table tables new (is-its-name new) none)
+    ∙ none-of c.self.inside.versions.slots tables c.self.inside.places.items c.self.invariant.1

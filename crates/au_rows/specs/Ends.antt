@@ -1,0 +1,94 @@
+-- What ends with a client's changes.
+use Rattle.std.specs.Prelude.{◌≡◌, ℕ, ◌+◌, ◌≤◌, ◌⊎◌, List, Bool, true, false, ◌==◌, ◌&&◌, Option, None, Some, map, slice_index_or}
+use Rattle.std.specs.List.{list_all, list_any, count_by}
+use Rattle.std.specs.Option.{option_and_then}
+use Rattle.au_base.specs.declared.numbers.RowNo.{RowNo}
+use Rattle.au_base.specs.declared.numbers.ClientNo.{ClientNo}
+use Rattle.au_rows.specs.declared.ending.Ending.{Ending}
+use Rattle.au_rows.specs.declared.place.Place.{Place}
+use Rattle.au_rows.specs.declared.table.Table.{Table}
+use Rattle.au_rows.specs.declared.unsettled.Unsettled.{Unsettled}
+use Rattle.au_rows.specs.declared.version.Version.{Version}
+use Rattle.au_rows.specs.Held.{all_ended, is_by, is_this}
+use Rattle.au_rows.specs.Kept.{SameElsewhere, held_of, is_apart, is_version, is_whole, owner_in, place_in, place_left, place_numbered, place_open, place_owner, place_shown}
+use Rattle.au_rows.specs.Order.{in_order}
+
+-- the change is the client's
+abbrev pub is_own : ClientNo → Unsettled → Bool
+is_own by change = change.by.0 == by.0
+
+-- the change is the client's, and of this row
+abbrev pub is_own_of : ℕ → RowNo → ClientNo → Unsettled → Bool
+is_own_of table number by change = is_this table number change.table change.number && is_own by change
+
+-- the slot has a version of the row or is vacant
+abbrev pub is_loose_version : ℕ → ℕ → Option Version → Bool
+is_loose_version table number None = true
+is_loose_version table number (Some version) = is_version table number (Some version)
+
+abbrev pub is_loose_slot : List (Option Version) → ℕ → ℕ → Option ℕ → Bool
+is_loose_slot slots table number None = true
+is_loose_slot slots table number (Some slot) = is_loose_version table number (slice_index_or slots slot None)
+
+abbrev pub is_loose : List (Option Version) → Unsettled → Bool
+is_loose slots change = is_loose_slot slots change.table change.number.0 change.slot
+
+-- no slot has another version than before
+abbrev pub OnlyFrees : List (Option Version) → List (Option Version) → Type 0
+OnlyFrees old new =
+    (slot : ℕ) → (slice_index_or new slot None ≡ slice_index_or old slot None) ⊎ (slice_index_or new slot None ≡ None)
+
+-- the place, where there is one, doesn't name the slot
+abbrev pub is_clear : Option ℕ → Option Place → Bool
+is_clear slot None = true
+is_clear slot (Some place) = is_apart place.settled slot && is_apart place.newest slot
+
+-- no place has another content than before, nor has the version of another row changed
+pub record SlotDropped (table : ℕ) (number : RowNo) (places : List Place) (before after : List (Option Version)) : Type 0 where
+  pub whole : list_all (is_whole after) places ≡ true
+  pub held : map (held_of after) places ≡ map (held_of before) places
+  pub elsewhere : SameElsewhere before after table number.0
+  pub frees : OnlyFrees before after
+
+-- the changes of one client of one row have ended; the versions of other rows, and their places, are
+-- as they were
+pub record RowEnded (ending : Ending) (table : ℕ) (number : RowNo) (by : ClientNo) (old : List Place) (before : List (Option Version)) (new : List Place) (after : List (Option Version)) : Type 0 where
+  pub order : in_order new ≡ true
+  pub whole : list_all (is_whole after) new ≡ true
+  pub left : list_all place_left old ≡ true → list_all place_left new ≡ true
+  pub open_tables : (tables : List (Option Table)) → list_all (place_open tables) old ≡ true → list_all (place_open tables) new ≡ true
+  pub numbered : list_all place_numbered old ≡ true → list_all place_numbered new ≡ true
+  pub rows : all_ended ending by (map (held_of after) new) ≡ all_ended ending by (map (held_of before) old)
+  pub elsewhere : SameElsewhere before after table number.0
+  pub frees : OnlyFrees before after
+  pub others : (t : ℕ) (n : RowNo) → is_this table number t n ≡ false → place_in t n new ≡ place_in t n old
+  pub here : (owner_in table number new ≡ None) ⊎ ((is_by by (owner_in table number old) ≡ false) × (place_in table number new ≡ place_in table number old))
+  pub shown : count_by place_shown new ≤ count_by place_shown old + 1
+
+-- the changes of the client of one row have ended, or all is as it was
+abbrev pub IfOwn : Bool → Ending → ℕ → RowNo → ClientNo → List Place → List (Option Version) → List Place → List (Option Version) → Type 0
+IfOwn true ending table number by old before new after = RowEnded ending table number by old before new after
+IfOwn false ending table number by old before new after = (new ≡ old) × (after ≡ before)
+
+-- each row that the client owns has one of the client's changes
+abbrev pub IsCovered : ClientNo → List Place → List Unsettled → Type 0
+IsCovered by places changes = (t : ℕ) (n : RowNo) → is_by by (owner_in t n places) ≡ true → list_any (is_own_of t n by) changes ≡ true
+
+-- the row that isn't the client's stays, and the one that is may have ended
+abbrev pub KeptOrEnded : Bool → Option Place → Option Place → Type 0
+KeptOrEnded true old new = (new ≡ old) ⊎ (option_and_then place_owner new ≡ None)
+KeptOrEnded false old new = new ≡ old
+
+-- the client's changes of the rows that come before the rest of the changes have ended
+pub record EndedBefore (ending : Ending) (by : ClientNo) (rest : List Unsettled) (changes : List Unsettled) (old : List Place) (before : List (Option Version)) (new : List Place) (after : List (Option Version)) : Type 0 where
+  pub order : in_order new ≡ true
+  pub whole : list_all (is_whole after) new ≡ true
+  pub left : list_all place_left old ≡ true → list_all place_left new ≡ true
+  pub open_tables : (tables : List (Option Table)) → list_all (place_open tables) old ≡ true → list_all (place_open tables) new ≡ true
+  pub numbered : list_all place_numbered old ≡ true → list_all place_numbered new ≡ true
+  pub rows : all_ended ending by (map (held_of after) new) ≡ all_ended ending by (map (held_of before) old)
+  pub elsewhere : (t n slot : ℕ) → is_by by (owner_in t (record { 0 = n }) old) ≡ false → is_version t n (slice_index_or before slot None) ≡ true → slice_index_or after slot None ≡ slice_index_or before slot None
+  pub frees : OnlyFrees before after
+  pub others : (t : ℕ) (n : RowNo) → KeptOrEnded (is_by by (owner_in t n old)) (place_in t n old) (place_in t n new)
+  pub ahead : IsCovered by new rest
+  pub shown : count_by place_shown new + count_by (is_own by) rest ≤ count_by place_shown old + count_by (is_own by) changes

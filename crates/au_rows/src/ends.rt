@@ -1,0 +1,188 @@
+//! The end of a client's changes, row by row.
+ghost use Rattle.std.specs.Prelude.{◌≡◌, ◌≤◌, [], true, vec_len, vec_capacity};
+ghost use Rattle.std.specs.List.{list_all};
+ghost use Rattle.au_rows.specs.Edits.{edited};
+ghost use Rattle.au_rows.specs.Ends.{EndedBefore, IfOwn, IsCovered, RowEnded, SlotDropped, is_clear, is_loose, is_own};
+ghost use Rattle.au_rows.specs.Kept.{if_left, is_apart, is_logged, is_owned, is_whole, place_at, place_ended, place_from, place_in, slot_ended};
+ghost use Rattle.au_rows.specs.Order.{in_order};
+ghost use Rattle.au_rows.specs.Stored.{Frees};
+
+use crate::ending::Ending;
+use crate::place::Place;
+use crate::places::{erase, find, write};
+use crate::unsettled::Unsettled;
+use crate::versions::Versions;
+use au_base::ClientNo;
+
+/// The place after its owner's changes end.
+fn ended(place: Place, ending: Ending) -> Place
+    ensures place { result ≡ place_ended ending place }
+    ensures table { result.table ≡ place.table }
+    ensures number { result.number ≡ place.number }
+{
+    match ending {
+        Ending::Settle => Place {
+            table: place.table,
+            number: place.number,
+            settled: place.newest,
+            owner: None,
+            newest: None,
+        },
+        Ending::Undo => Place {
+            table: place.table,
+            number: place.number,
+            settled: place.settled,
+            owner: None,
+            newest: None,
+        },
+    }
+}
+
+/// The committed version that the owner's changes take the part of.
+fn replaced(place: Place, ending: Ending) -> Option<usize>
+    ensures { result ≡ slot_ended ending place }
+{
+    match ending {
+        Ending::Settle => place.settled,
+        Ending::Undo => None,
+    }
+}
+
+/// Ends the changes of a place's owner. Nothing that is left of the row takes the place away.
+fn end_place(places: &mut Vec<Place>, versions: &mut Versions, place: Place, ending: Ending)
+    requires order { in_order places.old.items ≡ true }
+    requires there { place_in place.table place.number places.old.items ≡ Some place }
+    ensures items { places.new.items ≡ edited (place_from place.table place.number) (place_at place.table place.number) places.old.items (if_left (place_ended ending place)) }
+    ensures frees { Frees versions.old.slots versions.new.slots (slot_ended ending place) }
+    ensures room { versions.old.room ≤ versions.new.room }
+    ensures len { vec_len places.new ≤ vec_len places.old }
+    ensures capacity { vec_capacity places.old ≤ vec_capacity places.new }
+{
+    versions.free(replaced(place, ending));
+    let ended = ended(place, ending);
+    if ended.settled.is_some() {
+        write(places, ended);
+    } else {
+        erase(places, place.table, place.number);
+    }
+}
+
+fn end_if_own(
+    places: &mut Vec<Place>,
+    versions: &mut Versions,
+    place: Place,
+    by: ClientNo,
+    ending: Ending,
+)
+    requires order { in_order places.old.items ≡ true }
+    requires whole { list_all (is_whole versions.old.slots) places.old.items ≡ true }
+    requires there { place_in place.table place.number places.old.items ≡ Some place }
+    ensures row { RowEnded ending place.table place.number by places.old.items versions.old.slots places.new.items versions.new.slots }
+    ensures room { versions.old.room ≤ versions.new.room }
+    ensures len { vec_len places.new ≤ vec_len places.old }
+    ensures capacity { vec_capacity places.old ≤ vec_capacity places.new }
+{
+    if place.is_by(by) {
+        end_place(places, versions, place, ending);
+    }
+}
+
+/// Ends the client's changes of the row of a change.
+fn end_row(
+    places: &mut Vec<Place>,
+    versions: &mut Versions,
+    change: Unsettled,
+    by: ClientNo,
+    ending: Ending,
+)
+    requires order { in_order places.old.items ≡ true }
+    requires whole { list_all (is_whole versions.old.slots) places.old.items ≡ true }
+    ensures row { RowEnded ending change.table change.number by places.old.items versions.old.slots places.new.items versions.new.slots }
+    ensures room { versions.old.room ≤ versions.new.room }
+    ensures len { vec_len places.new ≤ vec_len places.old }
+    ensures capacity { vec_capacity places.old ≤ vec_capacity places.new }
+{
+    if let Some(place) = find(places, change.table, change.number) {
+        end_if_own(places, versions, place, by, ending);
+    }
+}
+
+fn is_apart(a: Option<usize>, b: Option<usize>) -> bool
+    ensures { result ≡ is_apart a b }
+{
+    match a {
+        None => true,
+        Some(a) => match b {
+            None => true,
+            Some(b) => a != b,
+        },
+    }
+}
+
+fn is_clear(place: Option<Place>, slot: Option<usize>) -> bool
+    ensures { result ≡ is_clear slot place }
+{
+    match place {
+        Some(place) => is_apart(place.settled, slot) && is_apart(place.newest, slot),
+        None => true,
+    }
+}
+
+/// Lets the version of a change go, unless the place of its row names it.
+fn drop_version(places: &[Place], versions: &mut Versions, change: Unsettled)
+    requires order { in_order places.now ≡ true }
+    requires whole { list_all (is_whole versions.old.slots) places.now ≡ true }
+    requires loose { is_loose versions.old.slots change ≡ true }
+    ensures dropped { SlotDropped change.table change.number places.now versions.old.slots versions.new.slots }
+    ensures room { versions.old.room ≤ versions.new.room }
+{
+    if is_clear(find(places, change.table, change.number), change.slot) {
+        versions.free(change.slot);
+    }
+}
+
+/// Ends the client's changes of the row of one of its changes, and lets the version of this change
+/// go where nothing names it. A change of another client stays.
+fn end_change(
+    places: &mut Vec<Place>,
+    versions: &mut Versions,
+    change: Unsettled,
+    by: ClientNo,
+    ending: Ending,
+)
+    requires order { in_order places.old.items ≡ true }
+    requires whole { list_all (is_whole versions.old.slots) places.old.items ≡ true }
+    requires loose { is_loose versions.old.slots change ≡ true }
+    ensures row { IfOwn (is_own by change) ending change.table change.number by places.old.items versions.old.slots places.new.items versions.new.slots }
+    ensures room { versions.old.room ≤ versions.new.room }
+    ensures len { vec_len places.new ≤ vec_len places.old }
+    ensures capacity { vec_capacity places.old ≤ vec_capacity places.new }
+{
+    if change.by.0 == by.0 {
+        end_row(places, versions, change, by, ending);
+        drop_version(places, versions, change);
+    }
+}
+
+/// Ends the client's changes.
+pub(crate) fn end_all(
+    places: &mut Vec<Place>,
+    versions: &mut Versions,
+    changes: &[Unsettled],
+    by: ClientNo,
+    ending: Ending,
+)
+    requires order { in_order places.old.items ≡ true }
+    requires whole { list_all (is_whole versions.old.slots) places.old.items ≡ true }
+    requires logged { list_all (is_logged versions.old.slots) changes.now ≡ true }
+    requires owned { list_all (is_owned places.old.items) changes.now ≡ true }
+    requires covered { IsCovered by places.old.items changes.now }
+    ensures ended { EndedBefore ending by [] changes.now places.old.items versions.old.slots places.new.items versions.new.slots }
+    ensures room { versions.old.room ≤ versions.new.room }
+    ensures len { vec_len places.new ≤ vec_len places.old }
+    ensures capacity { vec_capacity places.old ≤ vec_capacity places.new }
+{
+    for change in changes {
+        end_change(places, versions, *change, by, ending);
+    }
+}

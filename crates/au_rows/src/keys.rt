@@ -1,0 +1,132 @@
+//! Keys of rows.
+ghost use Rattle.std.specs.Prelude.{◌≡◌, ◌↔◌, IsTrue, Some, map, slice_get, true};
+ghost use Rattle.std.specs.List.{list_all};
+ghost use Rattle.std.specs.Option.{option_copied};
+ghost use Rattle.au_rows.specs.Held.{HasKey, IsLocking, SomeLocks, settled_of};
+ghost use Rattle.au_rows.specs.Kept.{change_of, content_at, held_of, unsettled_elsewhere};
+ghost use Rattle.au_rows.specs.Order.{in_order};
+
+use crate::place::Place;
+use crate::places::find_settled;
+use crate::unsettled::Unsettled;
+use crate::versions::Versions;
+use au_base::{Cell, ClientNo, List};
+
+/// A key of a table for which a client asks.
+#[derive(Drop)]
+pub struct Asked<'a> {
+    /// The table's number.
+    pub table: usize,
+    /// The places of the table's key columns.
+    pub places: &'a [u32],
+    /// The key's cells, in the order of the places.
+    pub key: &'a [Cell],
+    pub by: ClientNo,
+}
+
+fn is_same(a: &Cell, b: &Cell) -> bool
+    ensures { IsTrue result ↔ (a.now ≡ b.now) }
+{
+    *a == *b
+}
+
+fn is_cell(cells: &[Cell], place: usize, cell: &Cell) -> bool
+    ensures { IsTrue result ↔ (slice_get cells.now place ≡ Some cell.now) }
+{
+    match cells.get(place) {
+        Some(found) => is_same(found, cell),
+        None => false,
+    }
+}
+
+/// Whether the cells at the places are those of the key.
+pub(crate) fn has_key(places: &[u32], key: &[Cell], cells: &[Cell]) -> bool
+    ensures { IsTrue result ↔ HasKey places.now key.now (Some cells.now) }
+{
+    if places.len() != key.len() {
+        return false;
+    }
+    for at in 0..places.len() {
+        if !is_cell(cells, places[at] as usize, &key[at]) {
+            return false;
+        }
+    }
+    true
+}
+
+/// The content in a slot.
+fn content<'a>(versions: &'a Versions, slot: Option<usize>) -> Option<&'a List<Cell>>
+    ensures { option_copied result ≡ content_at versions.entry.now.slots slot }
+{
+    match slot {
+        Some(slot) => match versions.get(slot) {
+            Some(version) => Some(&version.cells),
+            None => None,
+        },
+        None => None,
+    }
+}
+
+fn has_key_in(versions: &Versions, slot: Option<usize>, places: &[u32], key: &[Cell]) -> bool
+    ensures { IsTrue result ↔ HasKey places.now key.now (content_at versions.now.slots slot) }
+{
+    match content(versions, slot) {
+        Some(cells) => has_key(places, key, cells.as_slice()),
+        None => false,
+    }
+}
+
+/// Whether the committed content of the change's row has the key.
+fn has_committed_key(
+    places: &[Place],
+    versions: &Versions,
+    change: &Unsettled,
+    asked: &Asked<'_>,
+) -> bool
+    requires { in_order places.now ≡ true }
+    ensures { IsTrue result ↔ HasKey asked.now.places.now asked.now.key.now (settled_of change.now.table change.now.number (map (held_of versions.now.slots) places.now)) }
+{
+    let slot = find_settled(places, change.table, change.number);
+    has_key_in(versions, slot, asked.places, asked.key)
+}
+
+fn is_locking(places: &[Place], versions: &Versions, change: &Unsettled, asked: &Asked<'_>) -> bool
+    requires { in_order places.now ≡ true }
+    ensures { IsTrue result ↔ IsLocking asked.now.places.now (map (held_of versions.now.slots) places.now) asked.now.table asked.now.key.now asked.now.by (change_of versions.now.slots change.now) }
+{
+    if change.by.0 == asked.by.0 {
+        return false;
+    }
+    if change.table != asked.table {
+        return false;
+    }
+    if has_key_in(versions, change.slot, asked.places, asked.key) {
+        return true;
+    }
+    has_committed_key(places, versions, change, asked)
+}
+
+/// Whether an unsettled change of another client has the key as its old or new key.
+pub(crate) fn is_locked(
+    places: &[Place],
+    versions: &Versions,
+    changes: &[Unsettled],
+    asked: &Asked<'_>,
+) -> bool
+    requires { in_order places.now ≡ true }
+    ensures { IsTrue result ↔ SomeLocks asked.now.places.now (map (held_of versions.now.slots) places.now) asked.now.table asked.now.key.now asked.now.by (map (change_of versions.now.slots) changes.now) }
+{
+    for change in changes {
+        if is_locking(places, versions, change, asked) {
+            return true;
+        }
+    }
+    false
+}
+
+/// Whether all changes are of rows of other tables.
+pub(crate) fn is_settled_in(changes: &[Unsettled], table: usize) -> bool
+    ensures { result ≡ list_all (unsettled_elsewhere table) changes.now }
+{
+    changes.iter().all(|change| change.table != table)
+}

@@ -1,0 +1,143 @@
+//! What a client sees.
+ghost use Rattle.std.specs.Prelude.{◌≡◌, IfNone, IfOk, IfSome, List, Some, true, map};
+ghost use Rattle.std.specs.List.{Contains};
+ghost use Rattle.au_base.specs.declared.cell.Cell.{Cell as Content};
+ghost use Rattle.au_base.specs.declared.numbers.RowNo.{RowNo as Number};
+ghost use Rattle.std.specs.Option.{option_copied, option_map};
+ghost use Rattle.au_rows.specs.Held.{HasKey, lent, next_of, seen_by, view_of};
+ghost use Rattle.au_rows.specs.Kept.{found_seen, held_of, place_in};
+ghost use Rattle.au_rows.specs.Order.{in_order};
+
+use crate::keys::{Asked, has_key};
+use crate::place::Place;
+use crate::places::{find, index_of};
+use crate::versions::Versions;
+use au_base::{Cell, ClientNo, List, Memory, RowNo};
+use std::alloc::Global;
+
+/// What the client sees of a row.
+fn content<'a>(place: &Place, versions: &'a Versions, by: ClientNo) -> Option<&'a List<Cell>>
+    ensures { option_copied result ≡ seen_by by (held_of versions.entry.now.slots place.now) }
+{
+    let slot = if place.is_by(by) {
+        place.newest
+    } else {
+        place.settled
+    };
+    match slot {
+        Some(slot) => match versions.get(slot) {
+            Some(version) => Some(&version.cells),
+            None => None,
+        },
+        None => None,
+    }
+}
+
+/// The first row of the table over `after` that the client sees.
+pub(crate) fn next_in<'a>(
+    places: &[Place],
+    versions: &'a Versions,
+    table: usize,
+    after: RowNo,
+    by: ClientNo,
+) -> Option<(RowNo, &'a [Cell])>
+    requires { in_order places.now ≡ true }
+    ensures { option_map lent result ≡ next_of table after by (map (held_of versions.entry.now.slots) places.now) }
+{
+    let later = &places[index_of(places, table, after)..];
+    for place in later {
+        if place.table != table {
+            return None;
+        }
+        if after.0 < place.number.0 {
+            if let Some(cells) = content(place, versions, by) {
+                return Some((place.number, cells.as_slice()));
+            }
+        }
+    }
+    None
+}
+
+/// The rows of the table that the client sees, by their numbers.
+pub(crate) fn view_in<'a>(
+    alloc: Global,
+    places: &[Place],
+    versions: &'a Versions,
+    table: usize,
+    by: ClientNo,
+) -> Result<Vec<(RowNo, &'a [Cell])>, Memory>
+    requires { in_order places.now ≡ true }
+    ensures { IfOk result (λ rows. map lent rows.items ≡ view_of table by (map (held_of versions.entry.now.slots) places.now)) }
+{
+    let mut rows = Vec::new(alloc);
+    let later = &places[index_of(places, table, RowNo(0))..];
+    for place in later {
+        if place.table != table {
+            return Ok(rows);
+        }
+        if let Some(cells) = content(place, versions, by) {
+            rows.push((place.number, cells.as_slice()))?;
+        }
+    }
+    Ok(rows)
+}
+
+/// Whether the client sees the row.
+pub(crate) fn is_seen_in(places: &[Place], table: usize, number: RowNo, by: ClientNo) -> bool
+    requires { in_order places.now ≡ true }
+    ensures { result ≡ found_seen by (place_in table number places.now) }
+{
+    match find(places, table, number) {
+        Some(place) => {
+            if place.is_by(by) {
+                place.newest.is_some()
+            } else {
+                place.settled.is_some()
+            }
+        }
+        None => false,
+    }
+}
+
+/// The row of the place, where the client who asks sees it and it has the key.
+fn row_if_under<'a>(
+    place: &Place,
+    versions: &'a Versions,
+    asked: &Asked<'_>,
+) -> Option<(RowNo, &'a [Cell])>
+    ensures some { IfSome result (λ row. (row.0 ≡ place.now.number) × (seen_by asked.now.by (held_of versions.entry.now.slots place.now) ≡ Some row.1.now) × HasKey asked.now.places.now asked.now.key.now (Some row.1.now)) }
+    ensures none { IfNone result (HasKey asked.now.places.now asked.now.key.now (seen_by asked.now.by (held_of versions.entry.now.slots place.now)) → ⊥) }
+{
+    match content(place, versions, asked.by) {
+        Some(cells) => {
+            if has_key(asked.places, asked.key, cells.as_slice()) {
+                Some((place.number, cells.as_slice()))
+            } else {
+                None
+            }
+        }
+        None => None,
+    }
+}
+
+/// A row of the table that the client sees and that has the key.
+pub(crate) fn under_in<'a>(
+    places: &[Place],
+    versions: &'a Versions,
+    asked: &Asked<'_>,
+) -> Option<(RowNo, &'a [Cell])>
+    requires { in_order places.now ≡ true }
+    ensures some { IfSome result (λ row. Contains (view_of asked.now.table asked.now.by (map (held_of versions.entry.now.slots) places.now)) (lent row) × HasKey asked.now.places.now asked.now.key.now (Some row.1.now)) }
+    ensures none { IfNone result ((row : Number × List Content) → Contains (view_of asked.now.table asked.now.by (map (held_of versions.entry.now.slots) places.now)) row → HasKey asked.now.places.now asked.now.key.now (Some row.1) → ⊥) }
+{
+    let later = &places[index_of(places, asked.table, RowNo(0))..];
+    for place in later {
+        if place.table != asked.table {
+            return None;
+        }
+        if let Some(row) = row_if_under(place, versions, asked) {
+            return Some(row);
+        }
+    }
+    None
+}

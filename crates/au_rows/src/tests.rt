@@ -1,0 +1,238 @@
+//! Row versions worked by hand.
+use super::*;
+use au_base::{Cell, ClientNo, Memory, Name, RowNo, TableName};
+use std::alloc::Global;
+use std::test::Fail;
+
+/// A call by a client, on rows of one cell, which is their key.
+#[derive(Clone, Copy)]
+enum Step {
+    /// The client puts the row with this key.
+    Put(u32, u32, i64),
+    /// The client marks the row.
+    Mark(u32, u32),
+    /// The client's changes become committed.
+    Settle(u32),
+    /// The client's changes go away.
+    Undo(u32),
+}
+
+use Step::{Mark, Put, Settle, Undo};
+
+/// The steps, and what stands after them.
+struct Case {
+    steps: &'static [Step],
+    /// The rows with their keys that client 1 sees.
+    first: &'static [(u32, i64)],
+    /// The rows with their keys that client 2 sees.
+    second: &'static [(u32, i64)],
+    /// Keys that are locked for client 1.
+    locked: &'static [i64],
+    /// Keys that aren't locked for client 1.
+    free: &'static [i64],
+}
+
+const CASES: [Case; 8] = [
+    Case {
+        steps: &[Put(1, 1, 5), Undo(1)],
+        first: &[],
+        second: &[],
+        locked: &[],
+        free: &[5],
+    },
+    // another client's change over a committed row: its old and its new key are locked
+    Case {
+        steps: &[Put(1, 1, 5), Settle(1), Put(2, 1, 6)],
+        first: &[(1, 5)],
+        second: &[(1, 6)],
+        locked: &[5, 6],
+        free: &[7],
+    },
+    // a change over the client's own change: the overwritten key stays locked
+    Case {
+        steps: &[Put(2, 1, 5), Put(2, 1, 6), Put(2, 1, 7)],
+        first: &[],
+        second: &[(1, 7)],
+        locked: &[5, 6, 7],
+        free: &[1],
+    },
+    // a mark of a committed row
+    Case {
+        steps: &[Put(1, 1, 5), Settle(1), Mark(2, 1)],
+        first: &[(1, 5)],
+        second: &[],
+        locked: &[5],
+        free: &[1],
+    },
+    // a mark after a put
+    Case {
+        steps: &[Put(2, 1, 5), Mark(2, 1), Settle(2)],
+        first: &[],
+        second: &[],
+        locked: &[],
+        free: &[5],
+    },
+    // a put after a mark, and both undone
+    Case {
+        steps: &[Put(1, 1, 5), Settle(1), Mark(2, 1), Put(2, 1, 8), Undo(2)],
+        first: &[(1, 5)],
+        second: &[(1, 5)],
+        locked: &[],
+        free: &[5, 8],
+    },
+    // a key moves between rows
+    Case {
+        steps: &[
+            Put(1, 1, 5),
+            Put(1, 2, 6),
+            Settle(1),
+            Put(2, 1, 7),
+            Put(2, 2, 5),
+            Settle(2),
+        ],
+        first: &[(1, 7), (2, 5)],
+        second: &[(1, 7), (2, 5)],
+        locked: &[],
+        free: &[5, 6, 7],
+    },
+    // two clients side by side, of which one undoes
+    Case {
+        steps: &[Put(1, 3, 3), Put(2, 1, 1), Put(1, 2, 2), Undo(2), Settle(1)],
+        first: &[(2, 2), (3, 3)],
+        second: &[(2, 2), (3, 3)],
+        locked: &[],
+        free: &[1, 2, 3],
+    },
+];
+
+fn name(alloc: Global, text: &str) -> Result<Name, Memory> {
+    Name::make(alloc, text.as_bytes())?.ok_or(Memory)
+}
+
+// opens the table with its first column as the key; whether it could
+fn open(rows: &mut Rows, alloc: Global, table: TableName) -> Result<bool, Memory> {
+    let mut key = Vec::new(alloc);
+    key.push(0)?;
+    rows.reserve(1)?;
+    if rows.is_open(&table) {
+        return Ok(false);
+    }
+    rows.open_table(table, key);
+    Ok(true)
+}
+
+fn put(
+    rows: &mut Rows,
+    alloc: Global,
+    table: &TableName,
+    by: ClientNo,
+    row: RowNo,
+    key: i64,
+) -> Result<bool, Memory> {
+    let mut cells = Vec::new(alloc);
+    cells.push(Cell::Num(key))?;
+    rows.reserve(1)?;
+    if row.0 == 0 {
+        return Ok(false);
+    }
+    if !rows.is_open(table) {
+        return Ok(false);
+    }
+    if !rows.is_free(table, row, by) {
+        return Ok(false);
+    }
+    rows.put(table, row, cells, by);
+    Ok(true)
+}
+
+fn mark(rows: &mut Rows, table: &TableName, by: ClientNo, row: RowNo) -> bool {
+    if !rows.is_seen(table, row, by) {
+        return false;
+    }
+    if !rows.is_free(table, row, by) {
+        return false;
+    }
+    rows.mark(table, row, by);
+    true
+}
+
+// does the step; whether its conditions held
+fn take(rows: &mut Rows, alloc: Global, table: &TableName, step: Step) -> Result<bool, Memory> {
+    match step {
+        Put(by, row, key) => put(rows, alloc, table, ClientNo(by), RowNo(row), key),
+        Mark(by, row) => Ok(mark(rows, table, ClientNo(by), RowNo(row))),
+        Settle(by) => {
+            rows.settle(ClientNo(by));
+            Ok(true)
+        }
+        Undo(by) => {
+            rows.undo(ClientNo(by));
+            Ok(true)
+        }
+    }
+}
+
+fn is_row(row: &(RowNo, &[Cell]), want: (u32, i64)) -> bool {
+    match row.1 {
+        [Cell::Num(key)] => row.0.0 == want.0 && *key == want.1,
+        _ => false,
+    }
+}
+
+fn sees(
+    rows: &Rows,
+    alloc: Global,
+    table: &TableName,
+    by: ClientNo,
+    want: &[(u32, i64)],
+) -> Result<bool, Memory> {
+    let view = rows.view(alloc, table, by)?;
+    if view.len() != want.len() {
+        return Ok(false);
+    }
+    for (row, want) in view.iter().zip(want) {
+        if !is_row(row, *want) {
+            return Ok(false);
+        }
+    }
+    Ok(true)
+}
+
+fn are_locked(rows: &Rows, table: &TableName, keys: &[i64], locked: bool) -> bool {
+    for key in keys {
+        if rows.key_locked(table, &[Cell::Num(*key)], ClientNo(1)) != locked {
+            return false;
+        }
+    }
+    true
+}
+
+fn holds(alloc: Global, table: &TableName, case: &Case) -> Result<bool, Memory> {
+    let mut rows = Rows::new(alloc)?;
+    if !open(&mut rows, alloc, table.clone()?)? {
+        return Ok(false);
+    }
+    for step in case.steps {
+        if !take(&mut rows, alloc, table, *step)? {
+            return Ok(false);
+        }
+    }
+    let first = sees(&rows, alloc, table, ClientNo(1), case.first)?;
+    let second = sees(&rows, alloc, table, ClientNo(2), case.second)?;
+    let locked = are_locked(&rows, table, case.locked, true);
+    let free = are_locked(&rows, table, case.free, false);
+    Ok(first && second && locked && free)
+}
+
+#[test]
+fn clients_see_their_changes_over_what_is_committed(rt: HostRuntime) -> Result<(), Fail> {
+    let alloc = rt.alloc();
+    let table = TableName {
+        owner: name(alloc, "A")?,
+        name: name(alloc, "T")?,
+    };
+    for case in &CASES {
+        assert!(rt; holds(alloc, &table, case)?);
+    }
+    Ok(())
+}

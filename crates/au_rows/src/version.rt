@@ -1,0 +1,12 @@
+//! Contents of rows.
+
+use au_base::{Cell, List, RowNo};
+
+/// A content of a row.
+#[derive(Debug, Drop)]
+pub struct Version {
+    /// The number of the row's table.
+    pub table: usize,
+    pub number: RowNo,
+    pub cells: List<Cell>,
+}
