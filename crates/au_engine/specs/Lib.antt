@@ -1,0 +1,11 @@
+pub mod Answering
+pub mod Auditing
+pub mod Deciding
+pub mod Forms
+pub mod History
+pub mod Opening
+pub mod Prepared
+pub mod Reading
+pub mod Staging
+pub mod State
+pub mod Step

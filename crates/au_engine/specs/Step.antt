@@ -1,0 +1,208 @@
+-- One step: what an ask is answered, and what becomes of the state.
+use Rattle.std.specs.Prelude.{◌≡◌, ◌⊎◌, ℕ, ◌+◌, ◌*◌, min, Bool, true, false, ◌&&◌, ◌||◌, ◌==◌, nat_le, List, [], ◌∷◌, ◌++◌, length, map, find, is_some, if◌then◌else◌, Option, Some, None, MatchOption}
+use Rattle.au_base.specs.declared.action.Action.TheVariants.{Logon as LogonAction}
+use Rattle.au_base.specs.declared.ask.Ask.{Ask}
+use Rattle.au_base.specs.declared.ask.Ask.TheVariants.{Local, Logon, Sql, Logoff}
+use Rattle.au_base.specs.declared.code.Code.{Code}
+use Rattle.au_base.specs.declared.code.TheConstants.Code.{DONE, NOT_LOGGED_ON, SESSION_PRESENT, TOO_MANY_SESSIONS}
+use Rattle.au_base.specs.declared.limits.TheConstants.{INSTANCE_SESSIONS, OPEN_SESSIONS, SESSION_COUNT}
+use Rattle.au_base.specs.declared.numbers.ClientNo.{ClientNo}
+use Rattle.au_base.specs.declared.numbers.SessionNo.{SessionNo}
+use Rattle.au_base.specs.declared.numbers.Stamp.{Stamp}
+use Rattle.au_base.specs.declared.reply.Reply.{Reply}
+use Rattle.au_base.specs.BuiltIn.{sys}
+use Rattle.au_catalog.specs.declared.change.Change.{Change}
+use Rattle.au_catalog.specs.declared.facts.Facts.{Facts}
+use Rattle.au_catalog.specs.declared.kept.Kept.{Kept}
+use Rattle.au_catalog.specs.declared.trail_record.Record.{Record}
+use Rattle.au_catalog.specs.Changing.{changed_all}
+use Rattle.sql_ast.specs.declared.expression.Expr.{Expr}
+use Rattle.sql_ast.specs.declared.expression.Expr.TheVariants.{Null}
+use Rattle.au_engine.specs.declared.decision.Decision.{Decision}
+use Rattle.au_engine.specs.declared.form.BuiltForm.{BuiltForm}
+use Rattle.au_engine.specs.declared.place.Place.{Place}
+use Rattle.au_engine.specs.declared.session.Session.{Session}
+use Rattle.au_engine.specs.Answering.{code_reply, reply_of}
+use Rattle.au_engine.specs.Auditing.{records_of}
+use Rattle.au_engine.specs.Deciding.{Decides}
+use Rattle.au_engine.specs.Forms.{action_of, tables_of, object_of}
+use Rattle.au_engine.specs.Reading.{Reads, IsUnread}
+use Rattle.au_engine.specs.State.{State, stamp_of}
+
+-- the client's session, where it has one
+abbrev pub session_of : List Session → ClientNo → Option Session
+session_of sessions client = find (λ session. session.client.0 == client.0) sessions
+
+-- one more, up to the number at which the counts of a session stop
+abbrev pub counted : ℕ → ℕ
+counted count = min (count + 1) SESSION_COUNT
+
+-- so many more, up to there
+abbrev pub with_more : ℕ → ℕ → ℕ
+with_more count more = min (count + more) SESSION_COUNT
+
+-- the session, with these counts of statements and records where it is the client's
+abbrev pub with_counts : ClientNo → ℕ → ℕ → Session → Session
+with_counts client statements entries session =
+    if session.client.0 == client.0 then record session { statements = statements; entries = entries } else session
+
+-- conditions are part of no change that is built
+abbrev pub unread_condition : List ℕ → Expr
+unread_condition text = Null
+
+-- nothing was changed and nothing recorded
+abbrev pub is_idle : List Change → List Record → Bool
+is_idle [] [] = true
+is_idle _ _ = false
+
+-- The last stamp, after these changes and records: it becomes the event's where there are some.
+abbrev pub last_after : Stamp → ℕ → List Change → List Record → Stamp
+last_after last stamp changes records = if is_idle changes records then last else record { 0 = stamp }
+
+-- what is kept after the changes, with the records at the trail's end
+abbrev pub kept_after : Kept → ℕ → List Change → List Record → Kept
+kept_after kept stamp changes records =
+    let next = changed_all unread_condition changes kept in
+    record next { trail = kept.trail ++ records; last = last_after kept.last stamp changes records }
+
+-- what the policies are asked about a statement
+abbrev pub facts_of : Session → BuiltForm → Decision → Facts
+facts_of session form decision = record { user = session.user; action = action_of form; tables = tables_of form; used = decision.used; code = decision.code }
+
+-- where the record of a statement of the session stands, the statement being counted
+abbrev pub statement_place : Session → ℕ → BuiltForm → List ℕ → Place
+statement_place session stamp form text = record {
+  session = session.number;
+  entry = counted session.entries;
+  statement = counted session.statements;
+  stamp = record { 0 = stamp };
+  object = object_of form;
+  sql = Some text;
+}
+
+-- what a statement leaves in the trail, by the policies and grants before it
+abbrev pub statement_records : Kept → Session → ℕ → BuiltForm → List ℕ → Decision → List Record
+statement_records kept session stamp form text decision =
+    records_of kept.grants kept.policies kept.enabled (facts_of session form decision) (statement_place session stamp form text)
+
+-- The state after a statement of the session with these changes and records: the changes are made, the records follow at
+-- the trail's end, and the client's session has one more statement and so many more records.
+abbrev pub concluded : State → Session → ℕ → List Change → List Record → State
+concluded m session stamp changes records = record m {
+  kept = kept_after m.kept stamp changes records;
+  sessions = map (with_counts session.client (counted session.statements) (with_more session.entries (length records))) m.sessions;
+}
+
+-- the state after a statement that was decided so
+abbrev pub after_statement : State → Session → ℕ → BuiltForm → List ℕ → Decision → State
+after_statement m session stamp form text decision =
+    concluded m session stamp decision.changes (statement_records m.kept session stamp form text decision)
+
+-- a statement that was read: decision, reply and records are taken in the state before it
+pub record StatementStep (m : State) (session : Session) (form : BuiltForm) (text : List ℕ) (stamp : ℕ) (reply : Reply) (n : State) : Type 0 where
+  pub decision : Decision
+  pub decides : Decides m.kept.grants m.kept.policies m.kept.enabled session.user form decision
+  pub replies : reply ≡ reply_of (length m.kept.trail) form decision.code
+  pub next : n ≡ after_statement m session stamp form text decision
+
+-- a text that is read, as its one statement
+pub record ReadStep (m : State) (session : Session) (text : List ℕ) (stamp : ℕ) (reply : Reply) (n : State) : Type 0 where
+  pub form : BuiltForm
+  pub reads : Reads text form
+  pub step : StatementStep m session form text stamp reply n
+
+-- a text that isn't read: its code is the reply, and nothing is changed or recorded
+pub record UnreadStep (m : State) (text : List ℕ) (reply : Reply) (n : State) : Type 0 where
+  pub code : Code
+  pub unread : IsUnread text code
+  pub replies : reply ≡ code_reply code
+  pub same : n ≡ m
+
+-- a text of a client that has a session
+abbrev pub SessionStep : State → Session → List ℕ → ℕ → Reply → State → Type 0
+SessionStep m session text stamp reply n = ReadStep m session text stamp reply n ⊎ UnreadStep m text reply n
+
+-- a text of a client: without a session it is refused, and nothing is changed or recorded
+abbrev pub SqlStep : State → ClientNo → List ℕ → ℕ → Reply → State → Type 0
+SqlStep m client text stamp reply n =
+    MatchOption (session_of m.sessions client) ((reply ≡ code_reply NOT_LOGGED_ON) × (n ≡ m)) (λ session. SessionStep m session text stamp reply n)
+
+-- as many sessions are open as can be, or the instance has drawn its last one
+abbrev pub is_crowded : State → Bool
+is_crowded m = nat_le OPEN_SESSIONS (length m.sessions) || nat_le INSTANCE_SESSIONS m.drawn
+
+-- the number of the instance's next session
+abbrev pub next_number : State → SessionNo
+next_number m = record { 0 = m.kept.instance * 1000000000 + (m.drawn + 1) }
+
+-- the session that the user's logon begins, which has so many records
+abbrev pub new_session : State → ClientNo → List ℕ → ℕ → Session
+new_session m client user entries = record { client = client; user = user; number = next_number m; statements = 0; entries = entries; results = [] }
+
+-- what the policies are asked about a logon: it names no table
+abbrev pub logon_facts : List ℕ → Code → Facts
+logon_facts user code = record { user = user; action = LogonAction; tables = []; used = []; code = code }
+
+-- where the record of a logon stands: the first of its session, before all statements. A refused logon has no session.
+abbrev pub logon_place : SessionNo → ℕ → Place
+logon_place session stamp = record { session = session; entry = 1; statement = 0; stamp = record { 0 = stamp }; object = None; sql = None }
+
+abbrev pub no_session : SessionNo
+no_session = record { 0 = 0 }
+
+-- what a logon leaves in the trail
+abbrev pub logon_records : Kept → List ℕ → Code → SessionNo → ℕ → List Record
+logon_records kept user code session stamp = records_of kept.grants kept.policies kept.enabled (logon_facts user code) (logon_place session stamp)
+
+-- the state after a logon of the user, whose session is the instance's next one
+abbrev pub after_logon : State → ClientNo → List ℕ → ℕ → State
+after_logon m client user stamp =
+    let records = logon_records m.kept user DONE (next_number m) stamp in
+    record m {
+      kept = kept_after m.kept stamp [] records;
+      sessions = m.sessions ++ new_session m client user (length records) ∷ [];
+      drawn = m.drawn + 1;
+    }
+
+-- the state after a logon that was refused with the code: it is recorded, and begins no session
+abbrev pub after_refused_logon : State → List ℕ → Code → ℕ → State
+after_refused_logon m user code stamp = record m { kept = kept_after m.kept stamp [] (logon_records m.kept user code no_session stamp) }
+
+-- A logon of SYS without a password: it is refused where the client has a session, which changes and records nothing, and
+-- where there are too many sessions.
+abbrev pub local_reply : State → ClientNo → Reply
+local_reply m client =
+    if is_some (session_of m.sessions client) then code_reply SESSION_PRESENT
+    else (if is_crowded m then code_reply TOO_MANY_SESSIONS else code_reply DONE)
+
+abbrev pub after_local : State → ClientNo → ℕ → State
+after_local m client stamp =
+    if is_some (session_of m.sessions client) then m
+    else (if is_crowded m then after_refused_logon m sys TOO_MANY_SESSIONS stamp else after_logon m client sys stamp)
+
+abbrev pub LocalStep : State → ClientNo → ℕ → Reply → State → Type 0
+LocalStep m client stamp reply n = (reply ≡ local_reply m client) × (n ≡ after_local m client stamp)
+
+-- The client's ask at this stamp is given the reply, and the state goes from m to n. Logon and logoff are not built yet.
+abbrev pub StepAt : State → ClientNo → Ask → ℕ → Reply → State → Type 0
+StepAt m client Local stamp reply n = LocalStep m client stamp reply n
+StepAt m client (Sql text) stamp reply n = SqlStep m client text stamp reply n
+StepAt m client (Logon user password) stamp reply n = ⊥
+StepAt m client Logoff stamp reply n = ⊥
+
+-- the asks that are built
+abbrev pub IsAsked : Ask → Type 0
+IsAsked Local = Unit {0}
+IsAsked (Sql text) = Unit {0}
+IsAsked (Logon user password) = ⊥
+IsAsked Logoff = ⊥
+
+-- a client asks at a reading of the clock
+pub record Event : Type 0 where
+  pub client : ClientNo
+  pub ask : Ask
+  pub reading : ℕ
+
+-- the event is given the reply, and the state goes from m to n
+abbrev pub Step : State → Event → Reply → State → Type 0
+Step m event reply n = StepAt m event.client event.ask (stamp_of m event.reading) reply n
