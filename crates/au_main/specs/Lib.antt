@@ -1,1 +1,9 @@
+pub mod Answers
+pub mod Built
+pub mod Given
+pub mod Lines
+pub mod NextLine
+pub mod Ran
 pub mod Status
+pub mod Stretch
+pub mod Words

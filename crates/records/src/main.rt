@@ -2,7 +2,8 @@
 #![tactic(auto)]
 
 use au_base::{Memory, Text};
-use au_main::{Status, top};
+use au_io::{FileDisk, RealClock, StdSink, StdSource};
+use au_main::{NoLobby, Status, top};
 use std::env;
 use std::process::ExitCode;
 use std::rt::Env;
@@ -33,9 +34,28 @@ fn words(rt: &(impl Env + AllocGlobal)) -> Result<Vec<Text>, NoWords> {
     Ok(words)
 }
 
+// Does what the words say, on the system's outside: the standard streams, the files of the working
+// folder, of which none is made before it is asked for, and the system's clock.
+fn run(rt: HostRuntime, words: &[Text]) -> Status {
+    let mut source = StdSource::new(rt.stdin());
+    let mut sink = StdSink::new(rt.stdout());
+    let disk = FileDisk::new(rt);
+    let clock = RealClock::new(rt);
+    let (status, _disk, _clock, _lobby) = top(
+        rt.alloc(),
+        words,
+        &mut source,
+        &mut sink,
+        disk,
+        clock,
+        NoLobby,
+    );
+    status
+}
+
 fn main(rt: HostRuntime) -> ExitCode {
     let status = match words(&rt) {
-        Ok(words) => top(&words),
+        Ok(words) => run(rt, &words),
         Err(NoWords::Unread) => Status::Usage,
         Err(NoWords::Memory) => Status::Memory,
     };

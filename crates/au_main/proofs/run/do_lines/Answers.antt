@@ -1,0 +1,174 @@
+use Rattle.std.proofs.Common.{◌+◌, ◌-◌, ◌≤◌, refl, ◌∙◌}
+use Rattle.std.specs.Prelude.{None}
+use Rattle.au_main.proofs.Counts.{counted, counted_next, some_next, fits_next, falls, none_taken, stopped, went_on, bad_is_no_fault, memory_is_no_fault}
+use Rattle.au_main.proofs.Runs.{RanSoFar-none, RanSoFar-more, RanToFront-before, RanToFront-ended, RanToFront-no_memory, RanToFront-opened, RanToFault-at, RanToLimit-at, RanToBadLine-ended, RanToBadLine-overlong, RanToEnd-at, RanTo-last, IsReadCause-last, count-below}
+use Rattle.au_main.proofs.run.do_lines.Goals as goal
+
+pub returns-in_default-clause-ran : goal.returns-in_default-clause-ran
+returns-in_default-clause-ran g c = λ t r. RanToFront-opened _ _ _ _ _ r
+
+pub loop-line-init : goal.loop-line-init
+loop-line-init g c = record {
+  ran = λ t r. RanSoFar-none _ _ _ _ _ _ _ c.requires r c.in-Ok.ensures.bytes c.in-Ok.ensures.taken;
+  counts = some_next 0;
+  within = none_taken _ c.in-Ok.ensures.taken;
+  read = refl;
+  wrote = refl;
+}
+
+pub overflow_add-number : goal.overflow_add-number
+overflow_add-number g c =
+    let below : c.loop-line.number - 1 ≤ c.loop-line.pending.taken = count-below _ _ _ _ _ _ _ _ _ (c.loop-line.invariant.ran None tt) in
+    fits_next c.loop-line.number c.loop-line.pending.taken below c.loop-line.invariant.within
+
+pub loop-line-smaller : goal.loop-line-smaller
+loop-line-smaller g c =
+    let line = rw c.in-Ok-Ended.field-0-is at c.in-Ok-Ended.ensures.line in
+    let served = rw c.deref.ensures.value at c.in-Ok-serve_line.ensures.ok in
+    let number = counted_next c.loop-line.number c.loop-line.invariant.counts in
+    let below : (c.loop-line.number + 1) - 1 ≤ c.next_line.new.pending.taken = count-below _ _ _ _ _ _ _ _ _ (RanSoFar-more _ _ _ _ _ _ _ _ _ _ _ _ _ _ _ _ (c.loop-line.invariant.ran None tt) number line served) in
+    falls c.loop-line.number c.next_line.new.pending.taken below c.in-Ok-Ended.ensures.within
+
+pub loop-line-preserved : goal.loop-line-preserved
+loop-line-preserved g c =
+    let line = rw c.in-Ok-Ended.field-0-is at c.in-Ok-Ended.ensures.line in
+    let served = rw c.deref.ensures.value at c.in-Ok-serve_line.ensures.ok in
+    let number = counted_next c.loop-line.number c.loop-line.invariant.counts in
+    let cause = rw c.in-Ok-Ended.field-0-is at c.in-Ok-Ended.ensures.cause in
+    record {
+      ran = λ t r. RanSoFar-more _ _ _ _ _ _ _ _ _ _ _ _ _ _ _ _ (c.loop-line.invariant.ran t r) number line served;
+      counts = some_next c.loop-line.number;
+      within = c.in-Ok-Ended.ensures.within;
+      read = cause ∙ c.loop-line.invariant.read;
+      wrote = c.in-Ok-serve_line.ensures.well (went_on _) ∙ c.loop-line.invariant.wrote;
+    }
+
+pub returns-in-Err-BadLine-clause-ran : goal.returns-in-Err-BadLine-clause-ran
+returns-in-Err-BadLine-clause-ran g c =
+    let line = rw c.in-Ok-Ended.field-0-is at c.in-Ok-Ended.ensures.line in
+    let number = counted c.loop-line.number c.loop-line.invariant.counts in
+    let bad = rw c.deref.ensures.value at (c.in-Err-BadLine.ensures.bad (stopped _ _ c.in-Err-BadLine.field-0-is)) in
+    λ t r. RanToBadLine-ended _ _ _ _ _ _ _ _ _ _ _ _ _ _ _ _ (c.loop-line.invariant.ran t r) number line bad (c.in-Err-BadLine.ensures.bad_stays (stopped _ _ c.in-Err-BadLine.field-0-is))
+
+pub returns-in-Err-BadLine-clause-read : goal.returns-in-Err-BadLine-clause-read
+returns-in-Err-BadLine-clause-read g c =
+    let cause = rw c.in-Ok-Ended.field-0-is at c.in-Ok-Ended.ensures.cause in
+    cause ∙ c.loop-line.invariant.read
+
+pub returns-in-Err-BadLine-clause-write : goal.returns-in-Err-BadLine-clause-write
+returns-in-Err-BadLine-clause-write g c =
+    let well = rw c.in-Err-BadLine.field-0-is at c.in-Err-BadLine.ensures.well in
+    well bad_is_no_fault ∙ c.loop-line.invariant.wrote
+
+pub returns-in-Err-WriteFault-clause-ran : goal.returns-in-Err-WriteFault-clause-ran
+returns-in-Err-WriteFault-clause-ran g c =
+    let line = rw c.in-Ok-Ended.field-0-is at c.in-Ok-Ended.ensures.line in
+    let served = rw c.deref.ensures.value at (c.in-Err-WriteFault.ensures.write_fault (stopped _ _ c.in-Err-WriteFault.field-0-is)) in
+    λ t r. RanToFront-ended _ _ _ _ _ _ _ _ _ _ _ _ _ _ _ (c.loop-line.invariant.ran t r) line served
+
+pub returns-in-Err-WriteFault-clause-read : goal.returns-in-Err-WriteFault-clause-read
+returns-in-Err-WriteFault-clause-read g c =
+    let cause = rw c.in-Ok-Ended.field-0-is at c.in-Ok-Ended.ensures.cause in
+    cause ∙ c.loop-line.invariant.read
+
+pub returns-in-Err-WriteFault-clause-write : goal.returns-in-Err-WriteFault-clause-write
+returns-in-Err-WriteFault-clause-write g c = rw c.loop-line.invariant.wrote at (c.in-Err-WriteFault.ensures.cause (stopped _ _ c.in-Err-WriteFault.field-0-is))
+
+pub returns-in-Err-Memory-clause-ran : goal.returns-in-Err-Memory-clause-ran
+returns-in-Err-Memory-clause-ran g c =
+    let line = rw c.in-Ok-Ended.field-0-is at c.in-Ok-Ended.ensures.line in
+    let served = rw c.deref.ensures.value at (c.in-Err-Memory.ensures.memory (stopped _ _ c.in-Err-Memory.field-0-is)) in
+    λ t r. RanToFront-no_memory _ _ _ _ _ _ _ _ _ _ _ _ _ _ _ (c.loop-line.invariant.ran t r) line served
+
+pub returns-in-Err-Memory-clause-read : goal.returns-in-Err-Memory-clause-read
+returns-in-Err-Memory-clause-read g c =
+    let cause = rw c.in-Ok-Ended.field-0-is at c.in-Ok-Ended.ensures.cause in
+    cause ∙ c.loop-line.invariant.read
+
+pub returns-in-Err-Memory-clause-write : goal.returns-in-Err-Memory-clause-write
+returns-in-Err-Memory-clause-write g c =
+    let well = rw c.in-Err-Memory.field-0-is at c.in-Err-Memory.ensures.well in
+    well memory_is_no_fault ∙ c.loop-line.invariant.wrote
+
+pub returns-in-Ok-Last-clause-ran : goal.returns-in-Ok-Last-clause-ran
+returns-in-Ok-Last-clause-ran g c =
+    let line = rw c.in-Ok-Last.field-0-is at c.in-Ok-Last.ensures.line in
+    let number = counted c.loop-line.number c.loop-line.invariant.counts in
+    let ends = rw c.deref-in-Ok-Last.ensures.value at c.serve_last.ensures.ends in
+    λ t r. RanTo-last _ _ _ _ _ _ _ _ _ _ _ _ _ _ _ _ (c.loop-line.invariant.ran t r) number line c.serve_last.result ends
+
+pub returns-in-Ok-Last-clause-read : goal.returns-in-Ok-Last-clause-read
+returns-in-Ok-Last-clause-read g c =
+    let cause = rw c.in-Ok-Last.field-0-is at c.in-Ok-Last.ensures.cause in
+    IsReadCause-last c.serve_last.result _ _ _ _ _ _ _ _ _ _ c.serve_last.ensures.ends (cause ∙ c.loop-line.invariant.read)
+
+pub returns-in-Ok-Last-clause-write : goal.returns-in-Ok-Last-clause-write
+returns-in-Ok-Last-clause-write g c = rw c.loop-line.invariant.wrote at c.serve_last.ensures.cause
+
+pub returns-in-Ok-End-clause-ran : goal.returns-in-Ok-End-clause-ran
+returns-in-Ok-End-clause-ran g c =
+    let line = rw c.in-Ok-End.field-0-is at c.in-Ok-End.ensures.line in
+    λ t r. RanToEnd-at _ _ _ _ _ _ _ _ _ _ _ (c.loop-line.invariant.ran t r) line
+
+pub returns-in-Ok-End-clause-read : goal.returns-in-Ok-End-clause-read
+returns-in-Ok-End-clause-read g c =
+    let cause = rw c.in-Ok-End.field-0-is at c.in-Ok-End.ensures.cause in
+    cause ∙ c.loop-line.invariant.read
+
+pub returns-in-Ok-Overlong-clause-ran : goal.returns-in-Ok-Overlong-clause-ran
+returns-in-Ok-Overlong-clause-ran g c =
+    let line = rw c.in-Ok-Overlong.field-0-is at c.in-Ok-Overlong.ensures.line in
+    let number = counted c.loop-line.number c.loop-line.invariant.counts in
+    λ t r. RanToBadLine-overlong _ _ _ _ _ _ _ _ _ _ _ _ (c.loop-line.invariant.ran t r) number line
+
+pub returns-in-Ok-Overlong-clause-read : goal.returns-in-Ok-Overlong-clause-read
+returns-in-Ok-Overlong-clause-read g c =
+    let cause = rw c.in-Ok-Overlong.field-0-is at c.in-Ok-Overlong.ensures.cause in
+    cause ∙ c.loop-line.invariant.read
+
+pub returns-in-Ok-Failed-clause-ran : goal.returns-in-Ok-Failed-clause-ran
+returns-in-Ok-Failed-clause-ran g c =
+    let line = rw c.in-Ok-Failed.field-0-is at c.in-Ok-Failed.ensures.line in
+    λ t r. RanToFault-at _ _ _ _ _ _ _ _ _ _ _ (c.loop-line.invariant.ran t r) line
+
+pub returns-in-Ok-Failed-clause-read : goal.returns-in-Ok-Failed-clause-read
+returns-in-Ok-Failed-clause-read g c =
+    let cause = rw c.in-Ok-Failed.field-0-is at c.in-Ok-Failed.ensures.cause in
+    rw c.loop-line.invariant.read at cause
+
+pub returns-in-Ok-Beyond-clause-ran : goal.returns-in-Ok-Beyond-clause-ran
+returns-in-Ok-Beyond-clause-ran g c =
+    let line = rw c.in-Ok-Beyond.field-0-is at c.in-Ok-Beyond.ensures.line in
+    λ t r. RanToLimit-at _ _ _ _ _ _ _ _ _ _ _ (c.loop-line.invariant.ran t r) line
+
+pub returns-in-Ok-Beyond-clause-read : goal.returns-in-Ok-Beyond-clause-read
+returns-in-Ok-Beyond-clause-read g c =
+    let cause = rw c.in-Ok-Beyond.field-0-is at c.in-Ok-Beyond.ensures.cause in
+    cause ∙ c.loop-line.invariant.read
+
+pub returns-in-Err-clause-ran : goal.returns-in-Err-clause-ran
+returns-in-Err-clause-ran g c = λ t r. RanToFront-before _ _ _ _ _ _ _ _ _ (c.loop-line.invariant.ran t r)
+
+pub returns-in-Err-clause-read : goal.returns-in-Err-clause-read
+returns-in-Err-clause-read g c = c.in-Err.ensures.memory ∙ c.loop-line.invariant.read
+
+pub returns-in-Ok-End-clause-write : goal.returns-in-Ok-End-clause-write
+returns-in-Ok-End-clause-write g c = c.loop-line.invariant.wrote
+
+pub returns-in-Ok-Overlong-clause-write : goal.returns-in-Ok-Overlong-clause-write
+returns-in-Ok-Overlong-clause-write g c = c.loop-line.invariant.wrote
+
+pub returns-in-Ok-Failed-clause-write : goal.returns-in-Ok-Failed-clause-write
+returns-in-Ok-Failed-clause-write g c = c.loop-line.invariant.wrote
+
+pub returns-in-Ok-Beyond-clause-write : goal.returns-in-Ok-Beyond-clause-write
+returns-in-Ok-Beyond-clause-write g c = c.loop-line.invariant.wrote
+
+pub returns-in-Err-clause-write : goal.returns-in-Err-clause-write
+returns-in-Err-clause-write g c = c.loop-line.invariant.wrote
+
+pub returns-in_default-clause-read : goal.returns-in_default-clause-read
+returns-in_default-clause-read g c = refl
+
+pub returns-in_default-clause-write : goal.returns-in_default-clause-write
+returns-in_default-clause-write g c = refl

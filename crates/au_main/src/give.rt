@@ -1,0 +1,28 @@
+//! Giving bytes to a sink.
+ghost use Rattle.std.specs.Prelude.{◌≡◌, OnOk, OnErr};
+ghost use Rattle.std.specs.Io.KnownBytes.{Appends};
+ghost use Rattle.au_io.specs.Faults.{HasRisen};
+ghost use Rattle.au_main.specs.Given.{AppendsFront};
+
+use au_io::{Gave, Sink};
+
+/// The sink failed.
+#[derive(Clone, Copy, Debug, PartialEq, Eq)]
+pub(crate) struct WriteFault;
+
+/// Gives all the bytes. At a fault a front of them was given.
+pub(crate) fn give_all<W: Sink>(sink: &mut W, bytes: &[u8]) -> Result<(), WriteFault>
+    ensures ok { OnOk result (Appends (W.given sink.old) (W.given sink.new) bytes.now) }
+    ensures err { OnErr result (AppendsFront (W.given sink.old) (W.given sink.new) bytes.now) }
+    ensures well { OnOk result (W.faults sink.new ≡ W.faults sink.old) }
+    ensures cause { OnErr result (HasRisen (W.faults sink.old) (W.faults sink.new)) }
+{
+    let mut rest = bytes;
+    while !rest.is_empty() {
+        match sink.give(rest) {
+            Gave::Bytes(count) => rest = rest.split_at(count).1,
+            Gave::Failed => return Err(WriteFault),
+        }
+    }
+    Ok(())
+}
