@@ -7,9 +7,10 @@ use au_io::{Gave, Link, Lobby, Sink, Source, Took};
 #[derive(Clone, Copy, Debug, PartialEq, Eq)]
 pub struct NoLobby;
 
-/// The connections of a lobby that has none.
+/// What would be a connection of a lobby that has none: nothing comes of it, and what is given to
+/// it is gone.
 #[derive(Clone, Copy, Debug, PartialEq, Eq)]
-pub enum NoLink {}
+pub struct NoLink;
 
 impl Source for NoLink {
     ghost left = { λ _. None };
@@ -19,7 +20,7 @@ impl Source for NoLink {
     ghost plan = { λ _. None };
 
     fn take(&mut self, _room: &mut [u8]) -> Took {
-        match *self {}
+        Took::End
     }
 }
 
@@ -32,8 +33,8 @@ impl Sink for NoLink {
 
     ghost plan = { λ _. None };
 
-    fn give(&mut self, _bytes: &[u8]) -> Gave {
-        match *self {}
+    fn give(&mut self, bytes: &[u8]) -> Gave {
+        Gave::Bytes(bytes.len())
     }
 }
 
