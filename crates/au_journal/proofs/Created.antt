@@ -1,17 +1,15 @@
 -- What the steps of a format leave.
-use Rattle.std.proofs.Common.{◌≡◌, ◌≢◌, ◌⊎◌, inl, inr, ⊎_elim, ℕ, zero, suc, ◌+◌, ◌≤◌, ◌<◌, min, max, List, [], ◌∷◌, ◌++◌, length, take, drop, refl, sym, ◌∙◌, ap, subst, arith, append_assoc, length-drop, length-take}
+use Rattle.std.proofs.Common.{◌≡◌, inl, inr, ℕ, zero, suc, ◌+◌, ◌≤◌, List, [], ◌∷◌, ◌++◌, length, take, drop, refl, sym, ◌∙◌, ap, subst, arith, append_assoc, length-take}
 use Rattle.std.proofs.lemmas.Bool.{cases_eq}
 use Rattle.std.proofs.lemmas.List.{append-nil, take_all, drop_all}
-use Rattle.au_io.specs.declared.disk.Area.{Area}
 use Rattle.au_io.specs.declared.disk.Area.TheVariants.{Head, A, B}
-use Rattle.au_io.specs.Areas.{Areas, area_of, with_area, overwritten, On, Torn, Cut}
-use Rattle.au_journal.specs.Frames.{spelled, header, front, framed_of, IsLimit, IsOpen, Stands}
+use Rattle.au_io.specs.Areas.{Areas, area_of, overwritten, On, Torn, Cut}
+use Rattle.au_journal.specs.Frames.{spelled, header, front, IsLimit, IsOpen, Stands}
 use Rattle.au_journal.specs.Images.{Selects, In}
 use Rattle.au_journal.specs.Seats.{IsFramed}
-use Rattle.au_journal.specs.Walk.{IsFormatted, IsUnformatted}
+use Rattle.au_journal.specs.Walk.{IsUnformatted}
 use Rattle.au_journal.specs.Creation.{IsBlank, OthersAreBlank, AreBlank, ACut, IsGateShut, HasRest, new_head, new_rest, IsNew, IsOnTheWay}
 use Rattle.au_journal.proofs.Standing.{front-push, front-nil}
-use Rattle.au_journal.proofs.Leaving.{step_in}
 
 -- a cut
 blank_cut : (d c : List ℕ) → IsBlank d → Cut 0 d c → IsBlank c

@@ -1,10 +1,10 @@
 -- From what a crash may leave before a call to what it may leave after.
-use Rattle.std.proofs.Common.{◌≡◌, ⊎_elim, ℕ, ◌≤◌, List, Result, Ok, Err, OnOk, is_err, true, false, refl, sym, ◌∙◌, ap, subst}
+use Rattle.std.proofs.Common.{◌≡◌, ℕ, List, Result, Ok, Err, OnOk, is_err, true, false, sym, subst}
 use Rattle.au_io.specs.declared.disk.Area.{Area}
 use Rattle.au_io.specs.declared.disk.Area.TheVariants.{Head, A, B}
 use Rattle.au_io.specs.Areas.{Areas, area_of, with_area, On}
 use Rattle.au_io.specs.Disk.{Meaning, Passes, Follows, IsDurable, Stays}
-use Rattle.au_io.specs.Moments.{Leaves, LeavesSince, CountsNow, OnlyNow, weaker, weaker_since, no_call, one_call, still_call, at_last, both_calls, step_and_sync, step_synced}
+use Rattle.au_io.specs.Moments.{Leaves, LeavesSince, CountsNow, weaker, weaker_since, one_call, step_and_sync, step_synced}
 use Rattle.au_journal.specs.Images.{Selects, In}
 
 still_selected : (area : Area) (R : List ℕ → List ℕ → Type 0) (d c : Areas) → On area R d c → Selects area d.head → Selects area c.head

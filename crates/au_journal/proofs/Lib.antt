@@ -2,6 +2,7 @@ pub mod Created
 pub mod Holding
 pub mod Leaving
 pub mod Lists
+pub mod Pieces
 pub mod Seating
 pub mod Standing
 pub mod Steps

@@ -1,16 +1,15 @@
 -- What a walk knows after one more call of the disk.
-use Rattle.std.proofs.Common.{◌≡◌, ◌≢◌, ℕ, ◌+◌, ◌<◌, ◌≤◌, Bool, true, false, Option, Some, None, MatchOption, List, [], ◌∷◌, ◌++◌, length, take, drop, refl, sym, ◌∙◌, ap, subst, arith, append_assoc, length-append, length-drop, take-append-drop}
+use Rattle.std.proofs.Common.{◌≡◌, ◌≢◌, ℕ, ◌+◌, ◌≤◌, Bool, true, false, Option, Some, None, MatchOption, List, [], ◌∷◌, ◌++◌, length, take, drop, refl, sym, ◌∙◌, ap, subst, arith, append_assoc, length-append, take-append-drop}
 use Rattle.std.specs.Int.{w64, to_be_bytes}
 use Rattle.std.proofs.lemmas.List.{take_at, drop_at, drop_all, append-nil, drop-drop}
-use Rattle.au_io.specs.declared.disk.Area.{Area}
 use Rattle.au_io.specs.Areas.{Areas, area_of}
 use Rattle.au_io.specs.Disk.{Meaning, Stays}
 use Rattle.au_io.specs.Moments.{Leaves, CountsNow}
 use Rattle.au_journal.specs.declared.seat.Seat.{Seat}
-use Rattle.au_journal.specs.Frames.{spelled, frame, header, front, IsShut, IsOpen, AreSome}
+use Rattle.au_journal.specs.Frames.{spelled, frame, header, front, IsShut, AreSome}
 use Rattle.au_journal.specs.Images.{Selects, In, EndsIn}
-use Rattle.au_journal.specs.Walk.{IsStill, IsWalked, HasFrame, IsBefore}
-use Rattle.au_journal.proofs.Standing.{front-push, front-nil, length-spelled, some-push, ends_at, open_more}
+use Rattle.au_journal.specs.Walk.{IsStill, IsWalked, IsBefore}
+use Rattle.au_journal.proofs.Standing.{front-push, front-nil, length-spelled, some-push, ends_at}
 
 pub still_after : (old new : Meaning) → CountsNow new → Stays old new → IsStill old → IsStill new
 still_after old new counts stays still c image = still c (stays.images c (counts old.moment c stays.time.later image)) ∙ sym stays.reads

@@ -1,18 +1,16 @@
 -- What the steps of an append and of a mend leave.
-use Rattle.std.proofs.Common.{◌≡◌, inl, inr, ⊎_elim, ℕ, ◌+◌, ◌<◌, ◌≤◌, Bool, true, false, List, [], ◌∷◌, ◌++◌, length, refl, sym, ◌∙◌, ap, subst, arith, append_assoc, length-append}
-use Rattle.au_io.specs.declared.disk.Area.{Area}
-use Rattle.au_io.specs.Areas.{Areas, area_of}
-use Rattle.au_io.specs.Disk.{Meaning, Passes}
-use Rattle.au_io.specs.Moments.{Leaves, LeavesSince, CountsNow, at_last, both_calls}
+use Rattle.std.proofs.Common.{◌≡◌, inl, inr, ℕ, ◌<◌, ◌≤◌, Bool, true, false, List, [], ◌∷◌, ◌++◌, length, sym, ◌∙◌, ap, subst, arith, append_assoc, length-append}
+use Rattle.au_io.specs.Areas.{area_of}
+use Rattle.au_io.specs.Disk.{Meaning}
+use Rattle.au_io.specs.Moments.{Leaves, LeavesSince}
 use Rattle.au_journal.specs.declared.seat.Seat.{Seat}
 use Rattle.au_journal.specs.declared.doubt.Doubt.{Doubt}
-use Rattle.au_journal.specs.declared.doubt.Doubt.TheVariants.{Settled, Body, Gate, Edge}
-use Rattle.au_journal.specs.Frames.{spelled, front, framed_of, Stands, StandsForOr}
+use Rattle.au_journal.specs.Frames.{spelled, front, framed_of}
 use Rattle.au_journal.specs.Images.{Closed, Doubted, TornEnd, EndsIn, In, MayStandFor}
-use Rattle.au_journal.specs.Seats.{IsPlaced, IsSettled, IsGateDoubted, IsEdgeDoubted, IsDoubted, IsFramed, advanced, left_in}
+use Rattle.au_journal.specs.Seats.{IsPlaced, IsSettled, IsGateDoubted, IsEdgeDoubted, IsFramed, advanced, left_in}
 use Rattle.au_journal.proofs.Leaving.{leaves_weaker, since_weaker}
 use Rattle.au_journal.proofs.Lists.{within, bare_is_torn, end_within}
-use Rattle.au_journal.proofs.Standing.{front-push, some-push, closed_or, doubted_or, end_stands, bare_stands, closed_stands, may_stand}
+use Rattle.au_journal.proofs.Standing.{front-push, some-push, closed_or, doubted_or, may_stand}
 
 module _ (seat : Seat) (bodies : List (List ℕ)) where
   abbrev F : List ℕ

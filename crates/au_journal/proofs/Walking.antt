@@ -1,10 +1,10 @@
 -- What a place of a walk says of the area.
-use Rattle.std.proofs.Common.{◌≡◌, ◌≢◌, ◌⊎◌, inl, inr, ℕ, zero, suc, ◌+◌, ◌-◌, ◌<◌, ◌≤◌, ◌^◌, min, List, [], ◌∷◌, ◌++◌, length, take, drop, get_or, codes, refl, sym, ◌∙◌, ap, subst, arith, append_assoc, length-append, length-take, length-drop, take-append-drop}
+use Rattle.std.proofs.Common.{◌≡◌, ◌≢◌, ◌⊎◌, inl, inr, ℕ, zero, suc, ◌+◌, ◌<◌, ◌≤◌, ◌^◌, min, List, [], ◌∷◌, ◌++◌, length, take, drop, get_or, codes, refl, sym, ◌∙◌, ap, subst, arith, append_assoc, length-append, length-take, length-drop, take-append-drop}
 use Rattle.std.specs.Int.{w32, w64, to_be_bytes, from_be_bytes}
 use Rattle.std.proofs.lemmas.Nat.{from_be_bytes-to_be_bytes_4, from_be_bytes-to_be_bytes_8}
-use Rattle.std.proofs.lemmas.List.{take_at, drop_at, drop_all, append-nil, drop-drop}
-use Rattle.au_journal.specs.Frames.{spelled, frame, header, front, IsLimit, IsShut, IsOpen, IsBroken}
-use Rattle.au_journal.specs.Walk.{IsNamed, HasNoLimit, HeadDamage, HasFrame}
+use Rattle.std.proofs.lemmas.List.{take_at, drop_all, append-nil, drop-drop}
+use Rattle.au_journal.specs.Frames.{spelled, frame, header, IsLimit, IsShut, IsOpen, IsBroken}
+use Rattle.au_journal.specs.Walk.{IsNamed, HasNoLimit, HasFrame}
 
 pub shut_from : (l : List ℕ) (k : ℕ) → get_or l k 0 ≢ 165 → IsShut (drop k l)
 shut_from [] zero other = tt

@@ -1,7 +1,7 @@
 -- The states between two syncs of a format, each by what every image holds.
-use Rattle.std.specs.Prelude.{◌≡◌, ◌≢◌, ◌⊎◌, ◌≤◌, ℕ, List, [], ◌∷◌, ◌++◌, take, drop}
+use Rattle.std.specs.Prelude.{◌≡◌, ◌⊎◌, ◌≤◌, ℕ, List, [], ◌∷◌, ◌++◌, take, drop}
 use Rattle.au_io.specs.declared.disk.Area.{Area}
-use Rattle.au_io.specs.declared.disk.Area.TheVariants.{Head, A, B}
+use Rattle.au_io.specs.declared.disk.Area.TheVariants.{A, B}
 use Rattle.au_io.specs.Areas.{Areas, area_of}
 use Rattle.au_io.specs.Disk.{Meaning}
 use Rattle.au_io.specs.Faults.{HasRisen}

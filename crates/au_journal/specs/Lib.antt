@@ -6,3 +6,4 @@ pub mod Images
 pub mod Journals
 pub mod Seats
 pub mod Walk
+pub mod Window

@@ -91,7 +91,7 @@ mended seat = left_in Settled (bare_after seat.doubt seat.bare) seat
 abbrev pub IsSome : List ℕ → Type 0
 IsSome body = 0 < length body
 
--- the same place and area
+-- the same place and area, and a gate there if there was one
 pub record IsUnmoved (old new : Seat) : Type 0 where
   pub area : new.area ≡ old.area
   pub limit : new.limit ≡ old.limit
@@ -99,6 +99,7 @@ pub record IsUnmoved (old new : Seat) : Type 0 where
   pub used : new.used ≡ old.used
   pub reach : new.reach ≡ old.reach
   pub ended : new.ended ≡ old.ended
+  pub gated : old.bare ≡ false → new.bare ≡ false
 
 -- the bytes of gates that an append writes
 abbrev pub gate_bytes : Bool → ℕ

@@ -1,5 +1,5 @@
 -- What is known of an area when it is mounted, and while its frames are walked.
-use Rattle.std.specs.Prelude.{◌≡◌, ◌≢◌, ◌⊎◌, ◌<◌, ◌≤◌, ◌+◌, ℕ, Option, Some, None, Result, Ok, Err, false, List, [], ◌∷◌, ◌++◌, length, take, drop, codes, ⊤}
+use Rattle.std.specs.Prelude.{◌≡◌, ◌⊎◌, ◌<◌, ◌≤◌, ◌+◌, ℕ, false, List, [], ◌++◌, length, take, drop, codes, ⊤}
 use Rattle.std.specs.Int.{w32, to_be_bytes}
 use Rattle.au_io.specs.declared.disk.Area.{Area}
 use Rattle.au_io.specs.Areas.{Areas, area_of}

@@ -16,6 +16,7 @@ mod mount_fault;
 mod mounting;
 mod seat;
 mod walk;
+mod window;
 mod writing;
 
 pub use appended::Appended;

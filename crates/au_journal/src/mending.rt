@@ -19,6 +19,7 @@ pub(crate) fn mend_seat<D: Disk>(disk: &mut D, seat: Seat) -> Result<Seat, Faile
         → IsDoubted (D.meaning disk.new) seat bodies body }
     ensures any_moment { (bodies : List (List ℕ)) (body : List ℕ) → IsSome body → IsDoubted (D.meaning disk.old) seat bodies body
         → LeavesSince (In seat.area (MayStandFor seat.bare seat.limit bodies body)) (D.meaning disk.old) (D.meaning disk.new) }
+    ensures still { seat.doubt ≡ Doubt.Settled → disk.new ≡ disk.old }
     ensures mends { IfOk result (λ new. new ≡ mended seat) }
     ensures time { Passes (D.meaning disk.old) (D.meaning disk.new) }
     ensures cost { (D.meaning disk.new).written ≤ (D.meaning disk.old).written + 1 }
@@ -37,6 +38,7 @@ fn clear_doubt<D: Disk>(disk: &mut D, seat: Seat) -> Result<(), Failed>
         → IsDoubted (D.meaning disk.new) seat bodies body }
     ensures any_moment { (bodies : List (List ℕ)) (body : List ℕ) → IsSome body → IsDoubted (D.meaning disk.old) seat bodies body
         → LeavesSince (In seat.area (MayStandFor seat.bare seat.limit bodies body)) (D.meaning disk.old) (D.meaning disk.new) }
+    ensures still { seat.doubt ≡ Doubt.Settled → disk.new ≡ disk.old }
     ensures time { Passes (D.meaning disk.old) (D.meaning disk.new) }
     ensures cost { (D.meaning disk.new).written ≤ (D.meaning disk.old).written + 1 }
     ensures cause { HasCause (D.faults disk.old) (D.faults disk.new) result }

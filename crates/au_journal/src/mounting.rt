@@ -10,6 +10,7 @@ ghost use Rattle.au_journal.specs.Walk.{IsMounted, MountSays, IsWalked, IsBefore
 
 use crate::head::{HEAD_BYTES, limit_of, read_head, selected, sync_all};
 use crate::walk::{FRAME_HEAD, length_at};
+use crate::window::Window;
 use crate::{Doubt, Journal, MountFault, Seat};
 use au_io::{Area, Disk};
 
@@ -27,7 +28,11 @@ impl<D: Disk> Journal<D> {
     {
         let mut disk = disk;
         match find_seat(&mut disk) {
-            Ok(seat) => Ok(Journal { disk, seat }),
+            Ok(seat) => Ok(Journal {
+                disk,
+                seat,
+                window: Window::new(),
+            }),
             Err(why) => Err((disk, why)),
         }
     }
@@ -51,7 +56,13 @@ impl<D: Disk> Journal<D> {
             return Ok(None);
         }
         let seat = self.seat;
-        let found = length_at(&mut self.disk, seat.area, seat.size, seat.used)?;
+        let found = length_at(
+            &mut self.disk,
+            &mut self.window,
+            seat.area,
+            seat.size,
+            seat.used,
+        )?;
         self.seat = match found {
             None => Seat {
                 ended: true,
@@ -81,7 +92,7 @@ impl<D: Disk> Journal<D> {
     {
         let seat = self.seat;
         let at = seat.used + FRAME_HEAD as u64;
-        let count = self.disk.read(seat.area, at, room)?;
+        let count = self.window.read(&mut self.disk, seat.area, at, room)?;
         if count < room.len() {
             // The area became shorter since it was mounted.
             return Err(MountFault::Damaged {

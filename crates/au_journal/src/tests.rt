@@ -385,14 +385,14 @@ fn a_format_is_made_again(rt: HostRuntime) -> Result<(), Fail> {
     Ok(())
 }
 
-// Which call fails of those of an append, which are the disk's calls from 25 on: the write behind
+// Which call fails of those of an append, which are the disk's calls from 24 on: the write behind
 // the gate, its sync, the gate, its sync. Then how many bodies the picked images hold. What reads
 // after a failed write of the gate may be either.
 static APPENDS: [(u64, [u8; 5]); 4] = [
+    (24, [1, 1, 1, 1, 1]),
     (25, [1, 1, 1, 1, 1]),
-    (26, [1, 1, 1, 1, 1]),
-    (27, [1, 1, 1, 1, 2]),
-    (28, [1, 2, 1, 1, 2]),
+    (26, [1, 1, 1, 1, 2]),
+    (27, [1, 2, 1, 1, 2]),
 ];
 
 // A journal that was walked. No damage is expected: it counts as want of memory.
@@ -484,7 +484,7 @@ fn an_append_that_fails_leaves_the_bodies_before_or_with_the_new_one(
 
 // The failing calls of an append and then of its mend. A mend syncs alone where the gate was never
 // written; else it writes the closed gate and syncs.
-static MENDS: [[u64; 2]; 6] = [[25, 26], [26, 27], [27, 28], [27, 29], [28, 29], [28, 30]];
+static MENDS: [[u64; 2]; 6] = [[24, 25], [25, 26], [26, 27], [26, 28], [27, 28], [27, 29]];
 
 #[test]
 fn a_mend_that_fails_leaves_the_doubt(rt: HostRuntime) -> Result<(), Fail> {

@@ -6,9 +6,11 @@ ghost use Rattle.au_io.specs.Disk.{Stays};
 ghost use Rattle.au_journal.specs.Causes.{WalkCause};
 ghost use Rattle.au_journal.specs.Frames.{IsShut};
 ghost use Rattle.au_journal.specs.Walk.{HasFrame, WalkSays};
+ghost use Rattle.au_journal.specs.Window.{Shows};
 
 use crate::MountFault;
 use crate::gates::OPEN;
+use crate::window::Window;
 use au_io::{Area, Disk};
 
 /// The bytes before a body: the gate and the length.
@@ -18,19 +20,23 @@ pub(crate) const FRAME_HEAD: usize = 9;
 /// size.
 pub(crate) fn length_at<D: Disk>(
     disk: &mut D,
+    window: &mut Window,
     area: Area,
     size: u64,
     used: u64,
 ) -> Result<Option<u64>, MountFault>
+    requires short { used ≤ 2 ^ 62 }
+    requires shown { D.told → Shows window.old (area_of area (D.meaning disk.old).reads) }
     ensures next { D.told → size ≡ length (area_of area (D.meaning disk.old).reads) → IfOk result (λ found. MatchOption found (IsShut (drop used (area_of area (D.meaning disk.old).reads)))
         (λ n. HasFrame n (drop used (area_of area (D.meaning disk.old).reads)))) }
     ensures fits { IfOk result (λ found. MatchOption found ⊤ (λ n. used + 9 + n ≤ size)) }
     ensures why { D.told → size ≡ length (area_of area (D.meaning disk.old).reads) → IfErr result (WalkSays (drop used (area_of area (D.meaning disk.old).reads)) area used) }
+    ensures shown { D.told → Shows window.new (area_of area (D.meaning disk.new).reads) }
     ensures stays { Stays (D.meaning disk.old) (D.meaning disk.new) }
     ensures cause { WalkCause result (D.faults disk.old) (D.faults disk.new) }
 {
     let mut room = [0u8; FRAME_HEAD];
-    let count = disk.read(area, used, &mut room)?;
+    let count = window.read(disk, area, used, &mut room)?;
     if count == 0 || room[0] != OPEN {
         return Ok(None);
     }

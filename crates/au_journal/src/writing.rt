@@ -70,6 +70,7 @@ impl<D: Disk> Journal<D> {
         if !free && needed > limit {
             return Appended::Full { needed, limit };
         }
+        self.window.clear();
         match append_at(&mut self.disk, self.seat, framed) {
             Ok(seat) => {
                 self.seat = seat;
@@ -92,12 +93,14 @@ impl<D: Disk> Journal<D> {
             → result ≡ Mended.Disk → IsDoubted (D.meaning (disk_of self.new)) (seat_of self.new) bodies body }
         ensures any_moment { (bodies : List (List ℕ)) (body : List ℕ) → IsSome body → IsDoubted (D.meaning (disk_of self.old)) (seat_of self.old) bodies body
             → LeavesSince (In (seat_of self.old).area (MayStandFor (seat_of self.old).bare (seat_of self.old).limit bodies body)) (D.meaning (disk_of self.old)) (D.meaning (disk_of self.new)) }
+        ensures still { (seat_of self.old).doubt ≡ Doubt.Settled → disk_of self.new ≡ disk_of self.old }
         ensures mends { result ≡ Mended.Done → seat_of self.new ≡ mended (seat_of self.old) }
         ensures rests { result ≡ Mended.Disk → seat_of self.new ≡ seat_of self.old }
         ensures time { Passes (D.meaning (disk_of self.old)) (D.meaning (disk_of self.new)) }
         ensures cost { (D.meaning (disk_of self.new)).written ≤ (D.meaning (disk_of self.old)).written + 1 }
         ensures cause { MendCause result (D.faults (disk_of self.old)) (D.faults (disk_of self.new)) }
     {
+        self.window.clear();
         match mend_seat(&mut self.disk, self.seat) {
             Ok(seat) => {
                 self.seat = seat;

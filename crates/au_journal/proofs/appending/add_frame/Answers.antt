@@ -1,10 +1,9 @@
-use Rattle.std.proofs.Common.{◌≡◌, Bool, false, ◌+◌, ◌++◌, [], ◌∷◌, List, ℕ, length, subst, sym}
+use Rattle.std.proofs.Common.{Bool, false, List, ℕ, subst, sym}
 use Rattle.au_io.specs.Moments.{Leaves, at_last, both_calls}
 use Rattle.au_journal.specs.Frames.{front, spelled, framed_of}
 use Rattle.au_journal.specs.Images.{Closed, Staged, Doubted, EndsIn, In, MayStandFor}
-use Rattle.au_journal.specs.declared.doubt.Doubt.TheVariants.{Settled, Body, Gate, Edge}
 use Rattle.au_journal.proofs.Leaving.{from_ok}
-use Rattle.au_journal.proofs.Steps.{gate_leaves, closed_since, doubted_since, appended_settled, gated_settled}
+use Rattle.au_journal.proofs.Steps.{gate_leaves, closed_since, doubted_since, appended_settled}
 use Rattle.au_journal.proofs.appending.add_frame.Goals as goal
 
 pub returns-then-is_err-clause-doubted : goal.returns-then-is_err-clause-doubted

@@ -1,7 +1,7 @@
-use Rattle.std.proofs.Common.{◌≡◌, List, ℕ, refl}
-use Rattle.au_io.specs.Moments.{Leaves, at_last}
+use Rattle.std.proofs.Common.{refl}
+use Rattle.au_io.specs.Moments.{at_last}
 use Rattle.au_journal.specs.Frames.{front}
-use Rattle.au_journal.specs.Images.{Closed, TornEnd, In}
+use Rattle.au_journal.specs.Images.{TornEnd, In}
 use Rattle.au_journal.proofs.Leaving.{from_ok}
 use Rattle.au_journal.proofs.Steps.{bare_leaves, torn_since}
 use Rattle.au_journal.proofs.appending.close_end.Goals as goal

@@ -1,10 +1,9 @@
-use Rattle.std.proofs.Common.{◌≡◌, [], ◌∷◌, List, ℕ, take, refl, ap, ◌∙◌, sym}
-use Rattle.au_io.specs.declared.disk.Area.TheVariants.{Head, A, B}
-use Rattle.au_io.specs.Areas.{Areas, area_of, overwritten, On, Torn, Cut}
-use Rattle.au_io.specs.Moments.{weaker, one_call, step_and_sync, step_synced}
-use Rattle.au_journal.specs.Images.{Selects, In}
-use Rattle.au_journal.specs.Creation.{AreBlank, ACut, IsBlank, IsGateShut, HasRest}
-use Rattle.au_journal.proofs.Leaving.{step_in, on_ok}
+use Rattle.std.proofs.Common.{take}
+use Rattle.au_io.specs.declared.disk.Area.TheVariants.{A}
+use Rattle.au_io.specs.Areas.{On, Cut}
+use Rattle.au_io.specs.Moments.{one_call, step_and_sync, step_synced}
+use Rattle.au_journal.specs.Creation.{AreBlank}
+use Rattle.au_journal.proofs.Leaving.{on_ok}
 use Rattle.au_journal.proofs.Created.{cut_blank, cut_done}
 use Rattle.au_journal.proofs.creation.cut_a.Goals as goal
 

@@ -1,11 +1,6 @@
-use Rattle.std.proofs.Common.{◌≡◌, [], ◌∷◌, List, ℕ, inl, inr, ⊎_elim, refl, ap, ◌∙◌, sym, subst, arith}
-use Rattle.au_io.specs.declared.disk.Area.TheVariants.{Head, A, B}
-use Rattle.au_io.specs.Areas.{Areas, area_of, overwritten, On, Torn}
-use Rattle.au_io.specs.Moments.{Leaves, LeavesSince, weaker_since, at_last, one_call, both_calls, both_pass, step_and_sync, step_synced}
-use Rattle.au_journal.specs.Images.{Selects, In}
-use Rattle.au_journal.specs.Creation.{AreBlank, ACut, IsBlank, IsGateShut, HasRest, new_rest, IsOnTheWay, IsNew, FormatLeaves}
-use Rattle.au_journal.proofs.Leaving.{step_in, in_weaker, on_ok}
-use Rattle.au_journal.proofs.Created.{shut_first, shut_kept, rest_written, blank_way, in_way, shut_way, rest_way, cut_blanks, new_area, all_blank}
+use Rattle.au_io.specs.Moments.{weaker_since, both_calls, both_pass}
+use Rattle.au_journal.specs.Creation.{AreBlank, ACut, new_rest, IsOnTheWay}
+use Rattle.au_journal.proofs.Created.{blank_way, cut_blanks}
 use Rattle.au_journal.proofs.creation.lay_down.Goals as goal
 
 pub returns-in_err-cut_a-clause-any_moment : goal.returns-in_err-cut_a-clause-any_moment

@@ -1,10 +1,9 @@
-use Rattle.std.proofs.Common.{◌≡◌, [], ◌∷◌, List, ℕ, take, refl, ap, ◌∙◌, sym}
-use Rattle.au_io.specs.declared.disk.Area.TheVariants.{Head, A, B}
-use Rattle.au_io.specs.Areas.{Areas, area_of, overwritten, On, Torn, Cut}
-use Rattle.au_io.specs.Moments.{weaker, one_call, step_and_sync, step_synced}
-use Rattle.au_journal.specs.Images.{Selects, In}
-use Rattle.au_journal.specs.Creation.{AreBlank, ACut, IsBlank, IsGateShut, HasRest}
-use Rattle.au_journal.proofs.Leaving.{step_in, on_ok}
+use Rattle.std.proofs.Common.{[], ◌∷◌}
+use Rattle.au_io.specs.declared.disk.Area.TheVariants.{Head}
+use Rattle.au_io.specs.Areas.{overwritten, On, Torn}
+use Rattle.au_io.specs.Moments.{one_call, step_and_sync, step_synced}
+use Rattle.au_journal.specs.Creation.{ACut}
+use Rattle.au_journal.proofs.Leaving.{on_ok}
 use Rattle.au_journal.proofs.Created.{head_cut, select_done}
 use Rattle.au_journal.proofs.creation.select_a.Goals as goal
 

@@ -1,4 +1,4 @@
-use Rattle.std.proofs.Common.{◌≡◌, inl, inr, ⊎_elim, ◌<◌, ◌≤◌, ◌^◌, refl, arith}
+use Rattle.std.proofs.Common.{inl, inr, ⊎_elim, ◌<◌, refl, arith}
 use Rattle.au_journal.specs.Frames.{IsLimit}
 use Rattle.au_journal.proofs.Walking.{shut_from, open_from, head_split, head_header, no_limit}
 use Rattle.au_journal.proofs.head.limit_of.Goals as goal

@@ -1,9 +1,9 @@
-use Rattle.std.proofs.Common.{◌≡◌, Bool, true, false, List, ℕ, sym, ◌∙◌, ap, subst}
+use Rattle.std.proofs.Common.{◌≡◌, Bool, false, sym, ◌∙◌, ap, subst}
 use Rattle.au_io.specs.Moments.{LeavesSince, at_last}
 use Rattle.au_journal.specs.declared.doubt.Doubt.{Doubt}
-use Rattle.au_journal.specs.declared.doubt.Doubt.TheVariants.{Settled, Body, Gate, Edge}
+use Rattle.au_journal.specs.declared.doubt.Doubt.TheVariants.{Settled}
 use Rattle.au_journal.specs.Frames.{front, framed_of}
-use Rattle.au_journal.specs.Images.{Closed, Doubted, TornEnd, In, MayStandFor}
+use Rattle.au_journal.specs.Images.{Doubted, TornEnd, In, MayStandFor}
 use Rattle.au_journal.specs.Seats.{IsIn, IsSettled, left_in, bare_after}
 use Rattle.au_journal.proofs.Leaving.{on_ok}
 use Rattle.au_journal.proofs.Steps.{doubted_since, torn_since, gated_settled}

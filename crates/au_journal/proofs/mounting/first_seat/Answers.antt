@@ -1,4 +1,4 @@
-use Rattle.std.proofs.Common.{◌≡◌, ◌++◌, List, ℕ, length, take, drop, refl, sym, ◌∙◌, ap, subst}
+use Rattle.std.proofs.Common.{◌++◌, length, drop, refl, sym, ◌∙◌, ap, subst}
 use Rattle.au_io.specs.Areas.{Areas, area_of}
 use Rattle.au_journal.specs.Images.{Selects}
 use Rattle.au_journal.proofs.Standing.{front-nil, open_more}

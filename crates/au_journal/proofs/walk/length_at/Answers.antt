@@ -1,6 +1,6 @@
-use Rattle.std.proofs.Common.{◌≡◌, ◌⊎◌, inl, inr, ℕ, ◌+◌, ◌<◌, ◌≤◌, ◌^◌, ◌∙◌, min, length, length-drop, drop, refl, sym, ap, arith}
+use Rattle.std.proofs.Common.{◌≡◌, ◌⊎◌, inl, inr, ℕ, ◌+◌, ◌<◌, ◌≤◌, ◌∙◌, min, length, length-drop, drop, refl, sym, ap, arith}
 use Rattle.au_io.specs.Areas.{area_of}
-use Rattle.au_journal.proofs.Walking.{shut_there, open_there, whole_read, has_frame, broken_there}
+use Rattle.au_journal.proofs.Walking.{open_there, whole_read, has_frame, broken_there}
 use Rattle.au_journal.proofs.walk.length_at.Goals as goal
 use Rattle.au_journal.proofs.walk.length_at.Goals.{then-count-lt-FRAME_HEAD-via-then-count-lt-FRAME_HEAD, then-count-lt-FRAME_HEAD-via-else-count-lt-FRAME_HEAD+then-n-eq0, then-count-lt-FRAME_HEAD-via-else-count-lt-FRAME_HEAD+else-n-eq0+then-n-saturating_sub}
 

@@ -1,4 +1,4 @@
-use Rattle.std.proofs.Common.{◌≡◌, Bool, true, false, List, ℕ, sym, subst}
+use Rattle.std.proofs.Common.{Bool, true, false, sym, subst}
 use Rattle.au_io.specs.Moments.{LeavesSince, both_calls}
 use Rattle.au_journal.specs.declared.seat.Seat.{Seat}
 use Rattle.au_journal.specs.Images.{In, MayStandFor}

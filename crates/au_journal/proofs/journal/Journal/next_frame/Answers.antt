@@ -1,8 +1,6 @@
-use Rattle.std.proofs.Common.{◌≡◌, ◌+◌, ◌++◌, [], ◌∷◌, List, ℕ, length, take, drop, refl, sym, ◌∙◌, ap, subst, arith}
+use Rattle.std.proofs.Common.{◌≡◌, ◌+◌, ◌++◌, [], ◌∷◌, List, ℕ, length, drop, sym, ◌∙◌, ap, subst, arith}
 use Rattle.au_io.specs.Areas.{area_of}
-use Rattle.au_io.specs.Disk.{Stays}
 use Rattle.au_journal.specs.Frames.{front, AreSome}
-use Rattle.au_journal.specs.Journals.{disk_of, seat_of}
 use Rattle.au_journal.proofs.Seating.{walked_after, next_split, next_place, next_fits, next_some, next_here, room_is}
 use Rattle.au_journal.proofs.journal.Journal.next_frame.Goals as goal
 
@@ -16,13 +14,13 @@ pub returns-clause-next : goal.returns-clause-next
 returns-clause-next g c = λ told bodies before.
     let laws = g.met.D.Disk g.world.𝓛 g.world.𝓜 g.world.𝓡 ((λ s x. x), (λ x. x), (λ x. x), λ x. x) in
     let old = g.D.Disk.meaning c.args.self.now.disk in
-    let new = g.D.Disk.meaning c.read.new.self in
+    let new = g.D.Disk.meaning c.read.new.disk in
     let seat = c.args.self.now.seat in
     let room = c.args.room.now in
     let n = length room in
     let area = area_of seat.area old.reads in
     let stays = c.in_ok-count.ensures.stays in
-    let walked = walked_after old new seat bodies (laws.counts_now c.read.new.self) stays before.walked in
+    let walked = walked_after old new seat bodies (laws.counts_now c.read.new.disk) stays before.walked in
     let full : c.in_ok-count.count ≡ n = omega (arith, c.in_ok-count.ensures.count, c.if-count-room.false) in
     let read : c.read.new.room ≡ before.next.body =
     room_is c.read.new.room room (drop (seat.used + 9) area) c.in_ok-count.count full (c.in_ok-count.ensures.bytes told)

@@ -1,9 +1,9 @@
-use Rattle.std.proofs.Common.{◌≡◌, ◌≢◌, true, false, ◌+◌, ℕ, List, length, drop, Option, Some, None, MatchOption, refl, sym, ◌∙◌, ap, subst, arith}
+use Rattle.std.proofs.Common.{ℕ, drop, Option, MatchOption, refl, sym, ◌∙◌, ap, subst}
 use Rattle.std.proofs.Math.Dec.{eqb}
 use Rattle.std.proofs.lemmas.Bool.{eqb-true, eqb-false}
 use Rattle.au_io.specs.Areas.{Areas, area_of}
 use Rattle.au_journal.specs.Frames.{IsShut}
-use Rattle.au_journal.specs.Walk.{HasFrame, IsWalked, IsBefore}
+use Rattle.au_journal.specs.Walk.{HasFrame, IsBefore}
 use Rattle.au_journal.specs.Seats.{IsSettled}
 use Rattle.au_journal.specs.declared.seat.Seat.{Seat}
 use Rattle.au_journal.proofs.Seating.{walked_after, rest_is, end_leaves, none_of, some_of}
