@@ -1,5 +1,5 @@
 -- What the end of a client's changes leaves, row by row.
-use Rattle.std.proofs.Common.{◌≡◌, ◌⊎◌, inl, inr, ℕ, zero, suc, ◌+◌, ◌≤◌, Bool, true, false, ◌||◌, List, [], ◌∷◌, length, drop, refl, ap, ap₂, sym, subst, ◌∙◌, arith, Option, Some, None}
+use Rattle.std.proofs.Common.{◌≡◌, ◌⊎◌, inl, inr, ℕ, zero, suc, ◌+◌, ◌≤◌, Bool, true, false, is_some, ◌||◌, List, [], ◌∷◌, filter, get_or, length, drop, refl, ap, ap₂, sym, subst, ◌∙◌, arith, Option, Some, None}
 use Rattle.std.specs.Prelude.{◌==◌}
 use Rattle.std.specs.List.{list_all, list_any, count_by}
 use Rattle.std.specs.Option.{option_and_then}
@@ -10,11 +10,13 @@ use Rattle.au_rows.specs.declared.ending.Ending.{Ending}
 use Rattle.au_rows.specs.declared.place.Place.{Place}
 use Rattle.au_rows.specs.declared.unsettled.Unsettled.{Unsettled}
 use Rattle.au_rows.specs.declared.version.Version.{Version}
-use Rattle.au_rows.specs.Ends.{EndedBefore, IfOwn, IsCovered, KeptOrEnded, RowEnded, is_own, is_own_of}
+use Rattle.au_rows.specs.Ends.{EndedBefore, IfOwn, IsCovered, IsGone, KeptOrEnded, RowEnded, is_bare, is_clear, is_own, is_own_of, is_used_still}
 use Rattle.au_rows.specs.Held.{is_by, is_this}
-use Rattle.au_rows.specs.Kept.{is_owned, is_version, is_whole, owner_in, place_in, place_owner, place_shown}
+use Rattle.au_rows.specs.Kept.{change_names, is_owned, is_used, is_version, is_whole, owner_in, place_in, place_names, place_owner, place_shown, unsettled_others}
 use Rattle.au_rows.specs.Order.{in_order}
+use Rattle.au_rows.proofs.ChainLemmas.{slot-named}
 use Rattle.au_rows.proofs.EndLemmas.{frees-trans}
+use Rattle.au_rows.proofs.UsedLemmas.{bare-names, bare-unowned, not-vacant, or-left, or-right, some-before}
 
 abbrev owner_at : Option Place → Option ClientNo
 owner_at place = option_and_then place_owner place
@@ -58,6 +60,8 @@ ended-none e by changes places slots order whole covered = record {
   others = λ t n. same (is_by by (owner_in t n places)) (place_in t n places);
   ahead = covered;
   shown = omega arith;
+  within = λ slot h. h;
+  used = λ all slot some. or-left (is_used places changes slot) (list_any (change_names slot) (filter (unsettled_others by) changes)) (all slot some);
 }
   where
     same : (b : Bool) (o : Option Place) → KeptOrEnded b o o
@@ -66,7 +70,8 @@ ended-none e by changes places slots order whole covered = record {
 
 module _ (e : Ending) (by : ClientNo) (change : Unsettled) (rest changes : List Unsettled) (old mid new : List Place) (before during after : List (Option Version))
     (so_far : EndedBefore e by (change ∷ rest) changes old before mid during)
-    (owned : is_owned old change ≡ true) where
+    (owned : is_owned old change ≡ true)
+    (gone : is_own by change ≡ true → IsGone change.slot (place_in change.table change.number new) after) where
   step-own : is_own by change ≡ true → RowEnded e change.table change.number by mid during new after → EndedBefore e by rest changes old before new after
   step-own own row = record {
     order = row.order;
@@ -82,10 +87,50 @@ module _ (e : Ending) (by : ClientNo) (change : Unsettled) (rest changes : List 
     others = λ t n. others t n (is_this change.table change.number t n) refl;
     ahead = λ t n is. ahead t n is (is_this change.table change.number t n) refl;
     shown = shown;
+    within = λ slot h. so_far.within slot (rw others_skip h);
+    used = λ all slot some. used slot some (so_far.used all slot (some-before during after row.frees slot some));
   }
     where
       mine : is_by by (owner_in change.table change.number old) ≡ true
       mine = sym (by-own by change.by (owner_in change.table change.number old) own) ∙ owned
+
+      others_skip : filter (unsettled_others by) (change ∷ rest) ≡ filter (unsettled_others by) rest
+      others_skip = let mine_too : unsettled_others by change ≡ false = grind (arith, common_steps) in rw mine_too refl
+
+      bare : is_bare (place_in change.table change.number new) ≡ true
+      bare = go row.here
+        where
+          still : (b : Bool) → is_by by (owner_in change.table change.number old) ≡ b → KeptOrEnded b (place_in change.table change.number old) (place_in change.table change.number mid)
+              → is_by by (owner_in change.table change.number mid) ≡ false → is_bare (place_in change.table change.number mid) ≡ true
+          still true e (inl same) other = absurd (no-more (is_by by (owner_in change.table change.number mid)) (ap (λ (o : Option Place). is_by by (owner_at o)) same ∙ e) other)
+          still true e (inr b) other = b
+          still false e same other = absurd (no-more (is_by by (owner_in change.table change.number old)) mine e)
+
+          go : (is_bare (place_in change.table change.number new) ≡ true) ⊎ ((is_by by (owner_in change.table change.number mid) ≡ false) × (place_in change.table change.number new ≡ place_in change.table change.number mid))
+              → is_bare (place_in change.table change.number new) ≡ true
+          go (inl b) = b
+          go (inr same) = ap is_bare same.1 ∙ still (is_by by (owner_in change.table change.number old)) refl (so_far.others change.table change.number) same.0
+
+      named : (slot : ℕ) → is_some (get_or after slot None) ≡ true → change_names slot change ≡ true → list_any (place_names slot) new ≡ true
+      named slot some names = go (subst (λ (o : Option ℕ). IsGone o (place_in change.table change.number new) after) (slot-named slot change.slot names) (gone own))
+        where
+          go : (get_or after slot None ≡ None) ⊎ (is_clear (Some slot) (place_in change.table change.number new) ≡ false) → list_any (place_names slot) new ≡ true
+          go (inl none) = absurd (not-vacant after slot some none)
+          go (inr clear) = bare-names new change.table change.number slot bare clear
+
+      used : (slot : ℕ) → is_some (get_or after slot None) ≡ true → is_used_still by (change ∷ rest) changes mid slot ≡ true → is_used_still by rest changes new slot ≡ true
+      used slot some h = go (list_any (place_names slot) mid) (change_names slot change) refl refl h
+        where
+          go : (m c : Bool) → list_any (place_names slot) mid ≡ m → change_names slot change ≡ c
+              → ((m || (c || list_any (change_names slot) rest)) || list_any (change_names slot) (filter (unsettled_others by) changes)) ≡ true → is_used_still by rest changes new slot ≡ true
+          go true c e f u = let here = row.keeps slot some e in rw here refl
+          go false true e f u = let here = named slot some f in rw here refl
+          go false false e f u = keep (list_any (place_names slot) new) u
+            where
+              keep : (b : Bool) → (list_any (change_names slot) rest || list_any (change_names slot) (filter (unsettled_others by) changes)) ≡ true
+                  → ((b || list_any (change_names slot) rest) || list_any (change_names slot) (filter (unsettled_others by) changes)) ≡ true
+              keep true w = refl
+              keep false w = w
 
       apart : (t : ℕ) (n : RowNo) → is_by by (owner_in t n old) ≡ false → is_this change.table change.number t n ≡ false
       apart t n non = go (is_this change.table change.number t n) refl
@@ -112,9 +157,9 @@ module _ (e : Ending) (by : ClientNo) (change : Unsettled) (rest changes : List 
           is_mine : is_by by (owner_in t n old) ≡ true
           is_mine = ap (λ (o : Option Place). is_by by (owner_at o)) (same-row old change.table change.number t n h) ∙ mine
 
-          here : (owner_in change.table change.number new ≡ None) ⊎ ((is_by by (owner_in change.table change.number mid) ≡ false) × (place_in change.table change.number new ≡ place_in change.table change.number mid))
+          here : (is_bare (place_in change.table change.number new) ≡ true) ⊎ ((is_by by (owner_in change.table change.number mid) ≡ false) × (place_in change.table change.number new ≡ place_in change.table change.number mid))
               → KeptOrEnded (is_by by (owner_in t n old)) (place_in t n old) (place_in t n new)
-          here (inl none) = rw is_mine (inr (ap owner_at at_new ∙ none))
+          here (inl none) = rw is_mine (inr (ap is_bare at_new ∙ none))
           here (inr same) = subst (λ (o : Option Place). KeptOrEnded (is_by by (owner_in t n old)) (place_in t n old) o) (at_mid ∙ (sym same.1 ∙ sym at_new)) (so_far.others t n)
 
       ahead : (t : ℕ) (n : RowNo) → is_by by (owner_in t n new) ≡ true → (b : Bool) → is_this change.table change.number t n ≡ b → list_any (is_own_of t n by) rest ≡ true
@@ -132,8 +177,8 @@ module _ (e : Ending) (by : ClientNo) (change : Unsettled) (rest changes : List 
           at_new : place_in t n new ≡ place_in change.table change.number new
           at_new = same-row new change.table change.number t n h
 
-          here : (owner_in change.table change.number new ≡ None) ⊎ ((is_by by (owner_in change.table change.number mid) ≡ false) × (place_in change.table change.number new ≡ place_in change.table change.number mid)) → ⊥
-          here (inl none) = no-more (is_by by (owner_in t n new)) is (ap (λ (o : Option Place). is_by by (owner_at o)) at_new ∙ ap (is_by by) none)
+          here : (is_bare (place_in change.table change.number new) ≡ true) ⊎ ((is_by by (owner_in change.table change.number mid) ≡ false) × (place_in change.table change.number new ≡ place_in change.table change.number mid)) → ⊥
+          here (inl none) = no-more (is_by by (owner_in t n new)) is (ap (λ (o : Option Place). is_by by (owner_at o)) at_new ∙ ap (is_by by) (bare-unowned (place_in change.table change.number new) none))
           here (inr same) = no-more (is_by by (owner_in t n new)) is (ap (λ (o : Option Place). is_by by (owner_at o)) (at_new ∙ same.1) ∙ same.0)
 
   step-other : is_own by change ≡ false → new ≡ mid → after ≡ during → EndedBefore e by rest changes old before new after
@@ -152,8 +197,23 @@ module _ (e : Ending) (by : ClientNo) (change : Unsettled) (rest changes : List 
         others = so_far.others;
         ahead = λ t n is. ahead t n (so_far.ahead t n is);
         shown = shown;
+        within = λ slot h. so_far.within slot (rw others_first (or-right (change_names slot change) (list_any (change_names slot) (filter (unsettled_others by) rest)) h));
+        used = λ all slot some. used slot (so_far.used all slot some);
       }
         where
+          others_first : filter (unsettled_others by) (change ∷ rest) ≡ change ∷ filter (unsettled_others by) rest
+          others_first = let others : unsettled_others by change ≡ true = grind (arith, common_steps) in rw others refl
+
+          used : (slot : ℕ) → is_used_still by (change ∷ rest) changes mid slot ≡ true → is_used_still by rest changes mid slot ≡ true
+          used slot h = go (change_names slot change) refl h
+            where
+              go : (c : Bool) → change_names slot change ≡ c
+                  → ((list_any (place_names slot) mid || (c || list_any (change_names slot) rest)) || list_any (change_names slot) (filter (unsettled_others by) changes)) ≡ true → is_used_still by rest changes mid slot ≡ true
+              go true f u =
+                  let other : list_any (change_names slot) (filter (unsettled_others by) changes) ≡ true = so_far.within slot (rw others_first (or-left (change_names slot change) (list_any (change_names slot) (filter (unsettled_others by) rest)) f)) in
+                  or-right (is_used mid rest slot) (list_any (change_names slot) (filter (unsettled_others by) changes)) other
+              go false f u = u
+
           shown : count_by place_shown mid + count_by (is_own by) rest ≤ count_by place_shown old + count_by (is_own by) changes
           shown =
               let none = count-none (is_own by) change rest non in

@@ -1,5 +1,5 @@
 -- What is left after all changes of a client have ended.
-use Rattle.std.proofs.Common.{◌≡◌, inl, inr, ℕ, ◌+◌, ◌≤◌, Bool, true, false, not, cond, is_some, ◌||◌, List, [], ◌∷◌, filter, length, refl, ap, ap₂, sym, ◌∙◌, arith, Option, Some, None, map}
+use Rattle.std.proofs.Common.{◌≡◌, ◌⊎◌, inl, inr, ℕ, ◌+◌, ◌≤◌, Bool, true, false, not, cond, is_some, ◌||◌, List, [], ◌∷◌, filter, get_or, length, refl, ap, ap₂, sym, ◌∙◌, arith, Option, Some, None, map}
 use Rattle.std.specs.Prelude.{◌==◌}
 use Rattle.std.specs.List.{list_all, list_any, count_by}
 use Rattle.std.specs.Option.{option_map, option_and_then}
@@ -9,15 +9,17 @@ use Rattle.au_base.specs.declared.numbers.RowNo.{RowNo}
 use Rattle.au_base.specs.declared.numbers.ClientNo.{ClientNo}
 use Rattle.au_rows.specs.declared.ending.Ending.{Ending}
 use Rattle.au_rows.specs.declared.place.Place.{Place}
+use Rattle.au_rows.specs.declared.table.Table.{Table}
 use Rattle.au_rows.specs.declared.unsettled.Unsettled.{Unsettled}
 use Rattle.au_rows.specs.declared.version.Version.{Version}
-use Rattle.au_rows.specs.Ends.{EndedBefore, IsCovered, KeptOrEnded, is_own, is_own_of}
+use Rattle.au_rows.specs.Ends.{EndedBefore, IsCovered, KeptOrEnded, is_own, is_own_of, is_used_still}
 use Rattle.au_rows.specs.Held.{Change, all_ended, changes_of_others, is_by, is_left, is_this, or_else}
-use Rattle.au_rows.specs.Kept.{Sound, change_of, content_at, held_of, is_kept, is_logged, is_owned, is_version, is_whole, last_unsettled, owner_in, place_at, place_from, place_in, place_left, place_owned, place_owner, place_shown, unsettled_others}
+use Rattle.au_rows.specs.Kept.{IsIndexed, Sound, change_names, change_of, content_at, held_of, is_kept, is_logged, is_owned, is_used, is_version, is_whole, last_unsettled, owner_in, place_at, place_from, place_in, place_left, place_names, place_owned, place_owner, place_shown, unsettled_others}
 use Rattle.au_rows.specs.Order.{is_before, in_order}
 use Rattle.au_rows.proofs.AllLemmas.{no-more, same-row}
 use Rattle.au_rows.proofs.EndLemmas.{kept-some}
 use Rattle.au_rows.proofs.FoundLemmas.{none-after}
+use Rattle.au_rows.proofs.UsedLemmas.{bare-unowned}
 
 or_else-none : {A : Type 0} (o : Option A) → or_else o None ≡ o
 or_else-none None = refl
@@ -161,7 +163,7 @@ module _ (e : Ending) (by : ClientNo) (changes : List Unsettled) (old new : List
   agrees-by : (t : ℕ) (n : RowNo) (b : Bool) → is_by by (owner_in t n old) ≡ b → KeptOrEnded b (place_in t n old) (place_in t n new)
       → option_and_then place_owned (place_in t n new) ≡ cond b None (last_unsettled t n changes)
   agrees-by t n true b (inl same) = absurd (nobodys t n (ap (λ (p : Option Place). is_by by (option_and_then place_owner p)) same ∙ b))
-  agrees-by t n true b (inr none) = no-owner (place_in t n new) none
+  agrees-by t n true b (inr none) = no-owner (place_in t n new) (bare-unowned (place_in t n new) none)
   agrees-by t n false b same = ap (λ (p : Option Place). option_and_then place_owned p) same ∙ sound.agrees t n
 
   pub closed : Sound new after (filter (unsettled_others by) changes)
@@ -173,7 +175,22 @@ module _ (e : Ending) (by : ClientNo) (changes : List Unsettled) (old new : List
     logged = kept.logged;
     owned = kept.owned;
     agrees = λ t n. agrees-by t n (is_by by (owner_in t n old)) refl (done.others t n) ∙ sym (last-others by old t n (is_by by (owner_in t n old)) refl changes sound.owned);
+    used = λ slot some. used slot (done.used sound.used slot some);
   }
+    where
+      used : (slot : ℕ) → is_used_still by [] changes new slot ≡ true → is_used new (filter (unsettled_others by) changes) slot ≡ true
+      used slot h = go (list_any (place_names slot) new) h
+        where
+          go : (b : Bool) → ((b || false) || list_any (change_names slot) (filter (unsettled_others by) changes)) ≡ true → (b || list_any (change_names slot) (filter (unsettled_others by) changes)) ≡ true
+          go true u = refl
+          go false u = u
+
+  pub closed-indexed : (tables : List (Option Table)) → IsIndexed tables before → IsIndexed tables after
+  closed-indexed tables indexed slot version is = indexed slot version (was (done.frees slot))
+    where
+      was : (get_or after slot None ≡ get_or before slot None) ⊎ (get_or after slot None ≡ None) → get_or before slot None ≡ Some version
+      was (inl same) = sym same ∙ is
+      was (inr none) = let both : None ≡ Some version = sym none ∙ is in absurd (cc)
 
   pub closed-held : map (held_of after) new ≡ all_ended e by (map (held_of before) old)
   closed-held = sym (none-ended e by after new done.order (done.left sound.left) done.whole nobodys) ∙ done.rows

@@ -1,7 +1,7 @@
 -- What is left after a table has gone.
-use Rattle.std.proofs.Common.{◌≡◌, ◌≢◌, ℕ, ◌≤◌, Bool, true, false, cond, ◌&&◌, List, [], ◌∷◌, filter, length, get_or, set, refl, ap, ap₂, sym, ◌∙◌, arith, Option, Some, None, map}
+use Rattle.std.proofs.Common.{◌≡◌, ◌≢◌, ◌⊎◌, inl, inr, ℕ, ◌≤◌, Bool, true, false, is_some, cond, ◌&&◌, List, [], ◌∷◌, filter, length, get_or, set, refl, ap, ap₂, sym, ◌∙◌, arith, Option, Some, None, map}
 use Rattle.std.specs.Prelude.{◌==◌}
-use Rattle.std.specs.List.{list_all, count_by}
+use Rattle.std.specs.List.{list_all, list_any, count_by}
 use Rattle.std.specs.Option.{option_map, option_and_then}
 use Rattle.std.proofs.lemmas.Grind.{common_steps}
 use Rattle.std.proofs.lemmas.List.{get_or-set_other}
@@ -11,15 +11,17 @@ use Rattle.au_rows.specs.declared.place.Place.{Place}
 use Rattle.au_rows.specs.declared.table.Table.{Table}
 use Rattle.au_rows.specs.declared.unsettled.Unsettled.{Unsettled}
 use Rattle.au_rows.specs.declared.version.Version.{Version}
-use Rattle.au_rows.specs.Ends.{OnlyFrees, is_loose_slot}
+use Rattle.au_rows.specs.Ends.{IsFreed, OnlyFrees, is_loose_slot, names_of}
 use Rattle.au_rows.specs.Held.{Change, Contents, Held, is_by, is_elsewhere, owner_of}
-use Rattle.au_rows.specs.Kept.{SameInOthers, Sound, change_of, content_at, held_of, is_apart, is_kept, is_logged, is_owned, is_version, is_whole, last_unsettled, owner_in, place_at, place_elsewhere, place_from, place_in, place_left, place_numbered, place_open, place_owned, place_owner}
+use Rattle.au_rows.specs.Kept.{SameInOthers, Sound, change_names, change_of, content_at, held_of, is_apart, is_kept, is_logged, is_owned, is_used, is_version, is_whole, last_unsettled, owner_in, place_at, place_elsewhere, place_from, place_in, place_left, place_names, place_numbered, place_open, place_owned, place_owner}
 use Rattle.au_rows.specs.Order.{is_before, in_order}
 use Rattle.au_rows.specs.Stored.{Frees}
 use Rattle.au_rows.proofs.AllLemmas.{no-more}
 use Rattle.au_rows.proofs.EndLemmas.{frees-only, kept-is-loose, loose-goes}
 use Rattle.au_rows.proofs.FoundLemmas.{none-after}
+use Rattle.au_rows.proofs.ChainLemmas.{slot-named}
 use Rattle.au_rows.proofs.PutLemmas.{owner_of-map}
+use Rattle.au_rows.proofs.UsedLemmas.{any-parts, not-vacant, or-cases, or-left, or-right, some-before}
 
 pub freed-only : (old new : List (Option Version)) (slot : Option ℕ) → Frees old new slot → OnlyFrees old new
 freed-only old new slot f = frees-only old new slot f
@@ -134,7 +136,7 @@ found-gone table n (p ∷ ps) = step (place_elsewhere table p) (place_from table
     step false f e g rest = rw e rest
 
 module _ (table : ℕ) (old new : List (Option Version)) (same : SameInOthers table old new) (places : List Place) (changes : List Unsettled) (sound : Sound places old changes)
-    (settled : (row : RowNo) → owner_of table row (map (held_of old) places) ≡ None) where
+    (settled : (row : RowNo) → owner_of table row (map (held_of old) places) ≡ None) (frees : OnlyFrees old new) (freed : IsFreed table places new) where
   no_owner : (row : RowNo) → owner_in table row places ≡ None
   no_owner row = sym (owner_of-map old table row places) ∙ settled row
 
@@ -188,10 +190,34 @@ module _ (table : ℕ) (old new : List (Option Version)) (same : SameInOthers ta
     logged = logged.0;
     owned = logged.2;
     agrees = λ t n. agrees_by t n (t == table) refl;
+    used = λ slot some. used slot some (or-cases (list_any (place_names slot) places) (list_any (change_names slot) changes) (sound.used slot (some-before old new frees slot some)));
   }
+    where
+      of-table : (slot : ℕ) (place : Place) → place_names slot place ≡ true → place_elsewhere table place ≡ false → names_of table slot place ≡ true
+      of-table slot place names here = grind (arith, common_steps)
+
+      used : (slot : ℕ) → is_some (get_or new slot None) ≡ true → (list_any (place_names slot) places ≡ true) ⊎ (list_any (change_names slot) changes ≡ true) → is_used (filter (place_elsewhere table) places) changes slot ≡ true
+      used slot some (inr names) = or-right (list_any (place_names slot) (filter (place_elsewhere table) places)) (list_any (change_names slot) changes) names
+      used slot some (inl names) = go (any-parts (place_names slot) (place_elsewhere table) (names_of table slot) places (of-table slot) names)
+        where
+          go : (list_any (place_names slot) (filter (place_elsewhere table) places) ≡ true) ⊎ (list_any (names_of table slot) places ≡ true) → is_used (filter (place_elsewhere table) places) changes slot ≡ true
+          go (inl kept) = or-left (list_any (place_names slot) (filter (place_elsewhere table) places)) (list_any (change_names slot) changes) kept
+          go (inr gone_with) = absurd (not-vacant new slot some (freed slot gone_with))
 
   pub gone-changes : map (change_of new) changes ≡ map (change_of old) changes
   gone-changes = (logged_go changes sound.owned sound.logged).1
+
+-- the version of a place of the table goes
+pub freed-here : (old new : List (Option Version)) (table : ℕ) (place : Place) → Frees old new place.settled → (slot : ℕ) → names_of table slot place ≡ true → get_or new slot None ≡ None
+freed-here old new table place f slot names =
+    let here : place_names slot place ≡ true = grind (arith, common_steps) in
+    f.freed slot (slot-named slot place.settled here)
+
+pub not-of : (table : ℕ) (place : Place) → place.table ≢ table → (slot : ℕ) → names_of table slot place ≡ true → ⊥
+not-of table place ne slot names =
+    let same : (place.table == table) ≡ true = grind (arith, common_steps) in
+    let is : place.table ≡ table = grind (arith, common_steps) in
+    ne is
 
 -- the tables of the places that are left are open
 pub gone-open : (table : ℕ) (tables : List (Option Table)) (places : List Place) → list_all (place_open tables) places ≡ true

@@ -2,7 +2,7 @@
 use Rattle.std.proofs.Common.{◌≡◌, ◌≢◌, ◌⊎◌, inl, inr, ℕ, ◌≤◌, Bool, true, false, is_some, ◌&&◌, List, [], ◌∷◌, ◌++◌, filter, get_or, refl, ap, ap₂, sym, ◌∙◌, arith, Option, Some, None, map}
 use Rattle.std.specs.Prelude.{◌==◌}
 use Rattle.std.specs.List.{list_all, count_by}
-use Rattle.std.specs.Option.{option_map, option_and_then}
+use Rattle.std.specs.Option.{option_map}
 use Rattle.std.proofs.lemmas.Grind.{common_steps}
 use Rattle.std.proofs.lemmas.List.{map-append}
 use Rattle.std.proofs.lemmas.List.Folds.{list_all-append}
@@ -16,11 +16,14 @@ use Rattle.au_rows.specs.declared.place.Place.{Place}
 use Rattle.au_rows.specs.declared.table.Table.{Table}
 use Rattle.au_rows.specs.declared.version.Version.{Version}
 use Rattle.au_rows.specs.Edits.{edited, found}
-use Rattle.au_rows.specs.Ends.{RowEnded, SlotDropped, OnlyFrees, is_clear, is_loose_version, is_loose_slot}
+use Rattle.au_rows.specs.Ends.{IsGone, RowEnded, SlotDropped, OnlyFrees, is_bare, is_clear, is_loose_version, is_loose_slot}
 use Rattle.au_rows.specs.Held.{Held, row_ended, is_left, is_by, all_ended, is_this}
-use Rattle.au_rows.specs.Kept.{is_version, is_apart, content_at, held_of, is_kept, is_whole, if_left, owner_in, place_at, place_ended, place_from, place_in, place_left, place_numbered, place_open, place_owner, place_shown, slot_ended, SameElsewhere}
+use Rattle.au_rows.specs.Kept.{is_version, is_apart, content_at, held_of, is_kept, is_whole, if_left, owner_in, place_at, place_ended, place_from, place_in, place_left, place_names, place_numbered, place_open, place_shown, slot_ended, SameElsewhere}
 use Rattle.au_rows.specs.Order.{is_before, in_order}
 use Rattle.au_rows.specs.Stored.{Frees}
+use Rattle.au_rows.specs.Chains.{is_slot}
+use Rattle.au_rows.proofs.ChainLemmas.{slot-named}
+use Rattle.au_rows.proofs.UsedLemmas.{any-edited, named-left, not-vacant, some-before}
 use Rattle.au_rows.proofs.EditLemmas.{all_edited}
 use Rattle.au_rows.proofs.FoundLemmas.{count-edited, none-after, found-written, found-erased, found-other-written, found-other-erased}
 use Rattle.au_rows.proofs.OrderLemmas.{written-order, erased-order}
@@ -180,6 +183,7 @@ module _ (old new : List (Option Version)) (places : List Place) (p : Place) (sl
     (order : in_order places ≡ true) (whole : list_all (is_whole old) places ≡ true) (there : place_in p.table p.number places ≡ Some p)
     (same : SameElsewhere old new p.table p.number.0) (frees : OnlyFrees old new)
     (content : content_at new slot ≡ content_at old slot) (kept : is_kept new p.table p.number.0 slot ≡ true)
+    (goes : (s : ℕ) → is_some (get_or new s None) ≡ true → is_slot s p.settled ≡ true → is_slot s slot ≡ true)
     (row : row_ended e by (held_of old p) ≡ (record { table = p.table; number = p.number; settled = content_at old slot; owner = None; newest = None })) where
   abbrev place : Option ℕ → Place
   place s = record { table = p.table; number = p.number; settled = s; owner = None; newest = None }
@@ -293,9 +297,9 @@ module _ (old new : List (Option Version)) (places : List Place) (p : Place) (sl
   new_others None t n ne = found-other-erased p.table p.number t n ne places order
   new_others (Some slot) t n ne = found-other-written p.table p.number t n ne places (place (Some slot)) refl refl order
 
-  new_here : (s : Option ℕ) → owner_in p.table p.number (after s) ≡ None
-  new_here None = ap (λ (o : Option Place). option_and_then place_owner o) (found-erased p.table p.number places order)
-  new_here (Some slot) = ap (λ (o : Option Place). option_and_then place_owner o) (found-written p.table p.number places (place (Some slot)) refl refl)
+  new_here : (s : Option ℕ) → is_bare (place_in p.table p.number (after s)) ≡ true
+  new_here None = ap is_bare (found-erased p.table p.number places order)
+  new_here (Some slot) = ap is_bare (found-written p.table p.number places (place (Some slot)) refl refl)
 
   new_shown : (s : Option ℕ) → count_by place_shown (if_left (place s)) ≤ 1
   new_shown None = omega arith
@@ -316,6 +320,12 @@ module _ (old new : List (Option Version)) (places : List Place) (p : Place) (sl
     others = new_others slot;
     here = inl (new_here slot);
     shown = let most = count-edited place_shown (place_from p.table p.number) (place_at p.table p.number) places (if_left (place slot)) in let one = new_shown slot in omega arith;
+    keeps = λ s some names.
+        any-edited (place_names s) (place_from p.table p.number) (place_at p.table p.number) places (if_left (place slot)) names
+        (λ q is here.
+        let both : Some p ≡ Some q = sym there ∙ is in
+        let same : p ≡ q = cc in
+        named-left (place slot) slot s refl (goes s some (ap (λ (x : Place). is_slot s x.settled) same ∙ here)));
   }
 
 -- the changes of a place's owner end
@@ -331,14 +341,15 @@ ended-row old new places p Settle by order whole there isby f =
     let stays = unfreed old new p.table p.number.0 p.newest p.settled f.others (apart-sym p.settled p.newest apart) newest in
     ended-with old new places p p.newest Settle by order whole there
     (loose-goes old new p.table p.number.0 p.settled f.others f.freed (kept-loose old new p.table p.number.0 p.settled settled))
-    (frees-only old new p.settled f) stays.0 stays.1 (rw isby refl)
+    (frees-only old new p.settled f) stays.0 stays.1
+    (λ s some here. absurd (not-vacant new s some (f.freed s (slot-named s p.settled here)))) (rw isby refl)
 ended-row old new places p Undo by order whole there isby f =
     let wp = found_passes (is_whole old) (place_from p.table p.number) (place_at p.table p.number) places p whole there in
     let settled : is_kept old p.table p.number.0 p.settled ≡ true = grind arith in
     let stays = unfreed old new p.table p.number.0 p.settled None f.others (apart-none p.settled) settled in
     ended-with old new places p p.settled Undo by order whole there
     (loose-goes old new p.table p.number.0 None f.others f.freed refl)
-    (frees-only old new None f) stays.0 stays.1 (rw isby refl)
+    (frees-only old new None f) stays.0 stays.1 (λ s some here. here) (rw isby refl)
 
 -- a row that isn't the client's stays
 pub kept-row : (slots : List (Option Version)) (places : List Place) (table : ℕ) (number : RowNo) (e : Ending) (by : ClientNo)
@@ -356,6 +367,7 @@ kept-row slots places table number e by order whole other = record {
   others = λ t n ne. refl;
   here = inr (other, refl);
   shown = omega arith;
+  keeps = λ s some names. names;
 }
 
 -- a version that its place doesn't name goes
@@ -411,6 +423,14 @@ module _ (old new : List (Option Version)) (table : ℕ) (number : RowNo) (slot 
     frees = frees-only old new slot f;
   }
 
+pub dropped-gone : (old new : List (Option Version)) (slot : Option ℕ) (place : Option Place) → Frees old new slot → IsGone slot place new
+dropped-gone old new None place f = tt
+dropped-gone old new (Some slot) place f = inl (f.freed slot refl)
+
+pub undropped-gone : (slots : List (Option Version)) (slot : Option ℕ) (place : Option Place) → is_clear slot place ≡ false → IsGone slot place slots
+undropped-gone slots None place h = tt
+undropped-gone slots (Some slot) place h = inr h
+
 pub undropped : (slots : List (Option Version)) (table : ℕ) (number : RowNo) (places : List Place) → list_all (is_whole slots) places ≡ true → SlotDropped table number places slots slots
 undropped slots table number places ws = record { whole = ws; held = refl; elsewhere = λ t n slot ne is. refl; frees = λ slot. inl refl }
 
@@ -454,4 +474,5 @@ then-dropped e table number by old new before mid after r d = record {
   others = r.others;
   here = r.here;
   shown = r.shown;
+  keeps = λ s some names. r.keeps s (some-before mid after d.frees s some) names;
 }

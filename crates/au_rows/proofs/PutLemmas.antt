@@ -1,11 +1,11 @@
 -- What a client's new content of a row, or its absence, leaves.
-use Rattle.std.proofs.Common.{◌≡◌, ◌≢◌, ℕ, ◌+◌, ◌≤◌, ◌<◌, Bool, true, false, is_some, List, [], ◌∷◌, ◌++◌, get_or, refl, ap, ap₂, sym, ◌∙◌, arith, Option, Some, None, map}
-use Rattle.std.specs.Prelude.{IsSome, IsNone, ◌==◌, nat_le}
-use Rattle.std.specs.List.{list_all, count_by}
+use Rattle.std.proofs.Common.{◌≡◌, ◌≢◌, ◌⊎◌, inl, inr, ◌||◌, ℕ, ◌+◌, ◌≤◌, ◌<◌, Bool, true, false, is_some, List, [], ◌∷◌, ◌++◌, get_or, refl, ap, ap₂, sym, ◌∙◌, arith, Option, Some, None, map}
+use Rattle.std.specs.Prelude.{IsSome, IsNone, ◌==◌, nat_eq, nat_le}
+use Rattle.std.specs.List.{list_all, list_any, count_by}
 use Rattle.std.specs.Option.{option_map, option_and_then}
 use Rattle.std.proofs.lemmas.Grind.{common_steps}
 use Rattle.std.proofs.lemmas.List.{map-append}
-use Rattle.std.proofs.lemmas.List.Folds.{list_all-append}
+use Rattle.std.proofs.lemmas.List.Folds.{list_all-append, list_any-append}
 use Rattle.std.proofs.lemmas.List.Sums.{passes_at_first}
 use Rattle.au_base.specs.declared.cell.Cell.{Cell}
 use Rattle.au_base.specs.declared.numbers.RowNo.{RowNo}
@@ -17,10 +17,13 @@ use Rattle.au_rows.specs.declared.table.Table.{Table}
 use Rattle.au_rows.specs.declared.unsettled.Unsettled.{Unsettled}
 use Rattle.au_rows.specs.declared.version.Version.{Version}
 use Rattle.au_rows.specs.Held.{Change, Contents, Held, IsOpen, is_named, number_of, held_from, held_at, is_by, is_free_for, is_this, or_else, row_at, owner_of, seen_at, seen_by, settled_of, with_row}
-use Rattle.au_rows.specs.Kept.{Sound, change_of, is_version, is_apart, content_at, held_of, is_kept, is_logged, is_owned, is_whole, last_unsettled, owned_place, owner_in, place_from, place_at, place_in, place_left, place_numbered, place_open, place_owned, place_owner, place_shown, settled_slot, with_place}
+use Rattle.au_rows.specs.Kept.{Sound, change_names, change_of, is_version, is_apart, content_at, held_of, is_kept, is_logged, is_owned, is_used, is_whole, last_unsettled, owned_place, owner_in, place_from, place_at, place_in, place_left, place_names, place_numbered, place_open, place_owned, place_owner, place_shown, settled_slot, with_place}
 use Rattle.au_rows.specs.Spare.{spare_of}
 use Rattle.au_rows.specs.Stored.{Puts}
+use Rattle.au_rows.specs.Chains.{is_slot}
 use Rattle.au_rows.proofs.AllLemmas.{same-row}
+use Rattle.au_rows.proofs.ChainLemmas.{number-itself, other-number, same-number}
+use Rattle.au_rows.proofs.UsedLemmas.{or-cases, or-left, or-right, owned-names}
 use Rattle.au_rows.proofs.EditLemmas.{map-edited, all_edited}
 use Rattle.au_rows.proofs.EndLemmas.{apart-none, found-table, found-number, found_passes}
 use Rattle.au_rows.proofs.FoundLemmas.{count-edited, count-hidden, found-written, found-other-written}
@@ -103,9 +106,9 @@ settled-kept : (slots : List (Option Version)) (table : ℕ) (number : RowNo) (p
 settled-kept slots table number [] h = refl
 settled-kept slots table number (place ∷ places) h = grind (arith, common_steps, settled-kept slots table number places)
 
-module _ (old new : List (Option Version)) (key : ℕ) (cells : List Cell) (table : ℕ) (number : RowNo) (fills : Puts old new key (record { table = table; number = number; cells = cells })) (by : ClientNo) (places : List Place) (whole : list_all (is_whole old) places ≡ true) where
+module _ (old new : List (Option Version)) (key : ℕ) (cells : List Cell) (hash table : ℕ) (number : RowNo) (fills : Puts old new key (record { table = table; number = number; cells = cells; hash = hash })) (by : ClientNo) (places : List Place) (whole : list_all (is_whole old) places ≡ true) where
   abbrev version : Version
-  version = record { table = table; number = number; cells = cells }
+  version = record { table = table; number = number; cells = cells; hash = hash }
 
   -- the rows after a put
   pub held-put : map (held_of new) (with_place table number by (Some key) places) ≡ with_row table number by (Some cells) (map (held_of old) places)
@@ -171,7 +174,8 @@ module _ (old new : List (Option Version)) (table : ℕ) (number : RowNo) (by : 
     (kept : is_kept new table number.0 slot ≡ true)
     (whole : list_all (is_whole new) (with_place table number by slot places) ≡ true)
     (numbered : nat_le 1 number.0 ≡ true)
-    (free : is_free_for by (owner_in table number places) ≡ true) where
+    (free : is_free_for by (owner_in table number places) ≡ true)
+    (fills : (s : ℕ) → is_some (get_or new s None) ≡ true → (is_some (get_or old s None) ≡ true) ⊎ (is_slot s slot ≡ true)) where
   abbrev change : Unsettled
   change = record { by = by; table = table; number = number; slot = slot }
 
@@ -238,7 +242,21 @@ module _ (old new : List (Option Version)) (table : ℕ) (number : RowNo) (by : 
     logged = list_all-append (is_logged new) changes (change ∷ []) ∙ rw (logged_go changes sound.logged, kept) refl;
     owned = list_all-append (is_owned (with_place table number by slot places)) changes (change ∷ []) ∙ rw (owned_go changes sound.owned, self) refl;
     agrees = λ t n. agrees_by t n (is_this table number t n) refl ∙ sym (last-push t n changes change);
+    used = λ s some. used s (fills s some);
   }
+    where
+      used : (s : ℕ) → (is_some (get_or old s None) ≡ true) ⊎ (is_slot s slot ≡ true) → is_used (with_place table number by slot places) (changes ++ change ∷ []) s ≡ true
+      used s (inr here) =
+          or-right (list_any (place_names s) (with_place table number by slot places)) (list_any (change_names s) (changes ++ change ∷ []))
+          (list_any-append (change_names s) changes (change ∷ []) ∙ or-right (list_any (change_names s) changes) (is_slot s slot || false) (or-left (is_slot s slot) false here))
+      used s (inl some) = go (or-cases (list_any (place_names s) places) (list_any (change_names s) changes) (sound.used s some))
+        where
+          go : (list_any (place_names s) places ≡ true) ⊎ (list_any (change_names s) changes ≡ true) → is_used (with_place table number by slot places) (changes ++ change ∷ []) s ≡ true
+          go (inl names) =
+              or-left (list_any (place_names s) (with_place table number by slot places)) (list_any (change_names s) (changes ++ change ∷ [])) (owned-names table number by slot places s names)
+          go (inr names) =
+              or-right (list_any (place_names s) (with_place table number by slot places)) (list_any (change_names s) (changes ++ change ∷ []))
+              (list_any-append (change_names s) changes (change ∷ []) ∙ or-left (list_any (change_names s) changes) (is_slot s slot || false) names)
 
 -- the table of a row that is written is open
 pub own-open : (tables : List (Option Table)) (table : ℕ) (number : RowNo) (by : ClientNo) (slot : Option ℕ) (places : List Place)
@@ -331,13 +349,13 @@ same-contents tables held held' changes changes' spare h c =
     ap₂ (λ (x : List Held) (y : List Change). let both : Contents = record { tables = tables; held = x; changes = y; spare = spare } in both) h c
 
 -- a put
-module _ (old new : List (Option Version)) (key : ℕ) (cells : List Cell) (table : ℕ) (number : RowNo) (puts : Puts old new key (record { table = table; number = number; cells = cells })) (by : ClientNo)
+module _ (old new : List (Option Version)) (key : ℕ) (cells : List Cell) (hash table : ℕ) (number : RowNo) (puts : Puts old new key (record { table = table; number = number; cells = cells; hash = hash })) (by : ClientNo)
     (places : List Place) (changes : List Unsettled) (sound : Sound places old changes) where
   abbrev put_version : Version
-  put_version = record { table = table; number = number; cells = cells }
+  put_version = record { table = table; number = number; cells = cells; hash = hash }
 
   pub put-held : map (held_of new) (with_place table number by (Some key) places) ≡ with_row table number by (Some cells) (map (held_of old) places)
-  put-held = held-put old new key cells table number puts by places sound.whole
+  put-held = held-put old new key cells hash table number puts by places sound.whole
 
   pub put-changes : map (change_of new) (changes ++ (record { by = by; table = table; number = number; slot = Some key }) ∷ [])
       ≡ map (change_of old) changes ++ (record { by = by; table = table; number = number; content = Some cells }) ∷ []
@@ -354,7 +372,12 @@ module _ (old new : List (Option Version)) (key : ℕ) (cells : List Cell) (tabl
       → Sound (with_place table number by (Some key) places) new (changes ++ (record { by = by; table = table; number = number; slot = Some key }) ∷ [])
   put-sound least free =
       sound-own old new table number by (Some key) places changes sound (kept-same old new key put_version puts) put_kept
-      (whole-put old new key cells table number puts by places sound.whole) (grind (arith, common_steps)) (ap (is_free_for by) (sym (owner_of-map old table number places)) ∙ free)
+      (whole-put old new key cells hash table number puts by places sound.whole) (grind (arith, common_steps)) (ap (is_free_for by) (sym (owner_of-map old table number places)) ∙ free)
+      (λ s some. fills s some (nat_eq s key) refl)
+    where
+      fills : (s : ℕ) → is_some (get_or new s None) ≡ true → (b : Bool) → nat_eq s key ≡ b → (is_some (get_or old s None) ≡ true) ⊎ (is_slot s (Some key) ≡ true)
+      fills s some true e = let at = same-number s key e in inr (ap (λ (x : ℕ). is_slot x (Some key)) at ∙ number-itself key)
+      fills s some false e = inl (ap is_some (sym (puts.others s (other-number s key e))) ∙ some)
 
 -- a mark
 module _ (slots : List (Option Version)) (table : ℕ) (number : RowNo) (by : ClientNo)
@@ -392,4 +415,4 @@ module _ (slots : List (Option Version)) (table : ℕ) (number : RowNo) (by : Cl
   mark-changes = map-append (change_of slots) changes ((record { by = by; table = table; number = number; slot = None }) ∷ [])
 
   pub mark-sound : Sound (with_place table number by None places) slots (changes ++ (record { by = by; table = table; number = number; slot = None }) ∷ [])
-  mark-sound = sound-own slots slots table number by None places changes sound (λ t n s k. k) refl (whole-mark slots table number by places sound.whole) mark_numbered free_here
+  mark-sound = sound-own slots slots table number by None places changes sound (λ t n s k. k) refl (whole-mark slots table number by places sound.whole) mark_numbered free_here (λ s some. inl some)

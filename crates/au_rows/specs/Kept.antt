@@ -1,6 +1,6 @@
 -- How rows are kept: places in order, which name versions in slots.
 use Rattle.std.specs.Prelude.{◌≡◌, ℕ, List, [], ◌∷◌, Bool, true, false, not, ◌==◌, ◌&&◌, ◌||◌, nat_le, is_some, slice_index_or, Option, None, Some, if◌then◌else◌, max}
-use Rattle.std.specs.List.{list_all}
+use Rattle.std.specs.List.{list_all, list_any}
 use Rattle.std.specs.Option.{option_and_then, option_map}
 use Rattle.au_base.specs.declared.cell.Cell.{Cell}
 use Rattle.au_base.specs.declared.numbers.RowNo.{RowNo}
@@ -12,7 +12,9 @@ use Rattle.au_rows.specs.declared.place.Place.{Place}
 use Rattle.au_rows.specs.declared.table.Table.{Table}
 use Rattle.au_rows.specs.declared.unsettled.Unsettled.{Unsettled}
 use Rattle.au_rows.specs.declared.version.Version.{Version}
-use Rattle.au_rows.specs.Held.{Held, Change, is_from, is_this, is_by, or_else}
+use Rattle.au_rows.specs.Chains.{is_slot}
+use Rattle.au_rows.specs.Hash.{version_hash}
+use Rattle.au_rows.specs.Held.{Held, Change, is_from, is_this, is_by, key_of, or_else}
 use Rattle.au_rows.specs.Order.{in_order}
 
 -- the content in a slot
@@ -184,6 +186,28 @@ abbrev pub found_seen : ClientNo → Option Place → Bool
 found_seen by None = false
 found_seen by (Some place) = place_seen by place
 
+-- the committed content of the place's row is in the slot
+abbrev pub place_names : ℕ → Place → Bool
+place_names slot place = is_slot slot place.settled
+
+-- the content of the change is in the slot
+abbrev pub change_names : ℕ → Unsettled → Bool
+change_names slot change = is_slot slot change.slot
+
+-- the committed content of a row is in the slot, or that of an unsettled change
+abbrev pub is_used : List Place → List Unsettled → ℕ → Bool
+is_used places changes slot = list_any (place_names slot) places || list_any (change_names slot) changes
+
+-- each slot that isn't vacant is used
+abbrev pub AllUsed : List Place → List (Option Version) → List Unsettled → Type 0
+AllUsed places slots changes = (slot : ℕ) → is_some (slice_index_or slots slot None) ≡ true → is_used places changes slot ≡ true
+
+-- each version is indexed under the number of its key
+abbrev pub IsIndexed : List (Option Table) → List (Option Version) → Type 0
+IsIndexed tables slots =
+    (slot : ℕ) (version : Version) → slice_index_or slots slot None ≡ Some version
+    → version.hash ≡ version_hash version.table version.number.0 (key_of version.table tables) version.cells
+
 -- how places, slots and unsettled changes stand to each other
 pub record Sound (places : List Place) (slots : List (Option Version)) (changes : List Unsettled) : Type 0 where
   pub order : in_order places ≡ true
@@ -193,3 +217,4 @@ pub record Sound (places : List Place) (slots : List (Option Version)) (changes 
   pub logged : list_all (is_logged slots) changes ≡ true
   pub owned : list_all (is_owned places) changes ≡ true
   pub agrees : (table : ℕ) (number : RowNo) → option_and_then place_owned (place_in table number places) ≡ last_unsettled table number changes
+  pub used : AllUsed places slots changes

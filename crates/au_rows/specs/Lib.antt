@@ -1,8 +1,11 @@
 pub mod Calls
+pub mod Chains
 pub mod Edits
 pub mod Ends
+pub mod Hash
 pub mod Held
 pub mod Kept
 pub mod Order
+pub mod Sought
 pub mod Spare
 pub mod Stored

@@ -3,7 +3,7 @@ ghost use Rattle.std.specs.Prelude.{◌≡◌, ◌+◌, ◌≤◌, List, Option,
 ghost use Rattle.std.specs.List.{count_by, list_all};
 ghost use Rattle.au_rows.specs.declared.table.Table.{Table};
 ghost use Rattle.au_rows.specs.Held.{all_ended, changes_of_others};
-ghost use Rattle.au_rows.specs.Kept.{Sound, change_of, held_of, place_open, place_shown, unsettled_others};
+ghost use Rattle.au_rows.specs.Kept.{IsIndexed, Sound, change_of, held_of, place_open, place_shown, unsettled_others};
 
 use crate::ending::Ending;
 use crate::ends::end_all;
@@ -31,6 +31,7 @@ pub(crate) fn end_changes(
     requires { Sound places.old.items versions.old.slots changes.old.items }
     ensures sound { Sound places.new.items versions.new.slots changes.new.items }
     ensures open { (tables : List (Option Table)) → list_all (place_open tables) places.old.items ≡ true → list_all (place_open tables) places.new.items ≡ true }
+    ensures indexed { (tables : List (Option Table)) → IsIndexed tables versions.old.slots → IsIndexed tables versions.new.slots }
     ensures held { map (held_of versions.new.slots) places.new.items ≡ all_ended ending by (map (held_of versions.old.slots) places.old.items) }
     ensures changes { map (change_of versions.new.slots) changes.new.items ≡ changes_of_others by (map (change_of versions.old.slots) changes.old.items) }
     ensures taken { vec_len changes.new + count_by place_shown places.new.items ≤ vec_len changes.old + count_by place_shown places.old.items }

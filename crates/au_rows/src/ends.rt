@@ -2,7 +2,7 @@
 ghost use Rattle.std.specs.Prelude.{◌≡◌, ◌≤◌, [], true, vec_len, vec_capacity};
 ghost use Rattle.std.specs.List.{list_all};
 ghost use Rattle.au_rows.specs.Edits.{edited};
-ghost use Rattle.au_rows.specs.Ends.{EndedBefore, IfOwn, IsCovered, RowEnded, SlotDropped, is_clear, is_loose, is_own};
+ghost use Rattle.au_rows.specs.Ends.{EndedBefore, IfOwn, IsCovered, IsGone, RowEnded, SlotDropped, is_clear, is_loose, is_own};
 ghost use Rattle.au_rows.specs.Kept.{if_left, is_apart, is_logged, is_owned, is_whole, place_at, place_ended, place_from, place_in, slot_ended};
 ghost use Rattle.au_rows.specs.Order.{in_order};
 ghost use Rattle.au_rows.specs.Stored.{Frees};
@@ -20,21 +20,16 @@ fn ended(place: Place, ending: Ending) -> Place
     ensures table { result.table ≡ place.table }
     ensures number { result.number ≡ place.number }
 {
-    match ending {
-        Ending::Settle => Place {
-            table: place.table,
-            number: place.number,
-            settled: place.newest,
-            owner: None,
-            newest: None,
-        },
-        Ending::Undo => Place {
-            table: place.table,
-            number: place.number,
-            settled: place.settled,
-            owner: None,
-            newest: None,
-        },
+    let settled = match ending {
+        Ending::Settle => place.newest,
+        Ending::Undo => place.settled,
+    };
+    Place {
+        table: place.table,
+        number: place.number,
+        settled,
+        owner: None,
+        newest: None,
     }
 }
 
@@ -134,6 +129,7 @@ fn drop_version(places: &[Place], versions: &mut Versions, change: Unsettled)
     requires whole { list_all (is_whole versions.old.slots) places.now ≡ true }
     requires loose { is_loose versions.old.slots change ≡ true }
     ensures dropped { SlotDropped change.table change.number places.now versions.old.slots versions.new.slots }
+    ensures gone { IsGone change.slot (place_in change.table change.number places.now) versions.new.slots }
     ensures room { versions.old.room ≤ versions.new.room }
 {
     if is_clear(find(places, change.table, change.number), change.slot) {
@@ -153,6 +149,7 @@ fn end_change(
     requires order { in_order places.old.items ≡ true }
     requires whole { list_all (is_whole versions.old.slots) places.old.items ≡ true }
     requires loose { is_loose versions.old.slots change ≡ true }
+    ensures gone { is_own by change ≡ true → IsGone change.slot (place_in change.table change.number places.new.items) versions.new.slots }
     ensures row { IfOwn (is_own by change) ending change.table change.number by places.old.items versions.old.slots places.new.items versions.new.slots }
     ensures room { versions.old.room ≤ versions.new.room }
     ensures len { vec_len places.new ≤ vec_len places.old }

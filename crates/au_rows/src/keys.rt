@@ -1,13 +1,15 @@
 //! Keys of rows.
-ghost use Rattle.std.specs.Prelude.{◌≡◌, ◌↔◌, IsTrue, Some, map, slice_get, true};
+ghost use Rattle.std.specs.Prelude.{◌≡◌, ◌≢◌, ◌↔◌, [], IsTrue, Some, map, slice_get, true};
 ghost use Rattle.std.specs.List.{list_all};
 ghost use Rattle.std.specs.Option.{option_copied};
 ghost use Rattle.au_rows.specs.Held.{HasKey, IsLocking, SomeLocks, settled_of};
-ghost use Rattle.au_rows.specs.Kept.{change_of, content_at, held_of, unsettled_elsewhere};
+ghost use Rattle.au_rows.specs.Kept.{Sound, change_of, content_at, held_of, unsettled_elsewhere};
 ghost use Rattle.au_rows.specs.Order.{in_order};
+ghost use Rattle.au_rows.specs.Sought.{IsIndexedBy};
 
 use crate::place::Place;
 use crate::places::find_settled;
+use crate::sought::Sought;
 use crate::unsettled::Unsettled;
 use crate::versions::Versions;
 use au_base::{Cell, ClientNo, List};
@@ -106,8 +108,9 @@ fn is_locking(places: &[Place], versions: &Versions, change: &Unsettled, asked: 
     has_committed_key(places, versions, change, asked)
 }
 
-/// Whether an unsettled change of another client has the key as its old or new key.
-pub(crate) fn is_locked(
+/// Whether an unsettled change of another client has the key as its old or new key, by a walk over
+/// the changes.
+fn locked_walk(
     places: &[Place],
     versions: &Versions,
     changes: &[Unsettled],
@@ -122,6 +125,41 @@ pub(crate) fn is_locked(
         }
     }
     false
+}
+
+/// Whether an unsettled change of another client has the key as its old or new key, by the index of
+/// keys.
+fn locked_index(
+    places: &[Place],
+    versions: &Versions,
+    changes: &[Unsettled],
+    asked: &Asked<'_>,
+) -> bool
+    requires sound { Sound places.now versions.now.slots changes.now }
+    requires indexed { IsIndexedBy asked.now.table asked.now.places.now versions.now.slots }
+    requires keyed { asked.now.places.now ≢ [] }
+    ensures { IsTrue result ↔ SomeLocks asked.now.places.now (map (held_of versions.now.slots) places.now) asked.now.table asked.now.key.now asked.now.by (map (change_of versions.now.slots) changes.now) }
+{
+    versions.find(places, asked, Sought::Locked).is_some()
+}
+
+/// Whether an unsettled change of another client has the key as its old or new key. The index knows
+/// no rows of a table without a key.
+pub(crate) fn is_locked(
+    places: &[Place],
+    versions: &Versions,
+    changes: &[Unsettled],
+    asked: &Asked<'_>,
+) -> bool
+    requires sound { Sound places.now versions.now.slots changes.now }
+    requires indexed { IsIndexedBy asked.now.table asked.now.places.now versions.now.slots }
+    ensures { IsTrue result ↔ SomeLocks asked.now.places.now (map (held_of versions.now.slots) places.now) asked.now.table asked.now.key.now asked.now.by (map (change_of versions.now.slots) changes.now) }
+{
+    if asked.places.is_empty() {
+        locked_walk(places, versions, changes, asked)
+    } else {
+        locked_index(places, versions, changes, asked)
+    }
 }
 
 /// Whether all changes are of rows of other tables.

@@ -1,16 +1,21 @@
 //! The rows of one store: what is committed of each, and what open transactions have made of them.
 #![tactic(auto)]
 
+mod chains;
 mod closing;
 mod dropping;
 mod ending;
 mod ends;
+mod hash;
 mod keys;
+mod node;
 mod numbers;
 mod place;
 mod places;
 mod reading;
 mod rows;
+mod seeking;
+mod sought;
 mod table;
 mod tables;
 mod unsettled;

@@ -1,16 +1,18 @@
 //! What a client sees.
-ghost use Rattle.std.specs.Prelude.{◌≡◌, IfNone, IfOk, IfSome, List, Some, true, map};
-ghost use Rattle.std.specs.List.{Contains};
+ghost use Rattle.std.specs.Prelude.{◌≡◌, ◌≢◌, [], IfNone, IfOk, IfSome, List, Some, true, map};
+ghost use Rattle.std.specs.List.{Contains, list_all};
 ghost use Rattle.au_base.specs.declared.cell.Cell.{Cell as Content};
 ghost use Rattle.au_base.specs.declared.numbers.RowNo.{RowNo as Number};
 ghost use Rattle.std.specs.Option.{option_copied, option_map};
 ghost use Rattle.au_rows.specs.Held.{HasKey, lent, next_of, seen_by, view_of};
-ghost use Rattle.au_rows.specs.Kept.{found_seen, held_of, place_in};
+ghost use Rattle.au_rows.specs.Kept.{found_seen, held_of, is_whole, place_in};
 ghost use Rattle.au_rows.specs.Order.{in_order};
+ghost use Rattle.au_rows.specs.Sought.{IsIndexedBy};
 
 use crate::keys::{Asked, has_key};
 use crate::place::Place;
 use crate::places::{find, index_of};
+use crate::sought::Sought;
 use crate::versions::Versions;
 use au_base::{Cell, ClientNo, List, Memory, RowNo};
 use std::alloc::Global;
@@ -120,8 +122,8 @@ fn row_if_under<'a>(
     }
 }
 
-/// A row of the table that the client sees and that has the key.
-pub(crate) fn under_in<'a>(
+/// A row of the table that the client sees and that has the key, by a walk over its rows.
+fn under_walk<'a>(
     places: &[Place],
     versions: &'a Versions,
     asked: &Asked<'_>,
@@ -140,4 +142,46 @@ pub(crate) fn under_in<'a>(
         }
     }
     None
+}
+
+/// A row of the table that the client sees and that has the key, by the index of keys.
+fn under_index<'a>(
+    places: &[Place],
+    versions: &'a Versions,
+    asked: &Asked<'_>,
+) -> Option<(RowNo, &'a [Cell])>
+    requires order { in_order places.now ≡ true }
+    requires whole { list_all (is_whole versions.now.slots) places.now ≡ true }
+    requires indexed { IsIndexedBy asked.now.table asked.now.places.now versions.now.slots }
+    requires keyed { asked.now.places.now ≢ [] }
+    ensures some { IfSome result (λ row. Contains (view_of asked.now.table asked.now.by (map (held_of versions.entry.now.slots) places.now)) (lent row) × HasKey asked.now.places.now asked.now.key.now (Some row.1.now)) }
+    ensures none { IfNone result ((row : Number × List Content) → Contains (view_of asked.now.table asked.now.by (map (held_of versions.entry.now.slots) places.now)) row → HasKey asked.now.places.now asked.now.key.now (Some row.1) → ⊥) }
+{
+    match versions.find(places, asked, Sought::Seen) {
+        Some(slot) => match versions.get(slot) {
+            Some(version) => Some((version.number, version.cells.as_slice())),
+            None => None,
+        },
+        None => None,
+    }
+}
+
+/// A row of the table that the client sees and that has the key. The index knows no rows of a table
+/// without a key.
+pub(crate) fn under_in<'a>(
+    places: &[Place],
+    versions: &'a Versions,
+    asked: &Asked<'_>,
+) -> Option<(RowNo, &'a [Cell])>
+    requires order { in_order places.now ≡ true }
+    requires whole { list_all (is_whole versions.now.slots) places.now ≡ true }
+    requires indexed { IsIndexedBy asked.now.table asked.now.places.now versions.now.slots }
+    ensures some { IfSome result (λ row. Contains (view_of asked.now.table asked.now.by (map (held_of versions.entry.now.slots) places.now)) (lent row) × HasKey asked.now.places.now asked.now.key.now (Some row.1.now)) }
+    ensures none { IfNone result ((row : Number × List Content) → Contains (view_of asked.now.table asked.now.by (map (held_of versions.entry.now.slots) places.now)) row → HasKey asked.now.places.now asked.now.key.now (Some row.1) → ⊥) }
+{
+    if asked.places.is_empty() {
+        under_walk(places, versions, asked)
+    } else {
+        under_index(places, versions, asked)
+    }
 }

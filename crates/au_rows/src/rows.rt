@@ -10,6 +10,7 @@ ghost use Rattle.au_rows.specs.Calls.{after_mark, after_put};
 use crate::closing::end_changes;
 use crate::dropping::drop_rows;
 use crate::ending::Ending;
+use crate::hash::version_hash;
 use crate::keys::{Asked, is_locked, is_settled_in};
 use crate::numbers::numbers_in;
 use crate::place::Place;
@@ -43,12 +44,12 @@ impl Model for Rows {
 
     ghost use Rattle.std.specs.Prelude.{◌≡◌, ◌+◌, ◌≤◌, true, map, vec_len, vec_capacity};
     ghost use Rattle.std.specs.List.{count_by, list_all};
-    ghost use Rattle.au_rows.specs.Kept.{Sound, change_of, held_of, place_open, place_shown};
+    ghost use Rattle.au_rows.specs.Kept.{IsIndexed, Sound, change_of, held_of, place_open, place_shown};
     ghost use Rattle.au_rows.specs.Spare.{spare_of};
 
     ghost view = { λ r. record { tables = r.tables.items; held = map (held_of r.versions.slots) r.places.items; changes = map (change_of r.versions.slots) r.unsettled.items; spare = spare_of (vec_capacity r.tables) (vec_len r.tables) (vec_capacity r.places) (vec_len r.places) r.versions.room (vec_capacity r.unsettled) (vec_len r.unsettled + count_by place_shown r.places.items) } };
 
-    ghost invariant = { λ r. Sound r.places.items r.versions.slots r.unsettled.items × (list_all (place_open r.tables.items) r.places.items ≡ true) × (vec_len r.unsettled + count_by place_shown r.places.items ≤ vec_capacity r.unsettled) };
+    ghost invariant = { λ r. Sound r.places.items r.versions.slots r.unsettled.items × (list_all (place_open r.tables.items) r.places.items ≡ true) × (vec_len r.unsettled + count_by place_shown r.places.items ≤ vec_capacity r.unsettled) × IsIndexed r.tables.items r.versions.slots };
 }
 
 impl Rows {
@@ -118,10 +119,12 @@ impl Rows {
         ensures spare { self.old.spare ≤ self.new.spare + 1 }
     {
         let table = number_of(&self.tables, table);
+        let hash = version_hash(table, row, key_of(&self.tables, table), &cells);
         let slot = self.versions.insert(Version {
             table,
             number: row,
             cells: List::from_vec(cells),
+            hash,
         });
         own(&mut self.places, table, row, by, Some(slot));
         self.unsettled.push_reserved(Unsettled {

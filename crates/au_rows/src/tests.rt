@@ -1,5 +1,6 @@
 //! Row versions worked by hand.
 use super::*;
+use crate::hash::key_hash;
 use au_base::{Cell, ClientNo, Memory, Name, RowNo, TableName};
 use std::alloc::Global;
 use std::test::Fail;
@@ -30,15 +31,18 @@ struct Case {
     locked: &'static [i64],
     /// Keys that aren't locked for client 1.
     free: &'static [i64],
+    /// Keys with the row that client 1 finds under each, 0 where it finds none.
+    under: &'static [(i64, u32)],
 }
 
-const CASES: [Case; 8] = [
+const CASES: [Case; 12] = [
     Case {
         steps: &[Put(1, 1, 5), Undo(1)],
         first: &[],
         second: &[],
         locked: &[],
         free: &[5],
+        under: &[(5, 0)],
     },
     // another client's change over a committed row: its old and its new key are locked
     Case {
@@ -47,6 +51,7 @@ const CASES: [Case; 8] = [
         second: &[(1, 6)],
         locked: &[5, 6],
         free: &[7],
+        under: &[(5, 1), (6, 0)],
     },
     // a change over the client's own change: the overwritten key stays locked
     Case {
@@ -55,6 +60,7 @@ const CASES: [Case; 8] = [
         second: &[(1, 7)],
         locked: &[5, 6, 7],
         free: &[1],
+        under: &[(5, 0), (7, 0)],
     },
     // a mark of a committed row
     Case {
@@ -63,6 +69,7 @@ const CASES: [Case; 8] = [
         second: &[],
         locked: &[5],
         free: &[1],
+        under: &[(5, 1)],
     },
     // a mark after a put
     Case {
@@ -71,6 +78,7 @@ const CASES: [Case; 8] = [
         second: &[],
         locked: &[],
         free: &[5],
+        under: &[(5, 0)],
     },
     // a put after a mark, and both undone
     Case {
@@ -79,6 +87,7 @@ const CASES: [Case; 8] = [
         second: &[(1, 5)],
         locked: &[],
         free: &[5, 8],
+        under: &[(5, 1), (8, 0)],
     },
     // a key moves between rows
     Case {
@@ -94,6 +103,7 @@ const CASES: [Case; 8] = [
         second: &[(1, 7), (2, 5)],
         locked: &[],
         free: &[5, 6, 7],
+        under: &[(5, 2), (6, 0), (7, 1)],
     },
     // two clients side by side, of which one undoes
     Case {
@@ -102,6 +112,58 @@ const CASES: [Case; 8] = [
         second: &[(2, 2), (3, 3)],
         locked: &[],
         free: &[1, 2, 3],
+        under: &[(1, 0), (2, 2), (3, 3)],
+    },
+    // three clients
+    Case {
+        steps: &[
+            Put(1, 1, 5),
+            Settle(1),
+            Put(2, 1, 6),
+            Put(3, 2, 7),
+            Put(3, 2, 8),
+            Undo(2),
+        ],
+        first: &[(1, 5)],
+        second: &[(1, 5)],
+        locked: &[7, 8],
+        free: &[5, 6],
+        under: &[(5, 1), (6, 0), (7, 0), (8, 0)],
+    },
+    // changes over the client's own changes go away together
+    Case {
+        steps: &[Put(1, 1, 5), Settle(1), Put(1, 1, 6), Put(1, 1, 7), Undo(1)],
+        first: &[(1, 5)],
+        second: &[(1, 5)],
+        locked: &[],
+        free: &[5, 6, 7],
+        under: &[(5, 1), (6, 0), (7, 0)],
+    },
+    // two keys of one number
+    Case {
+        steps: &[Put(1, 1, 5), Put(1, 2, -5), Settle(1), Put(2, 1, 9)],
+        first: &[(1, 5), (2, -5)],
+        second: &[(1, 9), (2, -5)],
+        locked: &[5, 9],
+        free: &[-5],
+        under: &[(5, 1), (-5, 2), (9, 0)],
+    },
+    // one of two keys of one number goes, and comes again
+    Case {
+        steps: &[
+            Put(1, 1, 5),
+            Put(1, 2, -5),
+            Settle(1),
+            Put(1, 1, 7),
+            Settle(1),
+            Put(1, 3, 5),
+            Settle(1),
+        ],
+        first: &[(1, 7), (2, -5), (3, 5)],
+        second: &[(1, 7), (2, -5), (3, 5)],
+        locked: &[],
+        free: &[5, -5, 7],
+        under: &[(5, 3), (-5, 2), (7, 1)],
     },
 ];
 
@@ -207,6 +269,19 @@ fn are_locked(rows: &Rows, table: &TableName, keys: &[i64], locked: bool) -> boo
     true
 }
 
+fn are_under(rows: &Rows, table: &TableName, want: &[(i64, u32)]) -> bool {
+    for (key, number) in want {
+        let found = match rows.under(table, &[Cell::Num(*key)], ClientNo(1)) {
+            Some(row) => row.0.0,
+            None => 0,
+        };
+        if found != *number {
+            return false;
+        }
+    }
+    true
+}
+
 fn holds(alloc: Global, table: &TableName, case: &Case) -> Result<bool, Memory> {
     let mut rows = Rows::new(alloc)?;
     if !open(&mut rows, alloc, table.clone()?)? {
@@ -221,18 +296,96 @@ fn holds(alloc: Global, table: &TableName, case: &Case) -> Result<bool, Memory> 
     let second = sees(&rows, alloc, table, ClientNo(2), case.second)?;
     let locked = are_locked(&rows, table, case.locked, true);
     let free = are_locked(&rows, table, case.free, false);
-    Ok(first && second && locked && free)
+    let under = are_under(&rows, table, case.under);
+    Ok(first && second && locked && free && under)
 }
 
 #[test]
 fn clients_see_their_changes_over_what_is_committed(rt: HostRuntime) -> Result<(), Fail> {
     let alloc = rt.alloc();
-    let table = TableName {
-        owner: name(alloc, "A")?,
-        name: name(alloc, "T")?,
-    };
+    let table = table_name(alloc)?;
     for case in &CASES {
         assert!(rt; holds(alloc, &table, case)?);
     }
+    Ok(())
+}
+
+fn table_name(alloc: Global) -> Result<TableName, Memory> {
+    Ok(TableName {
+        owner: name(alloc, "A")?,
+        name: name(alloc, "T")?,
+    })
+}
+
+// rows 1 and 3 are committed, and client 2 has row 4
+fn some_rows(alloc: Global, table: &TableName) -> Result<Rows, Memory> {
+    let mut rows = Rows::new(alloc)?;
+    open(&mut rows, alloc, table.clone()?)?;
+    for step in [Put(1, 1, 5), Put(1, 3, 7), Settle(1), Put(2, 4, 9)] {
+        take(&mut rows, alloc, table, step)?;
+    }
+    Ok(rows)
+}
+
+/// The number after which a client asks, the client, and the next row's number, 0 where there is
+/// none.
+const NEXT: [(u32, u32, u32); 5] = [(0, 1, 1), (1, 1, 3), (3, 1, 0), (3, 2, 4), (4, 2, 0)];
+
+#[test]
+fn the_next_row_is_one_that_the_client_sees(rt: HostRuntime) -> Result<(), Fail> {
+    let alloc = rt.alloc();
+    let table = table_name(alloc)?;
+    let rows = some_rows(alloc, &table)?;
+    for (after, by, want) in NEXT {
+        let next = match rows.next(&table, RowNo(after), ClientNo(by)) {
+            Some(row) => row.0.0,
+            None => 0,
+        };
+        assert_eq!(rt; next, want, "after {after} for {by}");
+    }
+    Ok(())
+}
+
+#[test]
+fn numbers_and_owners_count_what_is_unsettled(rt: HostRuntime) -> Result<(), Fail> {
+    let alloc = rt.alloc();
+    let table = table_name(alloc)?;
+    let rows = some_rows(alloc, &table)?;
+    assert_eq!(rt; rows.numbers(&table), (3, 4));
+    assert!(rt; rows.owner(&table, RowNo(1)).is_none());
+    assert!(rt; rows.owner(&table, RowNo(4)).is_some());
+    Ok(())
+}
+
+fn drop_it(rows: &mut Rows, table: &TableName) -> bool {
+    if !rows.is_open(table) {
+        return false;
+    }
+    if !rows.is_settled(table) {
+        return false;
+    }
+    rows.drop_table(table);
+    true
+}
+
+#[test]
+fn a_table_that_goes_takes_its_rows_with_it(rt: HostRuntime) -> Result<(), Fail> {
+    let alloc = rt.alloc();
+    let table = table_name(alloc)?;
+    let mut rows = some_rows(alloc, &table)?;
+    assert!(rt; !drop_it(&mut rows, &table), "a row is unsettled");
+    rows.settle(ClientNo(2));
+    assert!(rt; drop_it(&mut rows, &table));
+    assert!(rt; open(&mut rows, alloc, table.clone()?)?);
+    assert_eq!(rt; rows.numbers(&table), (0, 0));
+    assert!(rt; are_under(&rows, &table, &[(5, 0), (7, 0), (9, 0)]));
+    Ok(())
+}
+
+#[test]
+fn a_number_and_its_negative_are_indexed_together(rt: HostRuntime) -> Result<(), Fail> {
+    let five = key_hash(0, &[Cell::Num(5)]);
+    assert_eq!(rt; five, key_hash(0, &[Cell::Num(-5)]));
+    assert!(rt; five != key_hash(1, &[Cell::Num(5)]));
     Ok(())
 }

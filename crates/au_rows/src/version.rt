@@ -9,4 +9,6 @@ pub struct Version {
     pub table: usize,
     pub number: RowNo,
     pub cells: List<Cell>,
+    /// The number under which it is indexed.
+    pub hash: u64,
 }

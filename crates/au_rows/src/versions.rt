@@ -1,10 +1,21 @@
-//! The versions of all rows.
-ghost use Rattle.std.specs.Prelude.{◌≡◌, ◌≢◌, ◌+◌, ◌<◌, ◌≤◌, [], ℕ, Some, None, OnOk, IfSome, slice_index_or};
+//! The versions of all rows, and the index of their keys.
+ghost use Rattle.std.specs.Prelude.{◌≡◌, ◌+◌, ◌<◌, ◌≤◌, [], ℕ, Some, None, OnOk, IfNone, IfSome, slice_index_or, true};
 ghost use Rattle.std.specs.Option.{option_copied};
+ghost use Rattle.au_rows.specs.declared.version.Version.{Version as Content};
+ghost use Rattle.au_rows.specs.Hash.{key_hash};
+ghost use Rattle.au_rows.specs.Order.{in_order};
+ghost use Rattle.au_rows.specs.Sought.{IsMatch};
 ghost use Rattle.au_rows.specs.Stored.{Frees, Puts};
 
+use crate::chains::{link, unlink};
+use crate::keys::Asked;
+use crate::node::Node;
+use crate::place::Place;
+use crate::seeking::first_match;
+use crate::sought::Sought;
 use crate::version::Version;
 use au_base::Memory;
+use indexmap::IndexMap;
 use slab::Slab;
 use std::alloc::Global;
 use std::marker::Model;
@@ -13,7 +24,9 @@ use std::marker::Model;
 /// many more versions it takes without memory.
 #[derive(Drop)]
 pub struct Versions {
-    versions: Slab<Version>,
+    nodes: Slab<Node>,
+    /// The first slot of each hash's chain.
+    heads: IndexMap<u64, usize>,
 }
 
 impl Model for Versions {
@@ -21,10 +34,14 @@ impl Model for Versions {
 
     ghost Value = { Stored };
 
-    ghost use Rattle.std.specs.Prelude.{◌-◌};
+    ghost use Rattle.std.specs.Prelude.{◌-◌, min, nat_eq};
     ghost use Rattle.slab.specs.Slab.{slab_len};
+    ghost use Rattle.indexmap.specs.IndexMap.{get, spare};
+    ghost use Rattle.au_rows.specs.Chains.{Chained, versions_of};
 
-    ghost view = { λ v. record { slots = v.versions.slots; room = v.versions.capacity - slab_len v.versions } };
+    ghost view = { λ v. record { slots = versions_of v.nodes.slots; room = min (v.nodes.capacity - slab_len v.nodes) (spare v.heads) } };
+
+    ghost invariant = { λ v. Chained v.nodes.slots (λ hash. get nat_eq v.heads hash) };
 }
 
 impl Versions {
@@ -34,7 +51,8 @@ impl Versions {
         ensures room { result.room ≡ 0 }
     {
         Versions {
-            versions: Slab::new(alloc),
+            nodes: Slab::new(alloc),
+            heads: IndexMap::new(alloc),
         }
     }
 
@@ -44,7 +62,8 @@ impl Versions {
         ensures slots { self.new.slots ≡ self.old.slots }
         ensures room { self.old.room ≤ self.new.room }
     {
-        self.versions.reserve(more)?;
+        self.nodes.reserve(more)?;
+        self.heads.reserve(more)?;
         Ok(())
     }
 
@@ -54,7 +73,7 @@ impl Versions {
         ensures puts { Puts self.old.slots self.new.slots result version }
         ensures room { self.old.room ≤ self.new.room + 1 }
     {
-        self.versions.insert_reserved(version)
+        link(&mut self.nodes, &mut self.heads, version)
     }
 
     /// Lets the version of a slot go, where there is one.
@@ -63,7 +82,7 @@ impl Versions {
         ensures room { self.old.room ≤ self.new.room }
     {
         if let Some(slot) = slot {
-            let _gone = self.versions.try_remove(slot);
+            unlink(&mut self.nodes, &mut self.heads, slot);
         }
     }
 
@@ -71,6 +90,18 @@ impl Versions {
     pub(crate) fn get(&self, slot: usize) -> Option<&Version>
         ensures { option_copied result ≡ slice_index_or self.now.slots slot None }
     {
-        self.versions.get(slot)
+        match self.nodes.get(slot) {
+            Some(node) => Some(&node.version),
+            None => None,
+        }
+    }
+
+    /// The slot of a version that is sought under a key.
+    pub(crate) fn find(&self, places: &[Place], asked: &Asked<'_>, sought: Sought) -> Option<usize>
+        requires { in_order places.now ≡ true }
+        ensures some { IfSome result (λ slot. (version : Content) × (slice_index_or self.now.slots slot None ≡ Some version) × IsMatch sought places.now asked.now.table asked.now.places.now asked.now.key.now asked.now.by slot version) }
+        ensures none { IfNone result ((slot : ℕ) (version : Content) → slice_index_or self.now.slots slot None ≡ Some version → version.hash ≡ key_hash asked.now.table asked.now.key.now → IsMatch sought places.now asked.now.table asked.now.places.now asked.now.key.now asked.now.by slot version → ⊥) }
+    {
+        first_match(&self.nodes, &self.heads, places, asked, sought)
     }
 }

@@ -27,7 +27,7 @@ loop-change-preserved c =
     let so_far = subst (λ (rest : List Unsettled). EndedBefore c.args.ending c.args.by rest changes c.args.places.now.items c.args.versions.now.slots c.loop-change.places.items c.loop-change.versions.slots) split c.loop-change.invariant.ended in
     record {
       ended = ended-step c.args.ending c.args.by (get_or changes i nothing) (drop (i + 1) changes) changes c.args.places.now.items c.loop-change.places.items c.end_change.new.places.items c.args.versions.now.slots c.loop-change.versions.slots c.end_change.new.versions.slots
-          so_far (all_at (is_owned c.args.places.now.items) changes i nothing within c.requires.owned) c.end_change.ensures.row;
+          so_far (all_at (is_owned c.args.places.now.items) changes i nothing within c.requires.owned) c.end_change.ensures.gone c.end_change.ensures.row;
       room = omega arith;
       len = omega arith;
       capacity = omega arith;

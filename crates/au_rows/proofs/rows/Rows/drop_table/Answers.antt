@@ -4,6 +4,7 @@ use Rattle.au_base.specs.declared.numbers.RowNo.{RowNo}
 use Rattle.au_rows.specs.Held.{is_elsewhere, number_of, owner_of}
 use Rattle.au_rows.specs.Kept.{held_of, place_elsewhere, place_shown}
 use Rattle.au_rows.proofs.DropLemmas.{all-same-contents, count-filter, gone-changes, gone-held, gone-open, gone-sound, shorter}
+use Rattle.au_rows.proofs.IndexLemmas.{indexed-gone}
 use Rattle.au_rows.proofs.PutLemmas.{spare-kept}
 use Rattle.au_rows.proofs.rows.Rows.drop_table.Goals as goal
 
@@ -16,9 +17,12 @@ invariant_of-self c =
     let fewer = count-filter place_shown (place_elsewhere c.number_of-table.result) places in
     let room = c.self.invariant.2 in
     rw c.drop_rows.ensures.items (
-      gone-sound c.number_of-table.result c.self.inside.versions.slots c.drop_rows.new.versions.slots c.drop_rows.ensures.others places c.self.inside.unsettled.items c.self.invariant.0 settled_here,
+      gone-sound c.number_of-table.result c.self.inside.versions.slots c.drop_rows.new.versions.slots c.drop_rows.ensures.others places c.self.inside.unsettled.items c.self.invariant.0 settled_here c.drop_rows.ensures.frees c.drop_rows.ensures.freed,
       gone-open c.number_of-table.result c.self.inside.tables.items places c.self.invariant.1,
       omega arith,
+      indexed-gone c.number_of-table.result c.self.inside.tables.items (filter (place_elsewhere c.number_of-table.result) places) c.self.inside.versions.slots c.drop_rows.new.versions.slots c.self.inside.unsettled.items
+          (gone-sound c.number_of-table.result c.self.inside.versions.slots c.drop_rows.new.versions.slots c.drop_rows.ensures.others places c.self.inside.unsettled.items c.self.invariant.0 settled_here c.drop_rows.ensures.frees c.drop_rows.ensures.freed)
+          (gone-open c.number_of-table.result c.self.inside.tables.items places c.self.invariant.1) c.drop_rows.ensures.frees c.self.invariant.3,
     )
 
 pub returns-clause-rest : goal.returns-clause-rest
@@ -33,7 +37,7 @@ returns-clause-rest c =
     (ap (map (held_of c.drop_rows.new.versions.slots)) c.drop_rows.ensures.items
     ∙ (gone-held c.number_of-table.result c.self.inside.versions.slots c.drop_rows.new.versions.slots c.drop_rows.ensures.others places sound.whole
     ∙ ap (λ (t : ℕ). filter (is_elsewhere t) (map (held_of c.self.inside.versions.slots) places)) (sym is)))
-    (gone-changes c.number_of-table.result c.self.inside.versions.slots c.drop_rows.new.versions.slots c.drop_rows.ensures.others places c.self.inside.unsettled.items sound settled_here))
+    (gone-changes c.number_of-table.result c.self.inside.versions.slots c.drop_rows.new.versions.slots c.drop_rows.ensures.others places c.self.inside.unsettled.items sound settled_here c.drop_rows.ensures.frees c.drop_rows.ensures.freed))
 
 pub returns-clause-spare : goal.returns-clause-spare
 returns-clause-spare c =

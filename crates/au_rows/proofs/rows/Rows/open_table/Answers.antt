@@ -2,6 +2,7 @@ use Rattle.std.proofs.Common.{◌∙◌, ◌≤◌, ℕ, ap, filter, length, map
 use Rattle.au_rows.specs.declared.table.Table.{Table}
 use Rattle.au_rows.specs.Held.{is_of, number_of}
 use Rattle.au_rows.specs.Kept.{held_of}
+use Rattle.au_rows.proofs.IndexLemmas.{indexed-open}
 use Rattle.au_rows.proofs.TableLemmas.{all-open, named-there, none-of, is-its-name}
 use Rattle.au_rows.proofs.rows.Rows.open_table.Goals as goal
 
@@ -11,6 +12,7 @@ invariant_of-self c =
       c.self.invariant.0,
       all-open c.self.inside.tables.items (record { name = c.args.table; key = c.from_vec-key.result }) c.self.inside.places.items c.self.invariant.1,
       c.self.invariant.2,
+      indexed-open c.self.inside.tables.items (record { name = c.args.table; key = c.from_vec-key.result }) c.self.inside.places.items c.self.inside.versions.slots c.self.inside.unsettled.items c.self.invariant.0 c.self.invariant.1 c.self.invariant.3,
     )
 
 pub returns-clause-empty : goal.returns-clause-empty

@@ -4,7 +4,7 @@ use Rattle.au_base.specs.declared.cell.Cell.{Cell}
 use Rattle.au_base.specs.declared.numbers.RowNo.{RowNo}
 use Rattle.au_rows.specs.Held.{HasKey, view_of}
 use Rattle.au_rows.specs.Kept.{held_of}
-use Rattle.au_rows.proofs.reading.under_in.Given as goal
+use Rattle.au_rows.proofs.reading.under_walk.Given as goal
 
 abbrev pub invariant-loop-place : goal.invariant-loop-place
 invariant-loop-place l = record {

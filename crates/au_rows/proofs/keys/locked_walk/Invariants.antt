@@ -1,7 +1,7 @@
 use Rattle.std.proofs.Common.{drop, map}
 use Rattle.au_rows.specs.Held.{SomeLocks}
 use Rattle.au_rows.specs.Kept.{change_of, held_of}
-use Rattle.au_rows.proofs.keys.is_locked.Given as goal
+use Rattle.au_rows.proofs.keys.locked_walk.Given as goal
 
 abbrev pub invariant-loop-change : goal.invariant-loop-change
 invariant-loop-change l =

@@ -8,7 +8,7 @@ use Rattle.au_rows.specs.Kept.{held_of}
 use Rattle.au_rows.proofs.AllLemmas.{drop-past}
 use Rattle.au_rows.proofs.UnderLemmas.{later-view, none-contained, row-behind, row-here, row-within}
 use Rattle.au_rows.proofs.ViewLemmas.{past-rest, view_of-past}
-use Rattle.au_rows.proofs.reading.under_in.Goals as goal
+use Rattle.au_rows.proofs.reading.under_walk.Goals as goal
 
 abbrev nothing : Place
 nothing = record { table = 0; number = record { 0 = 0 }; settled = None; owner = None; newest = None }
