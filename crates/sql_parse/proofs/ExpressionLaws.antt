@@ -524,10 +524,10 @@ module _ (Inner : List Kind → Expr → List Kind → Type 0) (inner : List Kin
 
   -- ---- tests
 
-  EndsList : List Kind → Type 0
+  unfoldable pub EndsList : List Kind → Type 0
   EndsList o = (sees comma o ≡ false) × Above 3 o
 
-  sums_exact : Exact (Parted comma (g.Sum Inner)) (read.parted comma (read.sum inner)) EndsList
+  pub sums_exact : Exact (Parted comma (g.Sum Inner)) (read.parted comma (read.sum inner)) EndsList
   unfolding EndsList
   sums_exact = parted_exact comma (g.Sum Inner) (read.sum inner) (Above 3) sum_exact refl (λ i. omega arith) EndsList (λ o f. f.1) (λ o f. f.0)
 

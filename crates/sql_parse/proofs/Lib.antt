@@ -1,6 +1,12 @@
+pub mod ChangeLaws
 pub mod ConditionLaws
 pub mod Depth
 pub mod Exact
 pub mod ExpressionLaws
+pub mod Follow
 pub mod MomentLaws
+pub mod QueryLaws
+pub mod RowStatementDepth
+pub mod RowStatementLaws
+pub mod TableLaws
 pub mod Turns

@@ -1,7 +1,15 @@
 pub mod Answers
+pub mod Changes
 pub mod Conditions
 pub mod Expressions
 pub mod MomentReading
+pub mod Queries
+pub mod ReadChanges
+pub mod ReadQueries
+pub mod ReadStatements
+pub mod ReadTables
 pub mod Reading
+pub mod RowStatements
 pub mod Rules
 pub mod Symbols
+pub mod Tables

@@ -7,6 +7,7 @@ ghost use Rattle.sql_parse.specs.Conditions.{HasNoCondition, IsCondition, ReadsC
 ghost use Rattle.sql_parse.specs.Conditions as spec;
 ghost use Rattle.sql_parse.specs.Answers as answers;
 
+use crate::cursor::all_of;
 use crate::expression::cond;
 use crate::stop::Stop;
 use au_base::{Memory, limits};
@@ -14,8 +15,8 @@ use sql_ast::Expr;
 use sql_lex::{Kind, Mark, Token, one_way, tokens};
 use std::alloc::Global;
 
-// How many parentheses may be open at once.
-const LIMIT: u32 = limits::OPEN_PARENTHESES as u32;
+/// How many parentheses may be open at once.
+pub const LIMIT: u32 = limits::OPEN_PARENTHESES as u32;
 
 /// The condition that a text is, as that of an audit policy: one condition without `;`, in which no
 /// more than 100 parentheses are open at once. `None` where it is none.
@@ -56,11 +57,7 @@ fn read(alloc: Global, tokens: &[Token]) -> Result<Expr, Stop>
         return Err(Stop::Unread);
     }
     let (found, rest) = cond(alloc, LIMIT, tokens)?;
-    if rest.is_empty() {
-        Ok(found)
-    } else {
-        Err(Stop::Unread)
-    }
+    all_of(found, rest)
 }
 
 /// Whether no more than a hundred parentheses are open at once.

@@ -160,7 +160,7 @@ pub fn sum(alloc: Global, depth: u32, tokens: &[Token]) -> Result<(Expr, &[Token
 
 #[cycle(expression)]
 #[tactic(auto, using(crate::proofs::Turns::turns), unfolding(crate::specs::Reading::parted))]
-fn sums(alloc: Global, depth: u32, tokens: &[Token]) -> Result<(List<Expr>, &[Token]), Stop>
+pub fn sums(alloc: Global, depth: u32, tokens: &[Token]) -> Result<(List<Expr>, &[Token]), Stop>
     ensures { Gives (λ x. (x.0, kinds x.1.now)) result (spec.parted comma (spec.sum (spec.inside depth)) (kinds tokens.now)) }
 {
     let (first, mut rest) = sum(alloc, depth, tokens)?;

@@ -1,13 +1,22 @@
-//! Reads conditions.
+//! Reads conditions, and the statements that read and change rows. The modules that are public are
+//! for the readers of the other statements.
 #![tactic(auto)]
 
 mod atom;
+mod changes;
 mod conditions;
-mod cursor;
+pub mod cursor;
 mod expression;
-mod names;
+pub mod names;
+mod queries;
+mod row_statements;
+#[cfg(test)]
+mod statement_tests;
 mod stop;
+pub mod tables;
 #[cfg(test)]
 mod tests;
 
-pub use conditions::{condition, one_condition};
+pub use conditions::{condition, one_condition, opens_few};
+pub use row_statements::{one_row_statement, row_statement};
+pub use stop::Stop;

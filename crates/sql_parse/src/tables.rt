@@ -1,0 +1,74 @@
+//! Tables, their aliases, and lists of names.
+ghost use Rattle.sql_parse.specs.Symbols.{kinds};
+ghost use Rattle.sql_parse.specs.Reading.{Gives};
+ghost use Rattle.sql_parse.specs.ReadTables as spec;
+
+use crate::cursor::{behind, sees_mark};
+use crate::names::name;
+use crate::stop::Stop;
+use au_base::{List, Name, TableReference};
+use sql_ast::AliasedTable;
+use sql_lex::{Mark, Token};
+use std::alloc::Global;
+
+/// `[name .] name`
+#[tactic(auto, unfolding(crate::specs::ReadTables::qualified))]
+pub fn qualified(alloc: Global, tokens: &[Token]) -> Result<((Option<Name>, Name), &[Token]), Stop>
+    ensures { Gives (λ x. (x.0, kinds x.1.now)) result (spec.qualified (kinds tokens.now)) }
+{
+    let (first, rest) = name(alloc, tokens)?;
+    if !sees_mark(rest, Mark::Period) {
+        return Ok(((None, first), rest));
+    }
+    let (second, rest) = name(alloc, behind(rest))?;
+    Ok(((Some(first), second), rest))
+}
+
+/// `table = [name .] name`
+#[tactic(auto, unfolding(crate::specs::ReadTables::table))]
+pub fn table(alloc: Global, tokens: &[Token]) -> Result<(TableReference, &[Token]), Stop>
+    ensures { Gives (λ x. (x.0, kinds x.1.now)) result (spec.table (kinds tokens.now)) }
+{
+    let ((owner, name), rest) = qualified(alloc, tokens)?;
+    Ok((TableReference { owner, name }, rest))
+}
+
+/// A name, if one comes next.
+pub fn alias(alloc: Global, tokens: &[Token]) -> Result<(Option<Name>, &[Token]), Stop>
+    ensures { Gives (λ x. (x.0, kinds x.1.now)) result (spec.alias (kinds tokens.now)) }
+{
+    match name(alloc, tokens) {
+        Ok((found, rest)) => Ok((Some(found), rest)),
+        Err(Stop::Unread) => Ok((None, tokens)),
+        Err(Stop::Memory) => Err(Stop::Memory),
+    }
+}
+
+/// `tref = table [name]`
+#[tactic(auto, unfolding(crate::specs::ReadTables::aliased))]
+pub fn aliased(alloc: Global, tokens: &[Token]) -> Result<(AliasedTable, &[Token]), Stop>
+    ensures { Gives (λ x. (x.0, kinds x.1.now)) result (spec.aliased (kinds tokens.now)) }
+{
+    let (table, rest) = table(alloc, tokens)?;
+    let (alias, rest) = alias(alloc, rest)?;
+    Ok((AliasedTable { table, alias }, rest))
+}
+
+/// `name {, name}`
+#[tactic(auto, using(crate::proofs::Turns::turns), unfolding(crate::specs::ReadTables::names, crate::specs::Reading::parted))]
+pub fn names(alloc: Global, tokens: &[Token]) -> Result<(List<Name>, &[Token]), Stop>
+    ensures { Gives (λ x. (x.0, kinds x.1.now)) result (spec.names (kinds tokens.now)) }
+{
+    let (first, mut rest) = name(alloc, tokens)?;
+    let mut parts = List::new(alloc);
+    parts.push(first)?;
+    for _turn in 0..rest.len() {
+        if !sees_mark(rest, Mark::Comma) {
+            break;
+        }
+        let (part, after) = name(alloc, behind(rest))?;
+        parts.push(part)?;
+        rest = after;
+    }
+    Ok((parts, rest))
+}
