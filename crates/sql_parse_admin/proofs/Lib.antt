@@ -1,0 +1,4 @@
+pub mod AuditLaws
+pub mod GrantLaws
+pub mod PrivilegeLaws
+pub mod StatementLaws

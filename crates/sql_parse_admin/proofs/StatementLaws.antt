@@ -1,0 +1,114 @@
+-- A statement about users, roles and rights, and what is read.
+use Rattle.std.proofs.Common.{◌≡◌, ℕ, Bool, true, false, cond, List, [], ◌∷◌, Option, Some, None, refl, sym, ap, subst, ◌∙◌, inl, inr}
+use Rattle.std.specs.Prelude.{codes}
+use Rattle.au_base.specs.declared.table.TableReference.{TableReference}
+use Rattle.sql_lex.specs.declared.token.Kind.{Kind}
+use Rattle.sql_lex.specs.declared.token.Kind.TheVariants.{Word}
+use Rattle.sql_ast.specs.declared.statement.Statement.{Statement}
+use Rattle.sql_ast.specs.declared.statement.Statement.TheVariants as statement
+use Rattle.sql_parse.specs.Symbols.{sees, dot, semicolon}
+use Rattle.sql_parse.specs.Rules.{After, after, Maybe, without, written}
+use Rattle.sql_parse.specs.Tables.{Name, Table}
+use Rattle.sql_parse.specs.Reading as read
+use Rattle.sql_parse.specs.Reading.{◌>>=◌, under, behind, expect}
+use Rattle.sql_parse.specs.ReadTables as tables
+use Rattle.sql_parse.specs.ReadStatements.{past_end}
+use Rattle.sql_parse.specs.Conditions.{opens_few}
+use Rattle.sql_parse.proofs.Exact.{bind_some, under_some, some_is, chosen, guard, sees_is, expect_is}
+use Rattle.sql_parse.proofs.Follow.{OneOf, unseen, LAST}
+use Rattle.sql_parse.proofs.TableLaws.{name_exact, table_exact}
+use Rattle.sql_parse.proofs.RowStatementLaws.{last}
+use Rattle.sql_parse_admin.specs.Grants as grant
+use Rattle.sql_parse_admin.specs.ReadGrants as grants
+use Rattle.sql_parse_admin.specs.ReadStatements as statements
+use Rattle.sql_parse_admin.specs.Statements as g
+use Rattle.sql_parse_admin.proofs.GrantLaws.{grant_sound, grant_complete, grant_object_complete, revoke_sound, revoke_complete, revoke_object_complete}
+
+-- a statement whose first word was seen
+seen : (w : List ℕ) (i : List Kind) (y : Statement × List Kind) → sees (Word w) i ≡ true → g.RightsStatement (Word w ∷ behind i) y.0 y.1 → g.RightsStatement i y.0 y.1
+seen w i y s d = subst (λ (j : List Kind). g.RightsStatement j y.0 y.1) (sym (sees_is (Word w) i s)) d
+
+drop_sound : (i : List Kind) (y : Statement × List Kind) → statements.drop i ≡ Some y → g.RightsStatement (Word (codes "DROP") ∷ i) y.0 y.1
+unfolding statements.drop
+drop_sound i y h =
+    elim (chosen (sees (Word (codes "TABLE")) i) (under statement.DropTable (tables.table (behind i))) _ (Some y) h) [
+      | inl t ↦
+          let u = under_some statement.DropTable (tables.table (behind i)) y t.1 in
+          second (codes "TABLE") t.0 (subst (λ (z : Statement × List Kind). g.RightsStatement (Word (codes "DROP") ∷ Word (codes "TABLE") ∷ behind i) z.0 z.1) u.2 (g.drops_table (after (after (table_exact.sound (behind i) u.0 u.1)))))
+      | inr t ↦ elim (chosen (sees (Word (codes "USER")) i) (under statement.DropUser (read.name (behind i))) _ (Some y) t.1) [
+        | inl t ↦
+            let u = under_some statement.DropUser (read.name (behind i)) y t.1 in
+            second (codes "USER") t.0 (subst (λ (z : Statement × List Kind). g.RightsStatement (Word (codes "DROP") ∷ Word (codes "USER") ∷ behind i) z.0 z.1) u.2 (g.drops_user (after (after (name_exact.sound (behind i) u.0 u.1)))))
+        | inr t ↦
+            let s = guard (sees (Word (codes "ROLE")) i) (under statement.DropRole (read.name (behind i))) y t.1 in
+            let u = under_some statement.DropRole (read.name (behind i)) y s.1 in
+            second (codes "ROLE") s.0 (subst (λ (z : Statement × List Kind). g.RightsStatement (Word (codes "DROP") ∷ Word (codes "ROLE") ∷ behind i) z.0 z.1) u.2 (g.drops_role (after (after (name_exact.sound (behind i) u.0 u.1)))))
+      ]
+    ]
+  where
+    second : (w : List ℕ) → sees (Word w) i ≡ true → g.RightsStatement (Word (codes "DROP") ∷ Word w ∷ behind i) y.0 y.1 → g.RightsStatement (Word (codes "DROP") ∷ i) y.0 y.1
+    second w s d = subst (λ (j : List Kind). g.RightsStatement (Word (codes "DROP") ∷ j) y.0 y.1) (sym (sees_is (Word w) i s)) d
+
+create_sound : (i : List Kind) (y : Statement × List Kind) → (expect (Word (codes "ROLE")) i >>= λ j. under statement.CreateRole (read.name j)) ≡ Some y → g.RightsStatement (Word (codes "CREATE") ∷ i) y.0 y.1
+create_sound i y h =
+    let a = bind_some (expect (Word (codes "ROLE")) i) (λ j. under statement.CreateRole (read.name j)) y h in
+    let u = under_some statement.CreateRole (read.name a.0) y a.2 in
+    subst (λ (z : Statement × List Kind). g.RightsStatement (Word (codes "CREATE") ∷ i) z.0 z.1) u.2
+    (subst (λ (j : List Kind). g.RightsStatement (Word (codes "CREATE") ∷ j) (statement.CreateRole u.0.0) u.0.1) (sym (expect_is (Word (codes "ROLE")) i a.0 a.1))
+    (g.creates_role (after (after (name_exact.sound a.0 u.0 u.1)))))
+
+statement_sound : (i : List Kind) (y : Statement × List Kind) → statements.rights_statement i ≡ Some y → g.RightsStatement i y.0 y.1
+unfolding statements.rights_statement
+statement_sound i y h =
+    elim (chosen (sees (Word (codes "GRANT")) i) (under statement.Grant (grants.grant (behind i))) _ (Some y) h) [
+      | inl t ↦
+          let u = under_some statement.Grant (grants.grant (behind i)) y t.1 in
+          seen (codes "GRANT") i y t.0 (subst (λ (z : Statement × List Kind). g.RightsStatement (Word (codes "GRANT") ∷ behind i) z.0 z.1) u.2 (g.grants (grant_sound (behind i) u.0 u.1)))
+      | inr t ↦ elim (chosen (sees (Word (codes "REVOKE")) i) (under statement.Grant (grants.revoke (behind i))) _ (Some y) t.1) [
+        | inl t ↦
+            let u = under_some statement.Grant (grants.revoke (behind i)) y t.1 in
+            seen (codes "REVOKE") i y t.0 (subst (λ (z : Statement × List Kind). g.RightsStatement (Word (codes "REVOKE") ∷ behind i) z.0 z.1) u.2 (g.grants (revoke_sound (behind i) u.0 u.1)))
+        | inr t ↦ elim (chosen (sees (Word (codes "DROP")) i) (statements.drop (behind i)) _ (Some y) t.1) [
+          | inl t ↦ seen (codes "DROP") i y t.0 (drop_sound (behind i) y t.1)
+          | inr t ↦
+              let s = guard (sees (Word (codes "CREATE")) i) (expect (Word (codes "ROLE")) (behind i) >>= λ j. under statement.CreateRole (read.name j)) y t.1 in
+              seen (codes "CREATE") i y s.0 (create_sound (behind i) y s.1)
+        ]
+      ]
+    ]
+
+statement_complete : (i o : List Kind) (x : Statement) → g.RightsStatement i x o → OneOf LAST o → statements.rights_statement i ≡ Some (x, o)
+unfolding statements.rights_statement statements.drop
+statement_complete i o x (g.drops_table {t = t} (after (after {i = j} d))) f = rw (table_exact.complete j o t d (unseen dot LAST o refl f)) refl
+statement_complete i o x (g.drops_user {n = n} (after (after {i = j} d))) f = rw (name_exact.complete j o n d tt) refl
+statement_complete i o x (g.creates_role {n = n} (after (after {i = j} d))) f = rw (name_exact.complete j o n d tt) refl
+statement_complete i o x (g.drops_role {n = n} (after (after {i = j} d))) f = rw (name_exact.complete j o n d tt) refl
+statement_complete i o x (g.grants (grant.grant {i = h} {j = j} {m = m} {rs = rs} {ns = ns} {b = b} d e a)) f = rw (grant_complete h o rs ns b j m d e a f) refl
+statement_complete i o x (g.grants (grant.revoke {i = h} {j = j} {rs = rs} {ns = ns} d e)) f = rw (revoke_complete h o rs ns j d e f) refl
+statement_complete i o x (g.grants (grant.grant_object {i = h} {j = j} {m = m} {rs = rs} {t = t} {ns = ns} d e a)) f = rw (grant_object_complete h o rs t ns j m d e a f) refl
+statement_complete i o x (g.grants (grant.revoke_object {i = h} {j = j} {m = m} {rs = rs} {t = t} {ns = ns} d e a)) f = rw (revoke_object_complete h o rs t ns j m d e a f) refl
+
+-- ---- all tokens
+
+pub statement_is : (ts : List Kind) (x : Statement) → statements.whole_statement ts ≡ Some x → g.IsRightsStatement ts x
+statement_is ts x h =
+    let t = guard (opens_few 0 ts) (read.whole (past_end (statements.rights_statement ts))) x h in go (statements.rights_statement ts) refl t.1 t.0
+  where
+    go : (r : Option (Statement × List Kind)) → statements.rights_statement ts ≡ r → read.whole (past_end r) ≡ Some x → opens_few 0 ts ≡ true → g.IsRightsStatement ts x
+    go None e w f = absurd cc
+    go (Some y) e w f =
+        let l = last y.1 y.0 x w in
+        record { few = f; behind = y.1; derived = subst (λ (z : Statement). g.RightsStatement ts z y.1) l.1 (statement_sound ts y e); ends = l.0 }
+
+pub statement_read : (ts : List Kind) (x : Statement) → g.IsRightsStatement ts x → statements.whole_statement ts ≡ Some x
+statement_read ts x s = go s.behind s.ends s.derived
+  where
+    go : (o : List Kind) → Maybe semicolon o [] → g.RightsStatement ts x o → statements.whole_statement ts ≡ Some x
+    go o without d = rw (s.few, statement_complete ts [] x d tt) refl
+    go o written d = rw (s.few, statement_complete ts LAST x d refl) refl
+
+pub no_statement : (ts : List Kind) → statements.whole_statement ts ≡ None → g.IsNoRightsStatement ts
+no_statement ts h x s = let is : statements.whole_statement ts ≡ Some x = statement_read ts x s in cc
+
+pub one_way : (ts : List Kind) (x y : Statement) → g.IsRightsStatement ts x → g.IsRightsStatement ts y → x ≡ y
+one_way ts x y s t = some_is x y (sym (statement_read ts x s) ∙ statement_read ts y t)

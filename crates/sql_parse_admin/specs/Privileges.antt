@@ -1,0 +1,52 @@
+-- The grammar of what is granted (SQL Language Reference, "GRANT"; the choice of rules is this project's profile).
+use Rattle.std.specs.Prelude.{ℕ, List, [], ◌∷◌, ◌++◌, map, codes}
+use Rattle.au_base.specs.declared.privilege.Privilege.{Privilege}
+use Rattle.au_base.specs.declared.privilege.Privilege.TheVariants as privileges
+use Rattle.au_base.specs.declared.grant.ObjectRight.{ObjectRight}
+use Rattle.au_base.specs.declared.grant.ObjectRight.TheVariants as on
+use Rattle.au_base.specs.declared.grant.Right.{Right}
+use Rattle.au_base.specs.declared.grant.Right.TheVariants as kind
+use Rattle.sql_lex.specs.declared.token.Kind.{Kind}
+use Rattle.sql_lex.specs.declared.token.Kind.TheVariants.{Word}
+use Rattle.sql_parse.specs.Rules.{Maybe}
+use Rattle.sql_parse.specs.Tables.{Name}
+
+-- the words that a privilege's name has
+abbrev pub words_of : Privilege → List (List ℕ)
+words_of privileges.AlterUser = codes "ALTER" ∷ codes "USER" ∷ []
+words_of privileges.AuditSystem = codes "AUDIT" ∷ codes "SYSTEM" ∷ []
+words_of privileges.CreateAnyTable = codes "CREATE" ∷ codes "ANY" ∷ codes "TABLE" ∷ []
+words_of privileges.CreateRole = codes "CREATE" ∷ codes "ROLE" ∷ []
+words_of privileges.CreateSession = codes "CREATE" ∷ codes "SESSION" ∷ []
+words_of privileges.CreateTable = codes "CREATE" ∷ codes "TABLE" ∷ []
+words_of privileges.CreateUser = codes "CREATE" ∷ codes "USER" ∷ []
+words_of privileges.DeleteAnyTable = codes "DELETE" ∷ codes "ANY" ∷ codes "TABLE" ∷ []
+words_of privileges.DropAnyRole = codes "DROP" ∷ codes "ANY" ∷ codes "ROLE" ∷ []
+words_of privileges.DropAnyTable = codes "DROP" ∷ codes "ANY" ∷ codes "TABLE" ∷ []
+words_of privileges.DropUser = codes "DROP" ∷ codes "USER" ∷ []
+words_of privileges.GrantAnyObjectPrivilege = codes "GRANT" ∷ codes "ANY" ∷ codes "OBJECT" ∷ codes "PRIVILEGE" ∷ []
+words_of privileges.GrantAnyPrivilege = codes "GRANT" ∷ codes "ANY" ∷ codes "PRIVILEGE" ∷ []
+words_of privileges.GrantAnyRole = codes "GRANT" ∷ codes "ANY" ∷ codes "ROLE" ∷ []
+words_of privileges.InsertAnyTable = codes "INSERT" ∷ codes "ANY" ∷ codes "TABLE" ∷ []
+words_of privileges.SelectAnyTable = codes "SELECT" ∷ codes "ANY" ∷ codes "TABLE" ∷ []
+words_of privileges.UpdateAnyTable = codes "UPDATE" ∷ codes "ANY" ∷ codes "TABLE" ∷ []
+
+-- as tokens
+abbrev pub tokens_of : List (List ℕ) → List Kind
+tokens_of words = map (λ word. Word word) words
+
+pub data IsPrivilege : List Kind → Privilege → List Kind → Type 0 where
+  privilege : {p : Privilege} {o : List Kind} → IsPrivilege (tokens_of (words_of p) ++ o) p o
+
+-- right = privilege | name
+pub data IsRight : List Kind → Right → List Kind → Type 0 where
+  system : {i o : List Kind} {p : Privilege} → IsPrivilege i p o → IsRight i (kind.Privilege p) o
+  role : {i o : List Kind} {n : List ℕ} → Name i n o → IsRight i (kind.Role n) o
+
+-- oright = SELECT | INSERT | UPDATE | DELETE | ALL [PRIVILEGES]
+pub data IsObjectRight : List Kind → ObjectRight → List Kind → Type 0 where
+  select : {o : List Kind} → IsObjectRight (Word (codes "SELECT") ∷ o) on.Select o
+  insert : {o : List Kind} → IsObjectRight (Word (codes "INSERT") ∷ o) on.Insert o
+  update : {o : List Kind} → IsObjectRight (Word (codes "UPDATE") ∷ o) on.Update o
+  delete : {o : List Kind} → IsObjectRight (Word (codes "DELETE") ∷ o) on.Delete o
+  all : {i o : List Kind} → Maybe (Word (codes "PRIVILEGES")) i o → IsObjectRight (Word (codes "ALL") ∷ i) on.All o
