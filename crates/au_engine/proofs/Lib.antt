@@ -1,4 +1,15 @@
+pub mod Apart
+pub mod Beginnings
+pub mod Events
+pub mod Following
 pub mod Histories
+pub mod Imaged
 pub mod Readings
+pub mod Replays
+pub mod Results
+pub mod Returns
 pub mod Rights
+pub mod Rising
 pub mod Stages
+pub mod Stepping
+pub mod Written

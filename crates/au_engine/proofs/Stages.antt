@@ -67,9 +67,9 @@ decided_changes grants policies enabled user NoauditAll decision d = policy_chan
 
 -- the state after a prepared step with these changes and this record
 pub concluded-is : (m : State) (session : Session) (stamp : ℕ) (changes : List Change) (entry : Option Record) (reply : Reply) (statements entries : ℕ)
-    (enabled : Option (List (List ℕ × Enabled))) (last : Stamp) → ChangeEnablements changes → unwrap_or enabled m.kept.enabled ≡ enabled_after changes m.kept.enabled
+    (framed : Option (List ℕ)) (enabled : Option (List (List ℕ × Enabled))) (last : Stamp) → ChangeEnablements changes → unwrap_or enabled m.kept.enabled ≡ enabled_after changes m.kept.enabled
     → statements ≡ counted session.statements → entries ≡ with_more session.entries (length (option_to_list entry))
     → last ≡ last_after m.kept.last stamp changes (option_to_list entry)
-    → after (record { reply = reply; sessions = Counts session.client statements entries; enabled = enabled; entry = entry; last = last }) m
+    → after (record { reply = reply; sessions = Counts session.client statements entries; changes = changes; enabled = enabled; entry = entry; last = last; framed = framed }) m
     ≡ concluded m session stamp changes (option_to_list entry)
-concluded-is m session stamp changes entry reply statements entries enabled last only e s n l = rw (e, s, n, l, staged changes m.kept only) refl
+concluded-is m session stamp changes entry reply statements entries framed enabled last only e s n l = rw (e, s, n, l, staged changes m.kept only) refl

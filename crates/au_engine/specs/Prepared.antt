@@ -7,8 +7,13 @@ use Rattle.au_engine.specs.declared.prepared.Prepared.{Prepared}
 use Rattle.au_engine.specs.declared.prepared.SessionChange.{SessionChange}
 use Rattle.au_engine.specs.declared.prepared.SessionChange.TheVariants.{Nothing, Begins, Counts}
 use Rattle.au_engine.specs.declared.session.Session.{Session}
+use Rattle.au_engine.specs.Lawful.{IsLawfulState}
 use Rattle.au_engine.specs.State.{State, Reserved}
-use Rattle.au_engine.specs.Step.{with_counts}
+use Rattle.au_engine.specs.Step.{Logged, with_counts}
+
+-- what the step leaves to be kept
+abbrev pub logged_of : Prepared → Logged
+logged_of prepared = record { changes = prepared.changes; records = option_to_list prepared.entry }
 
 -- what becomes of the sessions
 abbrev pub sessions_after : SessionChange → List Session → List Session
@@ -33,7 +38,8 @@ after prepared m = record m {
   drawn = drawn_after prepared.sessions m.drawn;
 }
 
--- the engine has room for what the step adds, and a number for a session that begins
+-- the engine has room for what the step adds and a number for a session that begins, and what it makes is lawful
 pub record Fits (prepared : Prepared) (engine : Reserved) : Type 0 where
   pub room : 0 < engine.room
   pub drawn : drawn_after prepared.sessions engine.state.drawn ≤ INSTANCE_SESSIONS
+  pub lawful : IsLawfulState (after prepared engine.state)

@@ -1,7 +1,14 @@
 -- The whole state, and the stamps of its events.
 use Rattle.std.specs.Prelude.{◌≡◌, ℕ, ◌+◌, min, max, Bool, List, []}
 use Rattle.au_base.specs.declared.calendar.TheConstants.{LAST_MOMENT}
+use Rattle.au_base.specs.declared.cell.Cell.{Cell}
+use Rattle.au_base.specs.declared.numbers.RowNo.{RowNo}
+use Rattle.au_base.specs.declared.numbers.Stamp.{Stamp}
+use Rattle.au_base.specs.declared.table.TableName.{TableName}
+use Rattle.au_catalog.specs.declared.catalog.Catalog.{Catalog}
 use Rattle.au_catalog.specs.declared.kept.Kept.{Kept}
+use Rattle.au_catalog.specs.declared.trail_record.Record.{Record}
+use Rattle.au_priv.specs.declared.grants.Grants.{Grants}
 use Rattle.au_engine.specs.declared.session.Session.{Session}
 
 -- what outlives the instance, the sessions, how many sessions the instance has drawn, and the results that are kept of
@@ -11,6 +18,27 @@ pub record State : Type 0 where
   pub sessions : List Session
   pub drawn : ℕ
   pub results : List (List ℕ × Bool)
+
+-- a committed row: its table, its number and its cells
+abbrev pub Row : Type 0
+Row = TableName × RowNo × List Cell
+
+-- what is kept, from its parts
+abbrev pub kept_of : Catalog → Grants → List Row → List Record → Stamp → ℕ → Kept
+kept_of catalog grants rows trail last instance = record {
+  users = catalog.users;
+  roles = catalog.roles;
+  grants = grants;
+  tables = catalog.tables;
+  rows = rows;
+  policies = catalog.policies;
+  enabled = catalog.enabled;
+  fga = catalog.fga;
+  trail = trail;
+  archive = catalog.archive;
+  last = last;
+  instance = instance;
+}
 
 -- a state, and for how many more records and sessions its engine has room
 pub record Reserved : Type 0 where
@@ -37,3 +65,7 @@ start kept reading = record {
   drawn = 0;
   results = [];
 }
+
+-- a state in which this is kept and no instance runs: it has no sessions and no results
+abbrev pub resting : Kept → State
+resting kept = record { kept = kept; sessions = []; drawn = 0; results = [] }

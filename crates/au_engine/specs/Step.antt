@@ -29,6 +29,14 @@ use Rattle.au_engine.specs.Forms.{action_of, tables_of, object_of}
 use Rattle.au_engine.specs.Reading.{Reads, IsUnread}
 use Rattle.au_engine.specs.State.{State, stamp_of}
 
+-- what a step leaves to be kept: its changes in the order in which they happen, and its records
+pub record Logged : Type 0 where
+  pub changes : List Change
+  pub records : List Record
+
+abbrev pub nothing_logged : Logged
+nothing_logged = record { changes = []; records = [] }
+
 -- the client's session, where it has one
 abbrev pub session_of : List Session → ClientNo → Option Session
 session_of sessions client = find (λ session. session.client.0 == client.0) sessions
@@ -98,34 +106,41 @@ abbrev pub after_statement : State → Session → ℕ → BuiltForm → List �
 after_statement m session stamp form text decision =
     concluded m session stamp decision.changes (statement_records m.kept session stamp form text decision)
 
+-- what a statement that was decided so leaves to be kept
+abbrev pub statement_logged : State → Session → ℕ → BuiltForm → List ℕ → Decision → Logged
+statement_logged m session stamp form text decision =
+    record { changes = decision.changes; records = statement_records m.kept session stamp form text decision }
+
 -- a statement that was read: decision, reply and records are taken in the state before it
-pub record StatementStep (m : State) (session : Session) (form : BuiltForm) (text : List ℕ) (stamp : ℕ) (reply : Reply) (n : State) : Type 0 where
+pub record StatementStep (m : State) (session : Session) (form : BuiltForm) (text : List ℕ) (stamp : ℕ) (reply : Reply) (logged : Logged) (n : State) : Type 0 where
   pub decision : Decision
   pub decides : Decides m.kept.grants m.kept.policies m.kept.enabled session.user form decision
   pub replies : reply ≡ reply_of (length m.kept.trail) form decision.code
+  pub logs : logged ≡ statement_logged m session stamp form text decision
   pub next : n ≡ after_statement m session stamp form text decision
 
 -- a text that is read, as its one statement
-pub record ReadStep (m : State) (session : Session) (text : List ℕ) (stamp : ℕ) (reply : Reply) (n : State) : Type 0 where
+pub record ReadStep (m : State) (session : Session) (text : List ℕ) (stamp : ℕ) (reply : Reply) (logged : Logged) (n : State) : Type 0 where
   pub form : BuiltForm
   pub reads : Reads text form
-  pub step : StatementStep m session form text stamp reply n
+  pub step : StatementStep m session form text stamp reply logged n
 
 -- a text that isn't read: its code is the reply, and nothing is changed or recorded
-pub record UnreadStep (m : State) (text : List ℕ) (reply : Reply) (n : State) : Type 0 where
+pub record UnreadStep (m : State) (text : List ℕ) (reply : Reply) (logged : Logged) (n : State) : Type 0 where
   pub code : Code
   pub unread : IsUnread text code
   pub replies : reply ≡ code_reply code
+  pub logs : logged ≡ nothing_logged
   pub same : n ≡ m
 
 -- a text of a client that has a session
-abbrev pub SessionStep : State → Session → List ℕ → ℕ → Reply → State → Type 0
-SessionStep m session text stamp reply n = ReadStep m session text stamp reply n ⊎ UnreadStep m text reply n
+abbrev pub SessionStep : State → Session → List ℕ → ℕ → Reply → Logged → State → Type 0
+SessionStep m session text stamp reply logged n = ReadStep m session text stamp reply logged n ⊎ UnreadStep m text reply logged n
 
 -- a text of a client: without a session it is refused, and nothing is changed or recorded
-abbrev pub SqlStep : State → ClientNo → List ℕ → ℕ → Reply → State → Type 0
-SqlStep m client text stamp reply n =
-    MatchOption (session_of m.sessions client) ((reply ≡ code_reply NOT_LOGGED_ON) × (n ≡ m)) (λ session. SessionStep m session text stamp reply n)
+abbrev pub SqlStep : State → ClientNo → List ℕ → ℕ → Reply → Logged → State → Type 0
+SqlStep m client text stamp reply logged n =
+    MatchOption (session_of m.sessions client) ((reply ≡ code_reply NOT_LOGGED_ON) × (logged ≡ nothing_logged) × (n ≡ m)) (λ session. SessionStep m session text stamp reply logged n)
 
 -- as many sessions are open as can be, or the instance has drawn its last one
 abbrev pub is_crowded : State → Bool
@@ -180,15 +195,29 @@ after_local m client stamp =
     if is_some (session_of m.sessions client) then m
     else (if is_crowded m then after_refused_logon m sys TOO_MANY_SESSIONS stamp else after_logon m client sys stamp)
 
-abbrev pub LocalStep : State → ClientNo → ℕ → Reply → State → Type 0
-LocalStep m client stamp reply n = (reply ≡ local_reply m client) × (n ≡ after_local m client stamp)
+-- a logon changes nothing, and leaves its record
+abbrev pub recorded : List Record → Logged
+recorded records = record { changes = []; records = records }
 
--- The client's ask at this stamp is given the reply, and the state goes from m to n. Logon and logoff are not built yet.
+abbrev pub local_logged : State → ClientNo → ℕ → Logged
+local_logged m client stamp =
+    if is_some (session_of m.sessions client) then nothing_logged
+    else (if is_crowded m then recorded (logon_records m.kept sys TOO_MANY_SESSIONS no_session stamp) else recorded (logon_records m.kept sys DONE (next_number m) stamp))
+
+abbrev pub LocalStep : State → ClientNo → ℕ → Reply → Logged → State → Type 0
+LocalStep m client stamp reply logged n = (reply ≡ local_reply m client) × (logged ≡ local_logged m client stamp) × (n ≡ after_local m client stamp)
+
+-- The client's ask at this stamp is given the reply and leaves this to be kept, and the state goes from m to n. Logon and
+-- logoff are not built yet.
+abbrev pub LoggedStep : State → ClientNo → Ask → ℕ → Reply → Logged → State → Type 0
+LoggedStep m client Local stamp reply logged n = LocalStep m client stamp reply logged n
+LoggedStep m client (Sql text) stamp reply logged n = SqlStep m client text stamp reply logged n
+LoggedStep m client (Logon user password) stamp reply logged n = ⊥
+LoggedStep m client Logoff stamp reply logged n = ⊥
+
+-- the client's ask at this stamp is given the reply, and the state goes from m to n
 abbrev pub StepAt : State → ClientNo → Ask → ℕ → Reply → State → Type 0
-StepAt m client Local stamp reply n = LocalStep m client stamp reply n
-StepAt m client (Sql text) stamp reply n = SqlStep m client text stamp reply n
-StepAt m client (Logon user password) stamp reply n = ⊥
-StepAt m client Logoff stamp reply n = ⊥
+StepAt m client ask stamp reply n = (logged : Logged) × LoggedStep m client ask stamp reply logged n
 
 -- the asks that are built
 abbrev pub IsAsked : Ask → Type 0

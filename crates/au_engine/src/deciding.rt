@@ -165,7 +165,8 @@ fn audit_right(
     Ok(None)
 }
 
-fn has_policy(policies: &[AuditPolicy], name: &Name) -> bool
+/// Whether a policy of this name is there.
+pub fn has_policy(policies: &[AuditPolicy], name: &Name) -> bool
     ensures { result ≡ has_policy policies.now name.now }
 {
     policies.iter().any(|policy| policy.name == *name)

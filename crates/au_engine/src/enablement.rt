@@ -65,7 +65,8 @@ fn after_change(
     }
 }
 
-fn with_enablement(
+/// The enablements with this one of the policy.
+pub fn with_enablement(
     alloc: Global,
     enabled: &[(Name, Enabled)],
     policy: &Name,

@@ -1,23 +1,35 @@
 //! The engine: the whole state, and its steps.
-ghost use Rattle.std.specs.Prelude.{◌≡◌, ◌≤◌, ◌<◌, codes, IfOk, OnOk, option_to_list};
+ghost use Rattle.std.specs.Prelude.{◌≡◌, ◌↔◌, ◌≤◌, ◌<◌, [], codes, IfOk, IsTrue, MatchOption, OnErr, OnOk, if◌then◌else◌, option_to_list};
 ghost use Rattle.au_base.specs.declared.limits.TheConstants.{INSTANCES, INSTANCE_SESSIONS};
+ghost use Rattle.au_catalog.specs.Changing.{changed_all};
+ghost use Rattle.rec_codec.specs.Frames.{IsSpellable, body, framed};
 ghost use Rattle.au_engine.specs.Answering.{code_reply};
+ghost use Rattle.au_engine.specs.Drafting.{drafted};
+ghost use Rattle.au_engine.specs.Framing.{Writes};
+ghost use Rattle.au_engine.specs.Image.{image_of, nothing};
+ghost use Rattle.au_engine.specs.Lawful.{IsLawful, IsLawfulState};
 ghost use Rattle.au_engine.specs.Opening.{opening};
-ghost use Rattle.au_engine.specs.Prepared.{Fits, after, drawn_after};
+ghost use Rattle.au_engine.specs.Prepared.{Fits, after, drawn_after, logged_of};
+ghost use Rattle.au_engine.specs.Replaying.{EndsWell, IsReplayable, PartsGoOn, after_frame, kept_with, with_records};
+ghost use Rattle.au_engine.specs.Returning.{start_frame};
 ghost use Rattle.au_engine.specs.Staging.{ChangeEnablements};
-ghost use Rattle.au_engine.specs.State.{IsStampOf, stamp_of, start};
-ghost use Rattle.au_engine.specs.Step.{IsAsked, LocalStep, SessionStep, SqlStep, StatementStep, StepAt, after_logon, after_refused_logon, concluded, next_number};
+ghost use Rattle.au_engine.specs.State.{IsStampOf, resting, stamp_of, start};
+ghost use Rattle.au_engine.specs.Step.{IsAsked, LocalStep, LoggedStep, SessionStep, SqlStep, StatementStep, StepAt, after_logon, after_refused_logon, concluded, logon_records, next_number, no_session, nothing_logged, recorded, unread_condition};
 
 use crate::answer::{code_reply, reply};
 use crate::auditing::record_for;
 use crate::deciding::decide;
 use crate::decision::Decision;
+use crate::draft::{Draft, draft_of};
 use crate::enablement::{enabled_after, put_enabled};
 use crate::facts::{logon_facts, logon_place, statement_facts, statement_place};
 use crate::form::BuiltForm;
-use crate::opening_state::opening;
+use crate::framing::{asks_are_text, with_frame};
+use crate::imaging::image;
+use crate::opening_state::{kept_nothing, opening};
 use crate::prepared::{Prepared, SessionChange};
 use crate::reading::read;
+use crate::replaying::{ended, ends_well, follow};
 use crate::session::Session;
 use crate::sessions::{counted, drawn_after, entries_after, session_of, settle};
 use crate::trail::{last_after, push_entry};
@@ -29,6 +41,7 @@ use au_base::{
 };
 use au_catalog::{Catalog, Change, Kept, Record};
 use au_priv::Grants;
+use rec_codec::Frame;
 use std::alloc::Global;
 use std::marker::Model;
 
@@ -58,7 +71,9 @@ impl Model for Engine {
     ghost use Rattle.au_base.specs.declared.limits.TheConstants.{INSTANCE_SESSIONS};
     ghost use Rattle.std.specs.Coded.{codes as value_codes};
     ghost use Rattle.sql_ast.specs.contracts.expression.Expr as expression;
-    ghost use Rattle.au_engine.specs.State.{Reserved};
+    ghost use Rattle.au_engine.specs.Image.{image_of, nothing};
+    ghost use Rattle.au_engine.specs.Lawful.{IsLawfulState};
+    ghost use Rattle.au_engine.specs.State.{Reserved, kept_of};
 
     ghost Value = { Reserved };
 
@@ -66,20 +81,7 @@ impl Model for Engine {
 
     ghost view = { λ e. record {
       state = record {
-        kept = record {
-          users = e.catalog.users;
-          roles = e.catalog.roles;
-          grants = e.grants;
-          tables = e.catalog.tables;
-          rows = e.rows;
-          policies = e.catalog.policies;
-          enabled = e.catalog.enabled;
-          fga = e.catalog.fga;
-          trail = e.trail.items;
-          archive = e.catalog.archive;
-          last = e.last;
-          instance = e.instance;
-        };
+        kept = kept_of e.catalog e.grants e.rows e.trail.items e.last e.instance;
         sessions = e.sessions.items;
         drawn = e.drawn;
         results = e.results;
@@ -87,7 +89,7 @@ impl Model for Engine {
       room = e.room;
     } };
 
-    ghost invariant = { λ e. (vec_len e.trail + e.room ≤ vec_capacity e.trail) × (vec_len e.sessions + e.room ≤ vec_capacity e.sessions) × (e.drawn ≤ INSTANCE_SESSIONS) };
+    ghost invariant = { λ e. (vec_len e.trail + e.room ≤ vec_capacity e.trail) × (vec_len e.sessions + e.room ≤ vec_capacity e.sessions) × (e.drawn ≤ INSTANCE_SESSIONS) × IsLawfulState (record { kept = kept_of e.catalog e.grants e.rows e.trail.items e.last e.instance; sessions = e.sessions.items; drawn = e.drawn; results = e.results }) };
 }
 
 impl Engine {
@@ -100,6 +102,21 @@ impl Engine {
         Ok(Engine::begin(alloc, kept, reading))
     }
 
+    /// An engine that keeps nothing, on which the frames of a journal are replayed.
+    pub fn blank(alloc: Global) -> Engine
+        ensures { result.state ≡ resting nothing }
+    {
+        Engine::keeping(alloc, kept_nothing(alloc))
+    }
+
+    /// An engine of what a new store keeps, whose SYS has this password. No instance has begun.
+    pub fn of_new_store(alloc: Global, password: &[u8]) -> Result<Engine, Memory>
+        ensures { IfOk result (λ engine. engine.state ≡ resting (opening password.now)) }
+    {
+        let kept = opening(alloc, password)?;
+        Ok(Engine::keeping(alloc, kept))
+    }
+
     /// The stamp of an event at this reading of the clock: the larger of the reading and the last
     /// stamp. A reading past the last moment counts as that.
     pub fn stamp(&self, reading: u64) -> Stamp
@@ -108,11 +125,74 @@ impl Engine {
         Stamp(reading.min(LAST_MOMENT).max(self.last.0))
     }
 
+    /// The number of the instance.
+    pub fn instance(&self) -> u32
+        ensures { result ≡ self.now.state.kept.instance }
+    {
+        self.instance
+    }
+
     /// The records of the trail, oldest first.
     pub fn trail(&self) -> &[Record]
         ensures { result.now ≡ self.now.state.kept.trail }
     {
         &self.trail
+    }
+
+    /// The framed image of what is kept: the body's length in eight bytes, the body, and a closed
+    /// gate. What has more changes or records than an image can count, 4,294,967,295, answers
+    /// `Memory`.
+    pub fn image(&self, alloc: Global) -> Result<Vec<u8>, Memory>
+        ensures bytes { IfOk result (λ bytes. bytes.items ≡ framed (image_of self.now.state.kept)) }
+        ensures spellable { IfOk result (λ bytes. IsSpellable (image_of self.now.state.kept)) }
+    {
+        let last = self.last;
+        image(
+            alloc,
+            &self.catalog,
+            &self.grants,
+            &self.trail,
+            last,
+            self.instance,
+        )
+    }
+
+    /// Replays a frame: `true` exactly where it goes on from what is kept, which is then what it
+    /// makes of it. Where it doesn't, all stays as it was.
+    pub fn replay(&mut self, alloc: Global, frame: Frame) -> Result<bool, Memory>
+        requires { IsSpellable frame }
+        ensures rule { IfOk result (λ done. IsTrue done ↔ IsReplayable self.old.state.kept frame) }
+        ensures state { IfOk result (λ done. self.new.state ≡ (if done then record self.old.state { kept = after_frame self.old.state.kept frame } else self.old.state)) }
+        ensures err { OnErr result (self.new.state ≡ self.old.state) }
+    {
+        match frame {
+            Frame::Image {
+                last,
+                changes,
+                records,
+            } => self.follow(alloc, true, last, changes, records),
+            Frame::Event {
+                stamp,
+                changes,
+                records,
+            } => self.follow(alloc, false, stamp, changes, records),
+        }
+    }
+
+    /// The event with which the next instance begins, at this reading of the clock.
+    pub fn start_frame(&self, alloc: Global, reading: u64) -> Result<Frame, Memory>
+        requires { self.now.state.kept.instance < INSTANCES }
+        ensures frame { IfOk result (λ frame. frame ≡ start_frame self.now.state.kept reading) }
+        ensures spellable { IsSpellable (start_frame self.now.state.kept reading) }
+    {
+        self.can_start(reading);
+        let mut changes = List::new(alloc);
+        changes.push(Change::Start(self.instance + 1))?;
+        Ok(Frame::Event {
+            stamp: self.stamp(reading),
+            changes,
+            records: List::new(alloc),
+        })
     }
 
     /// Works out the step of a client's ask at this stamp, and leaves the state as it is.
@@ -126,11 +206,13 @@ impl Engine {
         requires asked { IsAsked ask.now }
         requires stamp { IsStampOf self.old.state stamp.0 }
         ensures step { IfOk result (λ prepared. StepAt self.old.state client ask.now stamp.0 prepared.reply (after prepared self.old.state)) }
+        ensures writes { IfOk result (λ prepared. Writes self.old.state client ask.now stamp.0 (after prepared self.old.state) prepared.framed) }
         ensures keeps { self.new.state ≡ self.old.state }
         ensures fits { IfOk result (λ prepared. Fits prepared self.new) }
     {
         self.reserve()?;
         let prepared = self.step(alloc, client, ask, stamp)?;
+        let prepared = self.framed(alloc, client, ask, stamp, prepared)?;
         Ok(prepared)
     }
 
@@ -143,9 +225,11 @@ impl Engine {
         let Prepared {
             reply,
             sessions,
+            changes: _,
             enabled,
             entry,
             last,
+            framed: _,
         } = prepared;
         self.room -= 1;
         self.last = last;
@@ -156,10 +240,10 @@ impl Engine {
         reply
     }
 
-    // The next instance over what is kept.
-    fn begin(alloc: Global, kept: Kept, reading: u64) -> Engine
-        requires { kept.instance < INSTANCES }
-        ensures { result.state ≡ start kept reading }
+    // No instance runs, and this is kept.
+    fn keeping(alloc: Global, kept: Kept) -> Engine
+        requires { IsLawful kept }
+        ensures { result.state ≡ resting kept }
     {
         let Kept {
             users,
@@ -189,13 +273,31 @@ impl Engine {
             grants,
             rows,
             trail: trail.into_vec(),
-            last: Stamp(reading.min(LAST_MOMENT).max(last.0)),
-            instance: instance + 1,
+            last,
+            instance,
             sessions: Vec::new(alloc),
             drawn: 0,
             results: List::new(alloc),
             room: 0,
         }
+    }
+
+    // The next instance over what is kept.
+    fn begin(alloc: Global, kept: Kept, reading: u64) -> Engine
+        requires lawful { IsLawful kept }
+        requires instance { kept.instance < INSTANCES }
+        ensures { result.state ≡ start kept reading }
+    {
+        let last = Stamp(reading.min(LAST_MOMENT).max(kept.last.0));
+        let instance = kept.instance + 1;
+        Engine::keeping(
+            alloc,
+            Kept {
+                last,
+                instance,
+                ..kept
+            },
+        )
     }
 
     // Makes room for a record and a session.
@@ -209,6 +311,151 @@ impl Engine {
         Ok(())
     }
 
+    // Replays a frame with these parts, of an image or of an event.
+    fn follow(
+        &mut self,
+        alloc: Global,
+        image: bool,
+        stamp: Stamp,
+        changes: List<Change>,
+        records: List<Record>,
+    ) -> Result<bool, Memory>
+        requires { body.IsSpellable (stamp, (changes, records)) }
+        ensures rule { IfOk result (λ done. IsTrue done ↔ PartsGoOn image self.old.state.kept stamp changes) }
+        ensures state { IfOk result (λ done. self.new.state ≡ (if done then record self.old.state { kept = kept_with self.old.state.kept stamp changes records } else self.old.state)) }
+        ensures err { OnErr result (self.new.state ≡ self.old.state) }
+    {
+        if changes.is_empty() {
+            let done = self.extend(stamp, records)?;
+            return Ok(done);
+        }
+        match self.draft(alloc, image, stamp, changes.as_slice())? {
+            None => Ok(false),
+            Some(draft) => {
+                self.take(stamp, draft, records)?;
+                Ok(true)
+            }
+        }
+    }
+
+    // The event with which the next instance begins can be written.
+    fn can_start(&self, reading: u64)
+        requires { self.now.state.kept.instance < INSTANCES }
+        ensures { IsSpellable (start_frame self.now.state.kept reading) }
+    {
+        self.lawful();
+    }
+
+    // Replays a frame with this stamp and these records and no changes.
+    fn extend(&mut self, stamp: Stamp, records: List<Record>) -> Result<bool, Memory>
+        requires { body.IsSpellable (stamp, ([], records)) }
+        ensures rule { IfOk result (λ done. IsTrue done ↔ ((self.old.state.kept.last.0 ≤ stamp.0) × EndsWell self.old.state.kept)) }
+        ensures state { IfOk result (λ done. self.new.state ≡ (if done then record self.old.state { kept = with_records self.old.state.kept stamp records } else self.old.state)) }
+        ensures err { OnErr result (self.new.state ≡ self.old.state) }
+    {
+        if !self.goes_on_at(stamp) {
+            return Ok(false);
+        }
+        self.append(stamp, records)?;
+        Ok(true)
+    }
+
+    // Whether a frame with this stamp and no changes goes on from what is kept.
+    fn goes_on_at(&self, stamp: Stamp) -> bool
+        ensures goes { IsTrue result ↔ ((self.now.state.kept.last.0 ≤ stamp.0) × EndsWell self.now.state.kept) }
+        ensures lawful { IsLawful self.now.state.kept }
+    {
+        self.last.0 <= stamp.0 && ends_well(&self.catalog, &self.grants)
+    }
+
+    // Takes the records at the trail's end, and this as the last stamp.
+    fn append(&mut self, stamp: Stamp, records: List<Record>) -> Result<(), Memory>
+        requires { IsLawful (with_records self.old.state.kept stamp records) }
+        ensures ok { OnOk result (self.new.state ≡ record self.old.state { kept = with_records self.old.state.kept stamp records }) }
+        ensures err { OnErr result (self.new.state ≡ self.old.state) }
+    {
+        let mut records = records.into_vec();
+        self.trail.append(&mut records)?;
+        self.room = 0;
+        self.last = stamp;
+        Ok(())
+    }
+
+    // The draft after the changes, where a frame with this stamp and them goes on from what is kept.
+    fn draft(
+        &self,
+        alloc: Global,
+        image: bool,
+        stamp: Stamp,
+        changes: &[Change],
+    ) -> Result<Option<Draft>, Memory>
+        ensures made { IfOk result (λ found. MatchOption found (¬ PartsGoOn image self.now.state.kept stamp changes.now) (λ draft. PartsGoOn image self.now.state.kept stamp changes.now × (drafted draft self.now.state.kept ≡ changed_all unread_condition changes.now self.now.state.kept))) }
+        ensures lawful { IsLawful self.now.state.kept }
+    {
+        if stamp.0 < self.last.0 {
+            return Ok(None);
+        }
+        let draft = draft_of(alloc, &self.catalog, &self.grants, self.instance)?;
+        let found = follow(alloc, image, draft, changes)?;
+        Ok(ended(found))
+    }
+
+    // Takes what was drafted, with the records at the trail's end, as what is kept from this stamp on.
+    fn take(&mut self, stamp: Stamp, draft: Draft, records: List<Record>) -> Result<(), Memory>
+        requires { IsLawful (with_records (drafted draft self.old.state.kept) stamp records) }
+        ensures ok { OnOk result (self.new.state ≡ record self.old.state { kept = with_records (drafted draft self.old.state.kept) stamp records }) }
+        ensures err { OnErr result (self.new.state ≡ self.old.state) }
+    {
+        let mut records = records.into_vec();
+        self.trail.append(&mut records)?;
+        let Draft {
+            users,
+            roles,
+            grants,
+            policies,
+            enabled,
+            instance,
+        } = draft;
+        self.room = 0;
+        self.last = stamp;
+        self.instance = instance;
+        self.grants = grants;
+        self.catalog.users = users;
+        self.catalog.roles = roles;
+        self.catalog.policies = policies;
+        self.catalog.enabled = enabled;
+        Ok(())
+    }
+
+    /// What is kept is lawful, and so is each session. It does nothing, and states the law for its
+    /// callers.
+    pub fn lawful(&self)
+        ensures { IsLawfulState self.now.state }
+    {
+        let _ = &self.room;
+    }
+
+    // The prepared step with the framed bytes of what it writes.
+    fn framed(
+        &self,
+        alloc: Global,
+        client: ClientNo,
+        ask: &Ask,
+        stamp: Stamp,
+        prepared: Prepared,
+    ) -> Result<Prepared, Memory>
+        requires stamp { IsStampOf self.now.state stamp.0 }
+        requires step { LoggedStep self.now.state client ask.now stamp.0 prepared.reply (logged_of prepared) (after prepared self.now.state) }
+        ensures made { IfOk result (λ made. made ≡ record prepared { framed = made.framed }) }
+        ensures writes { IfOk result (λ made. Writes self.now.state client ask.now stamp.0 (after made self.now.state) made.framed) }
+        ensures lawful { IfOk result (λ made. IsLawfulState (after made self.now.state)) }
+    {
+        self.lawful();
+        asks_are_text(ask);
+        let made = with_frame(alloc, stamp, prepared)?;
+        Ok(made)
+    }
+
     fn step(
         &self,
         alloc: Global,
@@ -217,7 +464,7 @@ impl Engine {
         stamp: Stamp,
     ) -> Result<Prepared, Memory>
         requires { IsAsked ask.now }
-        ensures step { IfOk result (λ prepared. StepAt self.now.state client ask.now stamp.0 prepared.reply (after prepared self.now.state)) }
+        ensures step { IfOk result (λ prepared. LoggedStep self.now.state client ask.now stamp.0 prepared.reply (logged_of prepared) (after prepared self.now.state)) }
         ensures drawn { IfOk result (λ prepared. drawn_after prepared.sessions self.now.state.drawn ≤ INSTANCE_SESSIONS) }
     {
         match ask {
@@ -229,11 +476,11 @@ impl Engine {
 
     // A logon of SYS without a password.
     fn local(&self, alloc: Global, client: ClientNo, stamp: Stamp) -> Result<Prepared, Memory>
-        ensures step { IfOk result (λ prepared. LocalStep self.now.state client stamp.0 prepared.reply (after prepared self.now.state)) }
+        ensures step { IfOk result (λ prepared. LocalStep self.now.state client stamp.0 prepared.reply (logged_of prepared) (after prepared self.now.state)) }
         ensures drawn { IfOk result (λ prepared. drawn_after prepared.sessions self.now.state.drawn ≤ INSTANCE_SESSIONS) }
     {
         if session_of(&self.sessions, client).is_some() {
-            return Ok(self.unchanged(code_reply(alloc, Code::SESSION_PRESENT)));
+            return Ok(self.unchanged(alloc, code_reply(alloc, Code::SESSION_PRESENT)));
         }
         let user = Name::from_str(alloc, SYS)?;
         if self.sessions.len() >= OPEN_SESSIONS || self.drawn >= INSTANCE_SESSIONS {
@@ -243,17 +490,20 @@ impl Engine {
     }
 
     // A step that answers this and changes nothing.
-    fn unchanged(&self, reply: Reply) -> Prepared
+    fn unchanged(&self, alloc: Global, reply: Reply) -> Prepared
         ensures reply { result.reply ≡ reply }
+        ensures logged { logged_of result ≡ nothing_logged }
         ensures same { after result self.now.state ≡ self.now.state }
         ensures drawn { drawn_after result.sessions self.now.state.drawn ≤ INSTANCE_SESSIONS }
     {
         Prepared {
             reply,
             sessions: SessionChange::Nothing,
+            changes: List::new(alloc),
             enabled: None,
             entry: None,
             last: self.last,
+            framed: None,
         }
     }
 
@@ -266,6 +516,7 @@ impl Engine {
         stamp: Stamp,
     ) -> Result<Prepared, Memory>
         ensures reply { IfOk result (λ prepared. prepared.reply ≡ code_reply code) }
+        ensures logged { IfOk result (λ prepared. logged_of prepared ≡ recorded (logon_records self.now.state.kept user code no_session stamp.0)) }
         ensures next { IfOk result (λ prepared. after prepared self.now.state ≡ after_refused_logon self.now.state user code stamp.0) }
         ensures drawn { IfOk result (λ prepared. drawn_after prepared.sessions self.now.state.drawn ≤ INSTANCE_SESSIONS) }
     {
@@ -275,9 +526,11 @@ impl Engine {
         Ok(Prepared {
             reply: code_reply(alloc, code),
             sessions: SessionChange::Nothing,
+            changes: List::new(alloc),
             enabled: None,
             last: last_after(self.last, stamp, &[], &entry),
             entry,
+            framed: None,
         })
     }
 
@@ -291,6 +544,7 @@ impl Engine {
     ) -> Result<Prepared, Memory>
         requires { self.now.state.drawn < INSTANCE_SESSIONS }
         ensures reply { IfOk result (λ prepared. prepared.reply ≡ code_reply Code.DONE) }
+        ensures logged { IfOk result (λ prepared. logged_of prepared ≡ recorded (logon_records self.now.state.kept user Code.DONE (next_number self.now.state) stamp.0)) }
         ensures next { IfOk result (λ prepared. after prepared self.now.state ≡ after_logon self.now.state client user stamp.0) }
         ensures drawn { IfOk result (λ prepared. drawn_after prepared.sessions self.now.state.drawn ≤ INSTANCE_SESSIONS) }
     {
@@ -309,9 +563,11 @@ impl Engine {
         Ok(Prepared {
             reply: code_reply(alloc, Code::DONE),
             sessions: SessionChange::Begins(session),
+            changes: List::new(alloc),
             enabled: None,
             last: last_after(self.last, stamp, &[], &entry),
             entry,
+            framed: None,
         })
     }
 
@@ -330,11 +586,11 @@ impl Engine {
         text: &Text,
         stamp: Stamp,
     ) -> Result<Prepared, Memory>
-        ensures step { IfOk result (λ prepared. SqlStep self.now.state client text.now stamp.0 prepared.reply (after prepared self.now.state)) }
+        ensures step { IfOk result (λ prepared. SqlStep self.now.state client text.now stamp.0 prepared.reply (logged_of prepared) (after prepared self.now.state)) }
         ensures drawn { IfOk result (λ prepared. drawn_after prepared.sessions self.now.state.drawn ≤ INSTANCE_SESSIONS) }
     {
         match session_of(&self.sessions, client) {
-            None => Ok(self.unchanged(code_reply(alloc, Code::NOT_LOGGED_ON))),
+            None => Ok(self.unchanged(alloc, code_reply(alloc, Code::NOT_LOGGED_ON))),
             Some(session) => self.text(alloc, session, text, stamp),
         }
     }
@@ -347,7 +603,7 @@ impl Engine {
         text: &Text,
         stamp: Stamp,
     ) -> Result<Prepared, Memory>
-        ensures step { IfOk result (λ prepared. SessionStep self.now.state session.now text.now stamp.0 prepared.reply (after prepared self.now.state)) }
+        ensures step { IfOk result (λ prepared. SessionStep self.now.state session.now text.now stamp.0 prepared.reply (logged_of prepared) (after prepared self.now.state)) }
         ensures drawn { IfOk result (λ prepared. drawn_after prepared.sessions self.now.state.drawn ≤ INSTANCE_SESSIONS) }
     {
         match read(alloc, text)? {
@@ -355,7 +611,7 @@ impl Engine {
                 let prepared = self.statement(alloc, session, form, text, stamp)?;
                 Ok(prepared)
             }
-            Err(code) => Ok(self.unchanged(code_reply(alloc, code))),
+            Err(code) => Ok(self.unchanged(alloc, code_reply(alloc, code))),
         }
     }
 
@@ -368,7 +624,7 @@ impl Engine {
         text: &Text,
         stamp: Stamp,
     ) -> Result<Prepared, Memory>
-        ensures step { IfOk result (λ prepared. StatementStep self.now.state session.now form text.now stamp.0 prepared.reply (after prepared self.now.state)) }
+        ensures step { IfOk result (λ prepared. StatementStep self.now.state session.now form text.now stamp.0 prepared.reply (logged_of prepared) (after prepared self.now.state)) }
         ensures drawn { IfOk result (λ prepared. drawn_after prepared.sessions self.now.state.drawn ≤ INSTANCE_SESSIONS) }
     {
         let decision = decide(alloc, &self.catalog, &self.grants, &session.user, form)?;
@@ -381,7 +637,7 @@ impl Engine {
         let facts = statement_facts(alloc, &session.user, form, used, code)?;
         let place = statement_place(alloc, session, form, text, stamp)?;
         let entry = record_for(alloc, &self.catalog, &self.grants, facts, place)?;
-        let prepared = self.concluded(alloc, reply, session, changes.as_slice(), entry, stamp)?;
+        let prepared = self.concluded(alloc, reply, session, changes, entry, stamp)?;
         Ok(prepared)
     }
 
@@ -391,13 +647,14 @@ impl Engine {
         alloc: Global,
         reply: Reply,
         session: &Session,
-        changes: &[Change],
+        changes: List<Change>,
         entry: Option<Record>,
         stamp: Stamp,
     ) -> Result<Prepared, Memory>
-        requires { ChangeEnablements changes.now }
+        requires { ChangeEnablements changes }
         ensures reply { IfOk result (λ prepared. prepared.reply ≡ reply) }
-        ensures next { IfOk result (λ prepared. after prepared self.now.state ≡ concluded self.now.state session.now stamp.0 changes.now (option_to_list entry)) }
+        ensures logged { IfOk result (λ prepared. logged_of prepared ≡ record { changes = changes; records = option_to_list entry }) }
+        ensures next { IfOk result (λ prepared. after prepared self.now.state ≡ concluded self.now.state session.now stamp.0 changes (option_to_list entry)) }
         ensures drawn { IfOk result (λ prepared. drawn_after prepared.sessions self.now.state.drawn ≤ INSTANCE_SESSIONS) }
     {
         Ok(Prepared {
@@ -407,9 +664,11 @@ impl Engine {
                 statements: counted(session.statements),
                 entries: entries_after(session.entries, &entry),
             },
-            enabled: enabled_after(alloc, &self.catalog.enabled, changes)?,
-            last: last_after(self.last, stamp, changes, &entry),
+            enabled: enabled_after(alloc, &self.catalog.enabled, changes.as_slice())?,
+            last: last_after(self.last, stamp, changes.as_slice(), &entry),
+            changes,
             entry,
+            framed: None,
         })
     }
 }

@@ -3,17 +3,23 @@
 
 mod answer;
 mod auditing;
+mod copies;
 mod deciding;
 mod decision;
+mod draft;
 mod enablement;
 mod engine;
 mod facts;
 mod form;
+mod frame_laws;
+mod framing;
+mod imaging;
 mod laws;
 mod opening_state;
 mod place;
 mod prepared;
 mod reading;
+mod replaying;
 mod session;
 mod sessions;
 mod trail;
@@ -21,12 +27,16 @@ mod trail;
 pub use decision::Decision;
 pub use engine::Engine;
 pub use form::BuiltForm;
-pub use laws::histories_go_on;
+pub use frame_laws::{frames_lead_on, images_come_back, starts_lead_on};
+pub use framing::asks_are_text;
+pub use laws::{histories_go_on, one_result};
 pub use opening_state::{opening, verifier};
 pub use place::Place;
 pub use prepared::{Prepared, SessionChange};
 pub use reading::{one_reading, read};
 pub use session::Session;
 
+#[cfg(test)]
+mod replay_tests;
 #[cfg(test)]
 mod tests;

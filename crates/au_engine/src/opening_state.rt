@@ -1,5 +1,6 @@
 //! What is kept in a store that nobody has used yet.
 ghost use Rattle.std.specs.Prelude.{◌≡◌, ◌++◌, ◌∷◌, [], IfOk, OnOk, map};
+ghost use Rattle.au_engine.specs.Image.{nothing};
 ghost use Rattle.au_engine.specs.Opening.{granted_to_sys, opening, opening_grants, opening_role_grants, opening_roles, opening_system, opening_users, policy_of_all, verifier};
 
 use au_base::built_in::{AUDIT_ADMIN, AUDIT_VIEWER, P_ALL, SYS};
@@ -121,4 +122,28 @@ fn policies(alloc: Global) -> Result<List<AuditPolicy>, Memory>
         when: None,
     })?;
     Ok(policies)
+}
+
+/// Nothing: what is kept before a first frame.
+pub fn kept_nothing(alloc: Global) -> Kept
+    ensures { result ≡ nothing }
+{
+    Kept {
+        users: List::new(alloc),
+        roles: List::new(alloc),
+        grants: Grants {
+            system: List::new(alloc),
+            role: List::new(alloc),
+            object: List::new(alloc),
+        },
+        tables: List::new(alloc),
+        rows: List::new(alloc),
+        policies: List::new(alloc),
+        enabled: List::new(alloc),
+        fga: List::new(alloc),
+        trail: List::new(alloc),
+        archive: None,
+        last: Stamp(0),
+        instance: 0,
+    }
 }

@@ -1,8 +1,15 @@
 //! Steps that are prepared.
 
+ghost use Rattle.std.specs.Prelude.{◌≡◌, Option, option_map};
+ghost use Rattle.std.specs.Option.{option_copied};
+ghost use Rattle.rec_codec.specs.declared.frame.Frame.{Frame};
+ghost use Rattle.rec_codec.specs.Frames.{spelled};
+ghost use Rattle.au_engine.specs.Framing.{framed_option};
+
+use crate::framing::body_in;
 use crate::session::Session;
 use au_base::{ClientNo, List, Name, Reply, Stamp};
-use au_catalog::{Enabled, Record};
+use au_catalog::{Change, Enabled, Record};
 
 /// What becomes of the sessions.
 #[derive(Debug, Drop, PartialEq, Eq)]
@@ -24,10 +31,36 @@ pub enum SessionChange {
 pub struct Prepared {
     pub reply: Reply,
     pub sessions: SessionChange,
+    /// What it changes of what is kept, in the order in which it happens.
+    pub changes: List<Change>,
     /// The enablements after the step, where it changes them.
     pub enabled: Option<List<(Name, Enabled)>>,
     /// The record that it leaves, where one is demanded.
     pub entry: Option<Record>,
     /// The last stamp after the step.
     pub last: Stamp,
+    /// The framed bytes of the event that it writes, where it leaves something to be kept.
+    pub framed: Option<List<u8>>,
+}
+
+impl Prepared {
+    /// The body of the frame that the step writes. `None` where it writes none.
+    pub fn body(&self) -> Option<&[u8]>
+        ensures { (frame : Option Frame) → self.now.framed ≡ framed_option frame → option_copied result ≡ option_map spelled frame }
+    {
+        match &self.framed {
+            None => None,
+            Some(bytes) => Some(body_in(bytes.as_slice())),
+        }
+    }
+
+    /// The same body as framed bytes: its length in eight bytes, the body, and a closed gate.
+    pub fn framed(&self) -> Option<&[u8]>
+        ensures { option_copied result ≡ self.now.framed }
+    {
+        match &self.framed {
+            None => None,
+            Some(bytes) => Some(bytes.as_slice()),
+        }
+    }
 }

@@ -2,9 +2,20 @@
 ghost use Rattle.std.specs.Prelude.{IfOk};
 ghost use Rattle.au_engine.specs.Step.{IsAsked};
 
+mod chance;
+mod compared;
+mod crowd;
+mod decisions;
+mod machine;
+mod policies;
+mod records;
+mod same;
+mod slow;
+mod worlds;
+
 use super::*;
 use au_base::built_in::SYS;
-use au_base::{Ask, ClientNo, Memory, Reply, Text};
+use au_base::{Ask, ClientNo, Code, Memory, Reply, Text};
 use std::alloc::Global;
 use std::process::Abort;
 use std::test::Fail;
@@ -67,6 +78,21 @@ fn step(
     Ok(engine.apply(prepared))
 }
 
+// One step after another, each at a reading one later.
+fn ask_each(
+    alloc: Global,
+    engine: &mut Engine,
+    asks: &[(u32, Asked)],
+    first: u64,
+) -> Result<(), Memory> {
+    let mut reading = first;
+    for (client, asked) in asks {
+        step(alloc, engine, *client, *asked, reading)?;
+        reading = reading.saturating_add(1);
+    }
+    Ok(())
+}
+
 fn ask_all(rt: &impl Abort, alloc: Global, engine: &mut Engine) -> Result<(), Memory> {
     let mut reading = 0u64;
     for (client, asked, code) in ASKS {
@@ -92,6 +118,24 @@ fn each_ask_has_its_code_and_leaves_its_records(rt: HostRuntime) -> Result<(), F
         assert_eq!(rt; entry.stamp.0, stamp);
         assert_eq!(rt; entry.policies.len(), policies, "at {stamp}");
         assert_eq!(rt; entry.code.0, code, "at {stamp}");
+    }
+    Ok(())
+}
+
+// the bytes of a text of spaces behind a statement, and whether it is read
+const LENGTHS: [(usize, Result<BuiltForm, Code>); 2] = [
+    (32_767, Ok(BuiltForm::SelectNumber(1))),
+    (32_768, Err(Code(99007))),
+];
+
+#[test]
+fn a_text_has_at_most_32767_bytes(rt: HostRuntime) -> Result<(), Fail> {
+    let alloc = rt.alloc();
+    for (length, wanted) in LENGTHS {
+        let mut bytes = b"SELECT 1 FROM DUAL".as_slice().to_vec(alloc)?;
+        bytes.resize(length, b' ')?;
+        let text = Text::make(alloc, &bytes)?.ok_or(Memory)?;
+        assert_eq!(rt; read(alloc, &text)?, wanted, "{length} bytes");
     }
     Ok(())
 }

@@ -1,0 +1,194 @@
+-- Which records can be written.
+use Rattle.std.proofs.Common.{◌≡◌, ◌≢◌, ℕ, ◌+◌, ◌≤◌, ◌<◌, ◌^◌, Bool, true, false, List, [], ◌∷◌, map, length, refl, sym, ap, subst, arith}
+use Rattle.std.specs.Prelude.{Option, Some, None, codes, IsUtf8, if◌then◌else◌}
+use Rattle.std.specs.List.{AllByRecursion, filter}
+use Rattle.std.specs.Str.{bytes_eq}
+use Rattle.std.proofs.lemmas.Bool.{le-leb, and_from}
+use Rattle.std.proofs.lemmas.Str.{IsUtf8-from_ascii}
+use Rattle.sql_lex.proofs.Digits.{word_ascii}
+use Rattle.au_base.specs.declared.action.Action.{Action}
+use Rattle.au_base.specs.declared.calendar.TheConstants.{LAST_MOMENT}
+use Rattle.au_base.specs.declared.limits.TheConstants.{CATALOG_OBJECTS}
+use Rattle.au_base.specs.declared.numbers.Stamp.{Stamp}
+use Rattle.au_base.specs.declared.numbers.SessionNo.{SessionNo}
+use Rattle.au_base.specs.Actions as actions
+use Rattle.au_base.specs.BuiltIn.{sys, dual, trail}
+use Rattle.au_base.specs.Naming.{IsName}
+use Rattle.au_catalog.specs.declared.facts.Facts.{Facts}
+use Rattle.au_catalog.specs.declared.kept.Kept.{Kept}
+use Rattle.au_catalog.specs.declared.policy.AuditPolicy.{AuditPolicy}
+use Rattle.au_catalog.specs.declared.policy.Enabled.{Enabled}
+use Rattle.au_catalog.specs.declared.trail_record.Record.{Record}
+use Rattle.au_catalog.specs.Demand.{demanded, demanding, demands, is_mandatory, placed}
+use Rattle.au_priv.specs.declared.grants.Grants.{Grants}
+use Rattle.rec_codec.specs.Changes.{IsChangeSpellable, policy}
+use Rattle.rec_codec.specs.Parts.{name, text, stamp, session, action, return_code, names, privileges_in_order}
+use Rattle.rec_codec.specs.Records as records
+use Rattle.rec_codec.specs.Records.{kind, done_action, statement_text, origin, deed, grounds, trail_record}
+use Rattle.rec_codec.specs.Spelling.{IsOptionSpellable}
+use Rattle.au_engine.specs.declared.place.Place.{Place}
+use Rattle.au_engine.specs.Auditing.{holds_always, object_name, record_of, records_naming, records_of, schema_of}
+use Rattle.au_engine.specs.Image.{policy_change}
+use Rattle.au_engine.specs.Lawful.{CanBeWritten, IsLawful, ora_mandatory, policy_names}
+use Rattle.au_engine.specs.Opening.{p_all}
+use Rattle.au_engine.proofs.Apart.{AreApart, all_kept, all_mapped, all_placed, all_unmapped, all_weaker, apart_in_order, kept_apart, length_kept, length_placed, no_repeats, placed_apart}
+
+pub sys_name : IsName sys
+sys_name = (record { some = omega arith; capped = omega arith }, IsUtf8-from_ascii sys (word_ascii sys refl))
+
+pub audsys_name : IsName trail.owner
+audsys_name = (record { some = omega arith; capped = omega arith }, IsUtf8-from_ascii trail.owner (word_ascii trail.owner refl))
+
+pub dual_name : IsName dual.name
+dual_name = (record { some = omega arith; capped = omega arith }, IsUtf8-from_ascii dual.name (word_ascii dual.name refl))
+
+pub trail_name : IsName trail.name
+trail_name = (record { some = omega arith; capped = omega arith }, IsUtf8-from_ascii trail.name (word_ascii trail.name refl))
+
+pub p_all_name : IsName p_all
+p_all_name = (record { some = omega arith; capped = omega arith }, IsUtf8-from_ascii p_all (word_ascii p_all refl))
+
+pub mandatory_name : IsName ora_mandatory
+mandatory_name = (record { some = omega arith; capped = omega arith }, IsUtf8-from_ascii ora_mandatory (word_ascii ora_mandatory refl))
+
+pub name_written : (bytes : List ℕ) → IsName bytes → name.IsSpellable bytes
+unfolding name
+name_written bytes h = (omega (arith, h.0.capped), h)
+
+pub stamp_written : (s : Stamp) → s.0 ≤ LAST_MOMENT → stamp.IsSpellable s
+unfolding stamp
+stamp_written s h = (omega arith, le-leb s.0 LAST_MOMENT h)
+
+pub session_written : (s : SessionNo) → s.0 ≤ 999_999_999_999_999_999 → session.IsSpellable s
+unfolding session
+session_written s h = (omega arith, le-leb s.0 999_999_999_999_999_999 h)
+
+-- the owner and the name of an object are names
+abbrev pub IsObject : Option (Option (List ℕ) × List ℕ) → Type 0
+IsObject None = Unit {0}
+IsObject (Some (None, object)) = IsName object
+IsObject (Some (Some owner, object)) = IsName owner × IsName object
+
+-- a statement's text has 1 to 32,767 bytes of UTF-8
+pub record IsStatementText (bytes : List ℕ) : Type 0 where
+  pub some : 1 ≤ length bytes
+  pub capped : length bytes ≤ 32_767
+  pub utf8 : IsUtf8 bytes
+
+abbrev pub IsSql : Option (List ℕ) → Type 0
+IsSql None = Unit {0}
+IsSql (Some bytes) = IsStatementText bytes
+
+-- what is known of an event whose record can be written
+pub record CanBeRecorded (facts : Facts) (place : Place) : Type 0 where
+  pub session : place.session.0 ≤ 999_999_999_999_999_999
+  pub entry : place.entry < 2 ^ 32
+  pub statement : place.statement < 2 ^ 32
+  pub stamp : place.stamp.0 ≤ LAST_MOMENT
+  pub user : IsName facts.user
+  pub action : 1 ≤ actions.code_of facts.action
+  pub object : IsObject place.object
+  pub sql : IsSql place.sql
+  pub used : privileges_in_order.IsSpellable facts.used
+  pub code : facts.code.0 < 2 ^ 32
+
+origin_written : (facts : Facts) (place : Place) (policies : List (List ℕ)) → CanBeRecorded facts place → origin.IsSpellable (records.origin_of (record_of facts place policies))
+unfolding origin kind
+origin_written facts place policies h =
+    (tt, (session_written place.session h.session, (omega (arith, h.entry), (omega (arith, h.statement), (stamp_written place.stamp h.stamp, name_written facts.user h.user)))))
+
+schema_written : (object : Option (Option (List ℕ) × List ℕ)) → IsObject object → IsOptionSpellable name (schema_of object)
+schema_written None h = tt
+schema_written (Some (None, object)) h = tt
+schema_written (Some (Some owner, object)) h = name_written owner h.0
+
+object_written : (object : Option (Option (List ℕ) × List ℕ)) → IsObject object → IsOptionSpellable name (object_name object)
+object_written None h = tt
+object_written (Some (None, object)) h = name_written object h
+object_written (Some (Some owner, object)) h = name_written object h.1
+
+sql_written : (sql : Option (List ℕ)) → IsSql sql → IsOptionSpellable statement_text sql
+unfolding statement_text text
+sql_written None h = tt
+sql_written (Some bytes) h =
+    ((omega (arith, h.capped), h.utf8), and_from _ _ (le-leb 1 (length bytes) h.some) (le-leb (length bytes) 32_767 h.capped))
+
+deed_written : (facts : Facts) (place : Place) (policies : List (List ℕ)) → CanBeRecorded facts place → deed.IsSpellable (records.deed_of (record_of facts place policies))
+unfolding deed done_action action
+deed_written facts place policies h =
+    ((tt, le-leb 1 (actions.code_of facts.action) h.action), (schema_written place.object h.object, (object_written place.object h.object, sql_written place.sql h.sql)))
+
+-- names that a record can have as its policies
+pub record AreDemanding (policies : List (List ℕ)) : Type 0 where
+  pub each : AllByRecursion IsName policies
+  pub apart : AreApart policies
+  pub few : length policies ≤ 10_001
+
+demanding_written : (policies : List (List ℕ)) → AreDemanding policies → records.demanding.IsSpellable policies
+unfolding records.demanding names
+demanding_written policies h =
+    (((omega (arith, h.few), all_weaker IsName name.IsSpellable name_written policies h.each), no_repeats policies h.apart), le-leb (length policies) 10_001 h.few)
+
+grounds_written : (facts : Facts) (place : Place) (policies : List (List ℕ)) → CanBeRecorded facts place → AreDemanding policies → grounds.IsSpellable (records.grounds_of (record_of facts place policies))
+unfolding grounds return_code
+grounds_written facts place policies h d = (h.used, (demanding_written policies d, (tt, omega (arith, h.code))))
+
+-- the record that such policies demand of such an event can be written
+record_written : (facts : Facts) (place : Place) (policies : List (List ℕ)) → CanBeRecorded facts place → AreDemanding policies → trail_record.IsSpellable (record_of facts place policies)
+unfolding trail_record
+record_written facts place policies h d = (origin_written facts place policies h, (deed_written facts place policies h, grounds_written facts place policies h d))
+
+-- the name of a policy that can be written
+policy_name : (p : AuditPolicy) → IsChangeSpellable (policy_change p) → IsName p.name
+unfolding policy name
+policy_name p h = h.0.1
+
+length_names : (policies : List AuditPolicy) → length (policy_names policies) ≡ length policies
+length_names [] = refl
+length_names (p ∷ policies) = let more = length_names policies in omega arith
+
+few_named : (policies : List AuditPolicy) (test : AuditPolicy → Bool) → length policies ≤ CATALOG_OBJECTS → length (policy_names (filter test policies)) ≤ 10_001
+few_named policies test few =
+    let one = length_names (filter test policies) in
+    let more = length_kept test policies in
+    omega arith
+
+few_placed : (policies : List AuditPolicy) (test : AuditPolicy → Bool) → length policies ≤ CATALOG_OBJECTS → length (placed ora_mandatory (policy_names (filter test policies))) ≤ 10_001
+few_placed policies test few =
+    let one = length_names (filter test policies) in
+    let more = length_kept test policies in
+    let all = length_placed ora_mandatory (policy_names (filter test policies)) in
+    omega arith
+
+naming_written : (facts : Facts) (place : Place) (policies : List (List ℕ)) → CanBeRecorded facts place → AreDemanding policies → AllByRecursion trail_record.IsSpellable (records_naming facts place policies)
+naming_written facts place [] can are = tt
+naming_written facts place (policy ∷ policies) can are = (record_written facts place (policy ∷ policies) can are, tt)
+
+-- the policies that demand a record of something, among lawful ones
+some_demanding : (kept : Kept) (test : AuditPolicy → Bool) → IsLawful kept → AreDemanding (policy_names (filter test kept.policies))
+some_demanding kept test lawful = record {
+  each = all_mapped IsName (λ (p : AuditPolicy). p.name) (filter test kept.policies) (all_kept (λ (p : AuditPolicy). IsName p.name) test kept.policies (all_weaker (λ (p : AuditPolicy). IsChangeSpellable (policy_change p)) (λ (p : AuditPolicy). IsName p.name) policy_name kept.policies lawful.policies));
+  apart = kept_apart (λ (p : AuditPolicy). p.name) test kept.policies (apart_in_order (policy_names kept.policies) lawful.ordered);
+  few = few_named kept.policies test lawful.few;
+}
+
+all_demanded_at : (kept : Kept) (test : AuditPolicy → Bool) (mandatory : Bool) → IsLawful kept
+    → AreDemanding (if mandatory then placed ora_mandatory (policy_names (filter test kept.policies)) else policy_names (filter test kept.policies))
+all_demanded_at kept test false lawful = some_demanding kept test lawful
+all_demanded_at kept test true lawful =
+    let some = some_demanding kept test lawful in
+    let names = policy_names (filter test kept.policies) in
+    let new = all_mapped (λ (n : List ℕ). n ≢ ora_mandatory) (λ (p : AuditPolicy). p.name) (filter test kept.policies)
+    (all_kept (λ (p : AuditPolicy). p.name ≢ ora_mandatory) test kept.policies (all_unmapped (λ (n : List ℕ). n ≢ ora_mandatory) (λ (p : AuditPolicy). p.name) kept.policies lawful.unreserved)) in
+    record {
+      each = all_placed IsName ora_mandatory names mandatory_name some.each;
+      apart = placed_apart ora_mandatory names some.apart new;
+      few = few_placed kept.policies test lawful.few;
+    }
+
+-- what lawful policies demand of such an event can be written
+pub records_written : (kept : Kept) (facts : Facts) (place : Place) → IsLawful kept → CanBeRecorded facts place
+    → AllByRecursion trail_record.IsSpellable (records_of kept.grants kept.policies kept.enabled facts place)
+records_written kept facts place lawful can =
+    naming_written facts place (demanded holds_always kept.grants kept.enabled kept.policies facts) can
+    (all_demanded_at kept (demands holds_always kept.grants kept.enabled facts) (is_mandatory facts.action) lawful)

@@ -1,0 +1,8 @@
+use Rattle.au_engine.proofs.Imaged.{image_leads, opening_leads}
+use Rattle.au_engine.proofs.frame_laws.images_come_back.Goals as goal
+
+pub returns-clause-kept : goal.returns-clause-kept
+returns-clause-kept c = image_leads
+
+pub returns-clause-opening : goal.returns-clause-opening
+returns-clause-opening c = opening_leads

@@ -1,0 +1,53 @@
+-- Which frame a step writes to the journal.
+use Rattle.std.specs.Prelude.{◌≡◌, ⊤, ℕ, IsUtf8, List, [], ◌∷◌, if◌then◌else◌, Option, Some, None, MatchOption, option_map}
+use Rattle.au_base.specs.declared.ask.Ask.{Ask}
+use Rattle.au_base.specs.declared.ask.Ask.TheVariants.{Sql}
+use Rattle.au_base.specs.declared.numbers.ClientNo.{ClientNo}
+use Rattle.au_base.specs.declared.reply.Reply.{Reply}
+use Rattle.au_catalog.specs.declared.change.Change.{Change}
+use Rattle.au_catalog.specs.declared.trail_record.Record.{Record}
+use Rattle.rec_codec.specs.declared.frame.Frame.{Frame}
+use Rattle.rec_codec.specs.declared.frame.Frame.TheVariants.{Image, Event}
+use Rattle.rec_codec.specs.Frames.{IsSpellable, framed}
+use Rattle.au_engine.specs.State.{State}
+use Rattle.au_engine.specs.Step.{Logged, LoggedStep, is_idle}
+
+-- the event at this stamp with the changes and the records; none where there are neither
+abbrev pub event_of : ℕ → Logged → Option Frame
+event_of stamp logged =
+    if is_idle logged.changes logged.records then None else Some (Event (record { 0 = stamp }) logged.changes logged.records)
+
+-- the step of the client's ask at this stamp, which takes the state from m to n, writes the frame, or none
+abbrev pub IsFrameOf : State → ClientNo → Ask → ℕ → State → Option Frame → Type 0
+IsFrameOf m client ask stamp n frame =
+    (reply : Reply) × (logged : Logged) × LoggedStep m client ask stamp reply logged n × (frame ≡ event_of stamp logged)
+
+-- a text that is asked is UTF-8
+abbrev pub IsText : Ask → Type 0
+IsText (Sql text) = IsUtf8 text
+IsText _ = ⊤
+
+-- the changes and the records of a frame
+abbrev pub changes_in : Frame → List Change
+changes_in (Image last changes records) = changes
+changes_in (Event stamp changes records) = changes
+
+abbrev pub records_in : Frame → List Record
+records_in (Image last changes records) = records
+records_in (Event stamp changes records) = records
+
+-- the frame, where there is one, has a body
+abbrev pub IsWritable : Option Frame → Type 0
+IsWritable None = ⊤
+IsWritable (Some frame) = IsSpellable frame
+
+-- a frame as the journal takes it, where there is one
+abbrev pub framed_option : Option Frame → Option (List ℕ)
+framed_option frame = option_map framed frame
+
+-- the bytes are the framed body of what the step writes; there are none where it writes nothing
+pub record Writes (m : State) (client : ClientNo) (ask : Ask) (stamp : ℕ) (n : State) (bytes : Option (List ℕ)) : Type 0 where
+  pub frame : Option Frame
+  pub of_step : IsFrameOf m client ask stamp n frame
+  pub writable : IsWritable frame
+  pub bytes_are : bytes ≡ framed_option frame
