@@ -1,0 +1,5 @@
+pub mod Frames
+pub mod Keeping
+pub mod Opening
+pub mod Sound
+pub mod Stepped

@@ -1,0 +1,36 @@
+-- That what is so of a store between two calls is so after each.
+use Rattle.std.proofs.Common.{◌≡◌, inl, true, false, refl, sym, ◌∙◌, ap}
+use Rattle.au_io.specs.Disk.{Meaning}
+use Rattle.au_catalog.specs.declared.kept.Kept.{Kept}
+use Rattle.au_journal.specs.declared.doubt.Doubt.TheVariants.{Settled}
+use Rattle.au_journal.specs.declared.mended.Mended.{Mended}
+use Rattle.au_journal.specs.declared.mended.Mended.TheVariants as mend
+use Rattle.au_journal.specs.declared.seat.Seat.{Seat}
+use Rattle.au_journal.specs.Seats.{mended}
+use Rattle.au_engine.specs.Replaying.{EndsWell}
+use Rattle.au_store.specs.Stored.{IsKeptOn, IsStoodOn, IsSound}
+use Rattle.au_store.proofs.Keeping.{gated_after}
+
+-- a settled journal
+pub settled_sound : (told : Type 0) (m : Meaning) (seat : Seat) (kept : Kept) → seat.ended ≡ true → seat.bare ≡ false → seat.doubt ≡ Settled → EndsWell kept
+    → (told → IsKeptOn kept m seat) → IsSound told m seat kept
+settled_sound told m seat kept ended gated settled ends is = record { ended = ended; gated = gated; ends = ends; stands = λ tells. (kept, inl (settled, is tells)) }
+
+-- after a mend
+pub mend_sound : (told : Type 0) (m n : Meaning) (old new : Seat) (kept : Kept) (answer : Mended) → IsSound told m old kept
+    → (answer ≡ mend.Done → new ≡ mended old) → (answer ≡ mend.Disk → new ≡ old)
+    → (told → answer ≡ mend.Done → IsKeptOn kept n new)
+    → (told → (doubted : Kept) → IsStoodOn kept doubted m old → answer ≡ mend.Disk → IsStoodOn kept doubted n new)
+    → IsSound told n new kept
+mend_sound told m n old new kept mend.Done sound mends rests is doubted =
+    let here = mends refl in
+    settled_sound told n new kept (ap (λ (s : Seat). s.ended) here ∙ sound.ended) (ap (λ (s : Seat). s.bare) here ∙ gated_after old.doubt old.bare sound.gated)
+    (ap (λ (s : Seat). s.doubt) here) sound.ends (λ tells. is tells refl)
+mend_sound told m n old new kept mend.Disk sound mends rests is doubted =
+    let here = rests refl in
+    record {
+      ended = ap (λ (s : Seat). s.ended) here ∙ sound.ended;
+      gated = ap (λ (s : Seat). s.bare) here ∙ sound.gated;
+      ends = sound.ends;
+      stands = λ tells. let was = sound.stands tells in (was.0, doubted tells was.0 was.1 refl);
+    }

@@ -1,0 +1,147 @@
+-- From what a prepared step makes to what a step of the store does, over plain variables.
+use Rattle.std.proofs.Common.{◌≡◌, ◌≢◌, false, ◌⊎◌, inl, inr, ⊎_elim, ℕ, ◌+◌, ◌≤◌, ◌<◌, List, length, Option, Some, None, refl, sym, ◌∙◌, ap, subst, arith}
+use Rattle.au_base.specs.declared.reply.Reply.{Reply}
+use Rattle.au_base.specs.declared.reply.Said.{Said}
+use Rattle.au_base.specs.declared.reply.Said.TheVariants as said
+use Rattle.au_catalog.specs.declared.kept.Kept.{Kept}
+use Rattle.au_engine.specs.declared.prepared.Prepared.{Prepared}
+use Rattle.au_engine.specs.Framing.{Writes, framed_option}
+use Rattle.au_engine.specs.Prepared.{after}
+use Rattle.au_engine.specs.State.{State, stamp_of}
+use Rattle.au_engine.specs.Step.{Event, Step}
+use Rattle.au_io.specs.Areas.{Areas}
+use Rattle.au_io.specs.Disk.{Meaning, Passes}
+use Rattle.au_io.specs.Moments.{LeavesSince, weaker_since, both_calls}
+use Rattle.au_journal.specs.declared.seat.Seat.{Seat}
+use Rattle.au_journal.specs.Seats.{IsFullAt, mended, needed_of}
+use Rattle.rec_codec.specs.declared.frame.Frame.{Frame}
+use Rattle.rec_codec.specs.Frames.{framed}
+use Rattle.au_store.specs.Recovery.{RecoversTo, RecoversToEither}
+use Rattle.au_store.specs.Stored.{IsKeptOn}
+use Rattle.au_store.specs.Steps.{EventWrites, Exceeds, EventCosts, IsAfter, FitsUnder, IsMoved, IsMovedTo, IsWithin, IsWritten, MakesBy, StepCosts, StepLeaves, StepMoves, StepsBy, append_cost, growth, step_cost, written_length}
+
+-- the state and the reply
+pub steps_by : (m n : State) (event : Event) (prepared : Prepared) (answer : Said) → Step m event prepared.reply (after prepared m) → MakesBy prepared m answer n → StepsBy m event answer n
+steps_by m n event prepared (said.Replied reply) step made =
+    subst (λ (r : Reply). Step m event r n) (sym made.0) (subst (λ (s : State). Step m event prepared.reply s) (sym made.1) step)
+steps_by m n event prepared said.Disk step made = made
+steps_by m n event prepared (said.Full needed limit) step made = made
+steps_by m n event prepared said.Memory step made = absurd made
+
+-- framed bytes and their frame
+fits_frame : (seat : Seat) (frame : Option Frame) → IsWithin seat (framed_option frame) → FitsUnder seat frame
+fits_frame seat None within = within
+fits_frame seat (Some f) within = within
+
+growth_frame : (frame : Option Frame) → growth (framed_option frame) ≡ written_length frame
+growth_frame None = refl
+growth_frame (Some f) = refl
+
+cost_frame : (frame : Option Frame) → append_cost (framed_option frame) + 1 ≤ step_cost frame
+cost_frame None = omega arith
+cost_frame (Some f) = omega arith
+
+exceeds_frame : (m : State) (event : Event) (n : State) (seat : Seat) (needed limit : ℕ) (bytes : List ℕ) (frame : Option Frame) → Some bytes ≡ framed_option frame
+    → EventWrites m event n frame → IsFullAt seat false (length bytes) needed limit → Exceeds m event seat needed limit
+exceeds_frame m event n seat needed limit bytes None is writes full = absurd (let none : Some bytes ≡ None = is in cc)
+exceeds_frame m event n seat needed limit bytes (Some f) is writes full =
+    let same : bytes ≡ framed f = cc in
+    record {
+      after = n;
+      frame = f;
+      writes = writes;
+      needs = full.needed_is ∙ ap (λ (b : List ℕ). needed_of seat (length b)) same;
+      bound = full.limit_is;
+      exceeds = full.exceeds;
+    }
+
+module _ (m : State) (event : Event) (prepared : Prepared) (w : Writes m event.client event.ask (stamp_of m event.reading) (after prepared m) prepared.framed) where
+  -- where the journal stands then
+  pub step_moves : (n : State) (answer : Said) (old new : Seat) → MakesBy prepared m answer n → ((reply : Reply) → answer ≡ said.Replied reply → IsWithin old prepared.framed)
+      → IsMoved answer (growth prepared.framed) old new → StepMoves m event n answer old new
+  step_moves n (said.Replied reply) old new made within moved = record {
+    frame = w.frame;
+    of_event = subst (λ (s : State). EventWrites m event s w.frame) (sym made.1) w.of_step;
+    within = fits_frame old w.frame (let P : Option (List ℕ) → Type 0 = λ x. IsWithin old x in subst P w.bytes_are (within reply refl));
+    moved = let P : ℕ → Type 0 = λ x. IsMovedTo x old new in subst P (ap growth w.bytes_are ∙ growth_frame w.frame) moved;
+  }
+  step_moves n said.Disk old new made within moved = moved
+  step_moves n (said.Full needed limit) old new made within moved = moved
+  step_moves n said.Memory old new made within moved = absurd made
+
+  -- what was written
+  pub event_costs : (before now : ℕ) → now ≤ before + 1 + append_cost prepared.framed → EventCosts m event before now
+  event_costs before now cost = (after prepared m, w.frame, w.of_step, omega (arith, cost_frame w.frame, ap append_cost w.bytes_are))
+
+  pub step_costs : (n : State) (answer : Said) (before now : ℕ) → MakesBy prepared m answer n → now ≤ before + 1 + append_cost prepared.framed
+      → ((needed limit : ℕ) → answer ≡ said.Full needed limit → now ≤ before + 1) → StepCosts m event answer before now
+  step_costs n (said.Replied reply) before now made cost full = event_costs before now cost
+  step_costs n said.Disk before now made cost full = inr (event_costs before now cost)
+  step_costs n (said.Full needed limit) before now made cost full = full needed limit refl
+  step_costs n said.Memory before now made cost full = absurd made
+
+  -- where it is too long
+  pub exceeds_by : (seat : Seat) (needed limit : ℕ) → (bytes : List ℕ) × (prepared.framed ≡ Some bytes) × IsFullAt seat false (length bytes) needed limit → Exceeds m event seat needed limit
+  exceeds_by seat needed limit full = exceeds_frame m event (after prepared m) seat needed limit full.0 w.frame (sym full.1 ∙ w.bytes_are) w.of_step full.2
+
+-- what the event would leave
+pub made_after : (m : State) (event : Event) (prepared : Prepared) → Step m event prepared.reply (after prepared m) → IsAfter m event (after prepared m).kept
+made_after m event prepared step = (after prepared m, prepared.reply, step, refl)
+
+-- at any moment of a mend, and of the append behind it
+pub mend_leaves : (m : State) (event : Event) (doubted : Kept) (old new : Meaning) → LeavesSince (RecoversToEither m.kept doubted) old new → LeavesSince (StepLeaves m event doubted) old new
+mend_leaves m event doubted old new leaves = weaker_since (RecoversToEither m.kept doubted) (StepLeaves m event doubted) old new
+    (λ c either. ⊎_elim (λ (kept : RecoversTo m.kept c). inl kept) (λ (other : RecoversTo doubted c). inr (inl other)) either) leaves
+
+pub append_leaves : (m : State) (event : Event) (doubted next : Kept) (old new : Meaning) → IsAfter m event next → LeavesSince (RecoversToEither m.kept next) old new → LeavesSince (StepLeaves m event doubted) old new
+append_leaves m event doubted next old new is leaves = weaker_since (RecoversToEither m.kept next) (StepLeaves m event doubted) old new
+    (λ c either. ⊎_elim (λ (kept : RecoversTo m.kept c). inl kept) (λ (other : RecoversTo next c). inr (inr (next, is, other))) either) leaves
+
+pub step_leaves : (m : State) (event : Event) (doubted next : Kept) (old mid new : Meaning) → Passes old mid → Passes mid new → IsAfter m event next
+    → LeavesSince (RecoversToEither m.kept doubted) old mid → LeavesSince (RecoversToEither m.kept next) mid new → LeavesSince (StepLeaves m event doubted) old new
+step_leaves m event doubted next old mid new before then is first second =
+    both_calls (StepLeaves m event doubted) old mid new before then (mend_leaves m event doubted old mid first) (append_leaves m event doubted next mid new is second)
+
+-- where a mend came first
+module _ (m n : State) (event : Event) (old mid : Seat) (is : mid ≡ mended old) where
+  pub exceeds_from : (needed limit : ℕ) → Exceeds m event mid needed limit → Exceeds m event old needed limit
+  exceeds_from needed limit exceeds =
+      let there = subst (λ (s : Seat). Exceeds m event s needed limit) is exceeds in
+      record { after = there.after; frame = there.frame; writes = there.writes; needs = there.needs; bound = there.bound; exceeds = there.exceeds }
+
+  moved_from : (k : ℕ) (new : Seat) → IsMovedTo k mid new → IsMovedTo k old new
+  moved_from k new moved = let there = subst (λ (s : Seat). IsMovedTo k s new) is moved in record { used = there.used; area = there.area; limit = there.limit }
+
+  fits_from : (frame : Option Frame) → FitsUnder mid frame → FitsUnder old frame
+  fits_from None fits = fits
+  fits_from (Some f) fits = subst (λ (s : Seat). needed_of s (length (framed f)) ≤ s.limit) is fits
+
+  pub moves_from : (answer : Said) (new : Seat) → StepMoves m event n answer mid new → StepMoves m event n answer old new
+  moves_from (said.Replied reply) new moves = record {
+    frame = moves.frame;
+    of_event = moves.of_event;
+    within = fits_from moves.frame moves.within;
+    moved = moved_from (written_length moves.frame) new moves.moved;
+  }
+  moves_from said.Disk new moves = moved_from 0 new moves
+  moves_from (said.Full needed limit) new moves = moved_from 0 new moves
+  moves_from said.Memory new moves = moved_from 0 new moves
+
+-- the same at equal disks, seats and states
+module _ {D : Type 0} (meaning : D → Meaning) (disk mid : D) (is : mid ≡ disk) where
+  pub kept_from : (kept next : Kept) (old new : Seat) → next ≡ kept → new ≡ old → IsKeptOn kept (meaning disk) old → IsKeptOn next (meaning mid) new
+  kept_from kept next old new same seat here =
+      subst (λ (k : Kept). IsKeptOn k (meaning mid) new) (sym same)
+      (subst (λ (s : Seat). IsKeptOn kept (meaning mid) s) (sym seat) (subst (λ (d : D). IsKeptOn kept (meaning d) old) (sym is) here))
+
+  pub time_from : (new : D) → Passes (meaning mid) (meaning new) → Passes (meaning disk) (meaning new)
+  time_from new time = subst (λ (d : D). Passes (meaning d) (meaning new)) is time
+
+  pub since_from : (X : Areas → Type 0) (new : D) → LeavesSince X (meaning mid) (meaning new) → LeavesSince X (meaning disk) (meaning new)
+  since_from X new leaves = subst (λ (d : D). LeavesSince X (meaning d) (meaning new)) is leaves
+
+  pub since_to : (X : Areas → Type 0) (old : D) → LeavesSince X (meaning old) (meaning disk) → LeavesSince X (meaning old) (meaning mid)
+  since_to X old leaves = subst (λ (d : D). LeavesSince X (meaning old) (meaning d)) (sym is) leaves
+
+  pub written_from : (meaning mid).written ≡ (meaning disk).written
+  written_from = ap (λ (d : D). (meaning d).written) is

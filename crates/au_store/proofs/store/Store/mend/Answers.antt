@@ -1,0 +1,54 @@
+use Rattle.std.proofs.Common.{◌≡◌, List, ℕ}
+use Rattle.au_journal.specs.Journals.{disk_of, seat_of}
+use Rattle.au_store.specs.Recovery.{ReplayedTo}
+use Rattle.au_store.proofs.Keeping.{mended_kept, mending_since, still_stands}
+use Rattle.au_store.proofs.Sound.{mend_sound}
+use Rattle.au_store.proofs.store.Store.mend.Goals as goal
+
+pub invariant_of-self : goal.invariant_of-self
+invariant_of-self g c =
+    let laws = g.met.D.Disk g.world.𝓛 g.world.𝓜 g.world.𝓡 ((λ s x. x), (λ x. x), (λ x. x), λ x. x) in
+    let j = c.self.inside.journal in
+    let new = c.mend.new.self in
+    let kept = c.self.inside.engine.state.kept in
+    let sound = c.self.invariant in
+    mend_sound g.D.Disk.told (g.D.Disk.meaning j.disk) (g.D.Disk.meaning new.disk) j.seat new.seat kept c.mend.result sound c.mend.ensures.mends c.mend.ensures.rests
+    (λ told done. mended_kept (ReplayedTo kept) (ReplayedTo (sound.stands told).0) j.seat new.seat sound.gated (g.D.Disk.meaning j.disk) (g.D.Disk.meaning new.disk)
+    (c.mend.ensures.mends done) (sound.stands told).1 (λ bodies body doubted. c.mend.ensures.mended told bodies body doubted done))
+    (λ told doubted stands failed. still_stands (ReplayedTo kept) (ReplayedTo doubted) j.seat new.seat sound.gated g.D.Disk.meaning j.disk new.disk c.mend.ensures.still
+    (laws.counts_now new.disk) c.mend.ensures.time (c.mend.ensures.rests failed) stands (λ bodies body was. c.mend.ensures.doubted bodies body was failed)
+    (mending_since (ReplayedTo kept) (ReplayedTo doubted) j.seat new.seat sound.gated g.D.Disk.meaning j.disk new.disk c.mend.ensures.still (laws.only_now j.disk) stands
+    (λ bodies body some was. c.mend.ensures.any_moment bodies body some was)))
+
+pub returns-clause-kept : goal.returns-clause-kept
+returns-clause-kept g c =
+    let j = c.self.inside.journal in
+    let new = c.mend.new.self in
+    let kept = c.self.inside.engine.state.kept in
+    let sound = c.self.invariant in
+    rw (← c.self.view_is) (λ told done. mended_kept (ReplayedTo kept) (ReplayedTo (sound.stands told).0) j.seat new.seat sound.gated (g.D.Disk.meaning j.disk) (g.D.Disk.meaning new.disk)
+    (c.mend.ensures.mends done) (sound.stands told).1 (λ bodies body doubted. c.mend.ensures.mended told bodies body doubted done))
+
+pub returns-clause-doubted : goal.returns-clause-doubted
+returns-clause-doubted g c =
+    let laws = g.met.D.Disk g.world.𝓛 g.world.𝓜 g.world.𝓡 ((λ s x. x), (λ x. x), (λ x. x), λ x. x) in
+    let j = c.self.inside.journal in
+    let new = c.mend.new.self in
+    let kept = c.self.inside.engine.state.kept in
+    let sound = c.self.invariant in
+    rw (← c.self.view_is)
+    (λ told doubted stands failed. still_stands (ReplayedTo kept) (ReplayedTo doubted) j.seat new.seat sound.gated g.D.Disk.meaning j.disk new.disk c.mend.ensures.still
+    (laws.counts_now new.disk) c.mend.ensures.time (c.mend.ensures.rests failed) stands (λ bodies body was. c.mend.ensures.doubted bodies body was failed)
+    (mending_since (ReplayedTo kept) (ReplayedTo doubted) j.seat new.seat sound.gated g.D.Disk.meaning j.disk new.disk c.mend.ensures.still (laws.only_now j.disk) stands
+    (λ bodies body some was. c.mend.ensures.any_moment bodies body some was)))
+
+pub returns-clause-any_moment : goal.returns-clause-any_moment
+returns-clause-any_moment g c =
+    let laws = g.met.D.Disk g.world.𝓛 g.world.𝓜 g.world.𝓡 ((λ s x. x), (λ x. x), (λ x. x), λ x. x) in
+    let j = c.self.inside.journal in
+    let new = c.mend.new.self in
+    let kept = c.self.inside.engine.state.kept in
+    let sound = c.self.invariant in
+    rw (← c.self.view_is)
+    (λ told doubted stands. mending_since (ReplayedTo kept) (ReplayedTo doubted) j.seat new.seat sound.gated g.D.Disk.meaning j.disk new.disk c.mend.ensures.still (laws.only_now j.disk) stands
+    (λ bodies body some was. c.mend.ensures.any_moment bodies body some was))

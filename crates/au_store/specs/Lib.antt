@@ -1,0 +1,6 @@
+pub mod Creating
+pub mod Opened
+pub mod Recovery
+pub mod Standing
+pub mod Steps
+pub mod Stored

@@ -1,0 +1,170 @@
+-- What a step of a store does, by what it answers.
+use Rattle.std.specs.Prelude.{◌≡◌, ◌≢◌, ◌⊎◌, ◌≤◌, ◌<◌, ⊤, ℕ, ◌+◌, List, length, Option, Some, None}
+use Rattle.au_base.specs.declared.ask.Ask.{Ask}
+use Rattle.au_base.specs.declared.numbers.ClientNo.{ClientNo}
+use Rattle.au_base.specs.declared.reply.Reply.{Reply}
+use Rattle.au_base.specs.declared.reply.Said.{Said}
+use Rattle.au_base.specs.declared.reply.Said.TheVariants as said
+use Rattle.au_catalog.specs.declared.kept.Kept.{Kept}
+use Rattle.au_io.specs.Areas.{Areas}
+use Rattle.au_io.specs.Disk.{Meaning}
+use Rattle.au_io.specs.Faults.{HasRisen}
+use Rattle.au_journal.specs.declared.seat.Seat.{Seat}
+use Rattle.au_journal.specs.Seats.{IsFramed, needed_of}
+use Rattle.rec_codec.specs.declared.frame.Frame.{Frame}
+use Rattle.rec_codec.specs.Frames.{IsSpellable, framed}
+use Rattle.au_engine.specs.Framing.{IsFrameOf}
+use Rattle.au_engine.specs.Replaying.{IsReplayable, after_frame, IsImage}
+use Rattle.au_engine.specs.declared.prepared.Prepared.{Prepared}
+use Rattle.au_engine.specs.Prepared.{after}
+use Rattle.au_engine.specs.State.{State, stamp_of}
+use Rattle.au_engine.specs.Step.{Event, Step}
+use Rattle.au_io.specs.Moments.{LeavesSince}
+use Rattle.au_store.specs.Recovery.{RecoversTo, RecoversToEither}
+use Rattle.au_store.specs.Stored.{Stored, IsStoodOn}
+
+-- the frame goes on from what is kept, and that is kept after it
+pub record Carries (kept : Kept) (frame : Frame) (after : Kept) : Type 0 where
+  pub spellable : IsSpellable frame
+  pub no_image : IsImage frame → ⊥
+  pub replayable : IsReplayable kept frame
+  pub makes : after ≡ after_frame kept frame
+
+-- what a step writes carries what is kept to what is kept after it; where it writes nothing, that stays
+abbrev pub CarriesTo : Kept → Option (List ℕ) → Kept → Type 0
+CarriesTo kept None after = after ≡ kept
+CarriesTo kept (Some bytes) after = (frame : Frame) × (bytes ≡ framed frame) × Carries kept frame after
+
+-- the event writes this frame, or none, and the state is this one after it
+abbrev pub EventWrites : State → Event → State → Option Frame → Type 0
+EventWrites m event n frame = IsFrameOf m event.client event.ask (stamp_of m event.reading) n frame
+
+-- how long the area grows by what is written
+abbrev pub written_length : Option Frame → ℕ
+written_length None = 0
+written_length (Some frame) = length (framed frame)
+
+-- at a reply the state is that after the event; at any other answer it stays
+abbrev pub StepsBy : State → Event → Said → State → Type 0
+StepsBy m event (said.Replied reply) n = Step m event reply n
+StepsBy m event said.Disk n = n ≡ m
+StepsBy m event (said.Full needed limit) n = n ≡ m
+StepsBy m event said.Memory n = n ≡ m
+
+-- what is written fits under the limit, with one gate behind it
+abbrev pub FitsUnder : Seat → Option Frame → Type 0
+FitsUnder seat None = ⊤
+FitsUnder seat (Some frame) = needed_of seat (length (framed frame)) ≤ seat.limit
+
+-- the event writes a frame that needs so much, over the limit
+pub record Exceeds (m : State) (event : Event) (seat : Seat) (needed limit : ℕ) : Type 0 where
+  pub after : State
+  pub frame : Frame
+  pub writes : EventWrites m event after (Some frame)
+  pub needs : needed ≡ needed_of seat (length (framed frame))
+  pub bound : limit ≡ seat.limit
+  pub exceeds : limit < needed
+
+-- the count of faults rose in the call where it answers that the disk failed, and nowhere else
+abbrev pub StepCause : Said → ℕ → ℕ → Type 0
+StepCause said.Disk before now = (before ≤ now) × HasRisen before now
+StepCause (said.Replied reply) before now = now ≡ before
+StepCause (said.Full needed limit) before now = now ≡ before
+StepCause said.Memory before now = now ≡ before
+
+-- what is kept after the event
+abbrev pub IsAfter : State → Event → Kept → Type 0
+IsAfter m event kept = (n : State) × (reply : Reply) × Step m event reply n × (kept ≡ n.kept)
+
+-- at any moment of the step a crash leaves what was kept before, what the step in doubt would leave, or what this one does
+abbrev pub StepLeaves : State → Event → Kept → Areas → Type 0
+StepLeaves m event doubted all =
+    RecoversTo m.kept all ⊎ (RecoversTo doubted all ⊎ ((kept : Kept) × IsAfter m event kept × RecoversTo kept all))
+
+-- where the disk failed: the doubt is the one from before, or this step is in doubt
+abbrev pub StepDoubts : State → Event → Kept → Meaning → Seat → Type 0
+StepDoubts m event doubted new seat =
+    IsStoodOn m.kept doubted new seat ⊎ ((kept : Kept) × IsAfter m event kept × IsStoodOn m.kept kept new seat)
+
+-- the mend of an earlier step failed: the clock wasn't read, what was in doubt still is, and a crash leaves what it left before
+pub record IsUnmended {D C : Type 0} (told : Type 0) (meaning : D → Meaning) (old new : Stored D C) (answer : Said) : Type 0 where
+  pub failed : answer ≡ said.Disk
+  pub clock : new.clock ≡ old.clock
+  pub reading : new.reading ≡ old.reading
+  pub doubted : told → (doubted : Kept) → IsStoodOn old.state.kept doubted (meaning old.disk) old.seat → IsStoodOn old.state.kept doubted (meaning new.disk) new.seat
+  pub any_moment : told → (doubted : Kept) → IsStoodOn old.state.kept doubted (meaning old.disk) old.seat
+      → LeavesSince (RecoversToEither old.state.kept doubted) (meaning old.disk) (meaning new.disk)
+
+-- the bytes that a step writes at most: those of a mend, of its frame and of a gate
+abbrev pub step_cost : Option Frame → ℕ
+step_cost None = 1
+step_cost (Some frame) = length (framed frame) + 2
+
+-- what the event writes at most, of the disk's bytes written before and after
+abbrev pub EventCosts : State → Event → ℕ → ℕ → Type 0
+EventCosts m event before now = (n : State) × (frame : Option Frame) × EventWrites m event n frame × (now ≤ before + step_cost frame)
+
+-- what the step writes at most, by its answer
+abbrev pub StepCosts : State → Event → Said → ℕ → ℕ → Type 0
+StepCosts m event (said.Replied reply) before now = EventCosts m event before now
+StepCosts m event said.Disk before now = (now ≤ before + 1) ⊎ EventCosts m event before now
+StepCosts m event (said.Full needed limit) before now = now ≤ before + 1
+StepCosts m event said.Memory before now = now ≤ before + 1
+
+-- the used length grows by n; the area and its limit stay
+pub record IsMovedTo (n : ℕ) (old new : Seat) : Type 0 where
+  pub used : new.used ≡ old.used + n
+  pub area : new.area ≡ old.area
+  pub limit : new.limit ≡ old.limit
+
+-- the event that took m to n was written: its frame is within the limit, and the used length grew by it
+pub record IsWritten (m : State) (event : Event) (n : State) (old new : Seat) : Type 0 where
+  pub frame : Option Frame
+  pub of_event : EventWrites m event n frame
+  pub within : FitsUnder old frame
+  pub moved : IsMovedTo (written_length frame) old new
+
+-- at a reply the event was written; at any other answer the used length stays
+abbrev pub StepMoves : State → Event → State → Said → Seat → Seat → Type 0
+StepMoves m event n (said.Replied reply) old new = IsWritten m event n old new
+StepMoves m event n said.Disk old new = IsMovedTo 0 old new
+StepMoves m event n (said.Full needed limit) old new = IsMovedTo 0 old new
+StepMoves m event n said.Memory old new = IsMovedTo 0 old new
+
+-- the client asks this at that reading
+abbrev pub event_at : ClientNo → Ask → ℕ → Event
+event_at client ask reading = record { client = client; ask = ask; reading = reading }
+
+-- the state by the prepared step, which takes no memory: at a reply it is the one after it; at any other answer it stays
+abbrev pub MakesBy : Prepared → State → Said → State → Type 0
+MakesBy prepared m (said.Replied reply) n = (reply ≡ prepared.reply) × (n ≡ after prepared m)
+MakesBy prepared m said.Disk n = n ≡ m
+MakesBy prepared m (said.Full needed limit) n = n ≡ m
+MakesBy prepared m said.Memory n = ⊥
+
+-- how long the area grows by framed bytes, where there are some
+abbrev pub growth : Option (List ℕ) → ℕ
+growth None = 0
+growth (Some bytes) = length bytes
+
+-- the bytes that an append of them writes
+abbrev pub append_cost : Option (List ℕ) → ℕ
+append_cost None = 0
+append_cost (Some bytes) = length bytes + 1
+
+-- the area with the framed bytes and one gate behind them is within the limit
+abbrev pub IsWithin : Seat → Option (List ℕ) → Type 0
+IsWithin seat None = ⊤
+IsWithin seat (Some bytes) = needed_of seat (length bytes) ≤ seat.limit
+
+-- there are none, or they are the framed bytes of a body
+abbrev pub AreFramed : Option (List ℕ) → Type 0
+AreFramed None = ⊤
+AreFramed (Some bytes) = (body : List ℕ) × IsFramed bytes body
+
+-- the used length grows by n at a reply, and stays at any other answer
+abbrev pub IsMoved : Said → ℕ → Seat → Seat → Type 0
+IsMoved (said.Replied reply) n old new = IsMovedTo n old new
+IsMoved said.Disk n old new = IsMovedTo 0 old new
+IsMoved (said.Full needed limit) n old new = IsMovedTo 0 old new
+IsMoved said.Memory n old new = IsMovedTo 0 old new

@@ -1,0 +1,39 @@
+-- What is seen of a store, and what is so of it between two calls.
+use Rattle.std.specs.Prelude.{◌≡◌, ℕ, Bool, true, false}
+use Rattle.au_io.specs.Disk.{Meaning}
+use Rattle.au_journal.specs.declared.seat.Seat.{Seat}
+use Rattle.au_catalog.specs.declared.kept.Kept.{Kept}
+use Rattle.au_engine.specs.Replaying.{EndsWell}
+use Rattle.au_engine.specs.State.{State, Reserved}
+use Rattle.au_store.specs.Recovery.{ReplayedTo}
+use Rattle.au_store.specs.Standing.{IsKept, StandsOn}
+
+-- the state, for how many more records there is room, the disk and where the journal stands on it, the clock, and the
+-- last reading that it gave
+pub record Stored (D C : Type 0) : Type 0 where
+  pub state : State
+  pub room : ℕ
+  pub disk : D
+  pub seat : Seat
+  pub clock : C
+  pub reading : ℕ
+
+-- the state and its room, as the engine has them
+abbrev pub reserved_of : {D C : Type 0} → Stored D C → Reserved
+reserved_of store = record { state = store.state; room = store.room }
+
+-- no step is in doubt: all that a crash may leave recovers to what is kept
+abbrev pub IsKeptOn : Kept → Meaning → Seat → Type 0
+IsKeptOn kept m seat = IsKept (ReplayedTo kept) m seat
+
+-- all that a crash may leave recovers to what is kept, or, where a step is in doubt, to what is kept after it
+abbrev pub IsStoodOn : Kept → Kept → Meaning → Seat → Type 0
+IsStoodOn kept doubted m seat = StandsOn (ReplayedTo kept) (ReplayedTo doubted) m seat
+
+-- The journal was walked to its end, and a gate stands there. Where the disk tells what it holds, it stands for what is
+-- kept, and perhaps for a step that is in doubt. SYS is a user, and there is no more of anything than there may be.
+pub record IsSound (told : Type 0) (m : Meaning) (seat : Seat) (kept : Kept) : Type 0 where
+  pub ended : seat.ended ≡ true
+  pub gated : seat.bare ≡ false
+  pub ends : EndsWell kept
+  pub stands : told → (doubted : Kept) × IsStoodOn kept doubted m seat

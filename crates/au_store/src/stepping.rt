@@ -1,0 +1,143 @@
+//! The steps of a store.
+ghost use Rattle.std.specs.Prelude.{◌≡◌, ◌≢◌, ◌⊎◌, ◌≤◌, ◌<◌, ◌+◌, ℕ, List, Option, Some, false, length, IfOk};
+ghost use Rattle.au_base.specs.declared.reply.Reply.{Reply as AnyReply};
+ghost use Rattle.au_catalog.specs.declared.kept.Kept.{Kept};
+ghost use Rattle.au_io.specs.Disk.{Passes};
+ghost use Rattle.au_io.specs.Moments.{LeavesSince};
+ghost use Rattle.au_io.specs.Time.{Reads};
+ghost use Rattle.au_journal.specs.Causes.{MendCause};
+ghost use Rattle.au_journal.specs.Seats.{IsFullAt, mended};
+ghost use Rattle.au_engine.specs.Framing.{IsText, Writes};
+ghost use Rattle.au_engine.specs.Prepared.{Fits, after};
+ghost use Rattle.au_engine.specs.Replaying.{EndsWell};
+ghost use Rattle.au_engine.specs.State.{stamp_of};
+ghost use Rattle.au_engine.specs.Step.{IsAsked, Step};
+
+use crate::Store;
+use crate::writing::write;
+use au_base::{Ask, ClientNo, Memory, Said};
+use au_engine::{Prepared, frames_lead_on};
+use au_io::{Clock, Disk};
+use au_journal::{Appended, Doubt, Mended};
+use std::alloc::Global;
+
+impl<D: Disk, C: Clock> Store<D, C> {
+    ghost use Rattle.au_store.specs.Recovery.{RecoversToEither};
+    ghost use Rattle.au_store.specs.Steps.{CarriesTo, Exceeds, IsMoved, IsUnmended, IsWithin, MakesBy, StepCause, StepCosts, StepDoubts, StepLeaves, StepMoves, StepsBy, append_cost, event_at, growth};
+    ghost use Rattle.au_store.specs.Stored.{IsKeptOn, IsStoodOn, reserved_of};
+
+    /// Does what a client asks, and answers once it is safe from a crash. It first mends what an
+    /// earlier step left in doubt, and reads the clock once where that succeeds.
+    ///
+    /// `Disk` has the state as it was, and the step may be in doubt: a crash may leave it done. `Full`
+    /// and `Memory` have the state as it was, and nothing in doubt.
+    pub fn step(&mut self, alloc: Global, client: ClientNo, ask: &Ask) -> Said
+        requires { IsAsked ask.now }
+        ensures step { StepsBy self.old.state (event_at client ask.now self.new.reading) result self.new.state }
+        ensures moves { StepMoves self.old.state (event_at client ask.now self.new.reading) self.new.state result self.old.seat self.new.seat }
+        ensures full { (needed limit : ℕ) → result ≡ Said.Full needed limit → Exceeds self.old.state (event_at client ask.now self.new.reading) self.old.seat needed limit }
+        ensures clock { Reads (C.ticking self.old.clock) (C.ticking self.new.clock) self.new.reading ⊎ IsUnmended D.told D.meaning self.old self.new result }
+        ensures settled { result ≢ Said.Disk → self.new.seat.doubt ≡ Doubt.Settled }
+        ensures kept { D.told → result ≢ Said.Disk → IsKeptOn self.new.state.kept (D.meaning self.new.disk) self.new.seat }
+        ensures doubted { D.told → (doubted : Kept) → IsStoodOn self.old.state.kept doubted (D.meaning self.old.disk) self.old.seat
+            → result ≡ Said.Disk → StepDoubts self.old.state (event_at client ask.now self.new.reading) doubted (D.meaning self.new.disk) self.new.seat }
+        ensures any_moment { D.told → (doubted : Kept) → IsStoodOn self.old.state.kept doubted (D.meaning self.old.disk) self.old.seat
+            → LeavesSince (StepLeaves self.old.state (event_at client ask.now self.new.reading) doubted) (D.meaning self.old.disk) (D.meaning self.new.disk) }
+        ensures time { Passes (D.meaning self.old.disk) (D.meaning self.new.disk) }
+        ensures cost { StepCosts self.old.state (event_at client ask.now self.new.reading) result (D.meaning self.old.disk).written (D.meaning self.new.disk).written }
+        ensures cause { StepCause result (D.faults self.old.disk) (D.faults self.new.disk) }
+    {
+        match self.mend() {
+            Mended::Disk => Said::Disk,
+            Mended::Done => match self.prepare(alloc, client, ask) {
+                Ok(prepared) => self.make(prepared),
+                Err(_) => Said::Memory,
+            },
+        }
+    }
+
+    // Ends the doubt of a step that couldn't be written.
+    fn mend(&mut self) -> Mended
+        ensures mended { result ≡ Mended.Done → self.new.seat ≡ mended self.old.seat }
+        ensures kept { D.told → result ≡ Mended.Done → IsKeptOn self.old.state.kept (D.meaning self.new.disk) self.new.seat }
+        ensures rests { result ≡ Mended.Disk → self.new.seat ≡ self.old.seat }
+        ensures doubted { D.told → (doubted : Kept) → IsStoodOn self.old.state.kept doubted (D.meaning self.old.disk) self.old.seat
+            → result ≡ Mended.Disk → IsStoodOn self.old.state.kept doubted (D.meaning self.new.disk) self.new.seat }
+        ensures any_moment { D.told → (doubted : Kept) → IsStoodOn self.old.state.kept doubted (D.meaning self.old.disk) self.old.seat
+            → LeavesSince (RecoversToEither self.old.state.kept doubted) (D.meaning self.old.disk) (D.meaning self.new.disk) }
+        ensures same { (self.new.state ≡ self.old.state) × (self.new.room ≡ self.old.room) × (self.new.clock ≡ self.old.clock) × (self.new.reading ≡ self.old.reading) }
+        ensures time { Passes (D.meaning self.old.disk) (D.meaning self.new.disk) }
+        ensures cost { (D.meaning self.new.disk).written ≤ (D.meaning self.old.disk).written + 1 }
+        ensures cause { MendCause result (D.faults self.old.disk) (D.faults self.new.disk) }
+    {
+        self.journal.mend()
+    }
+    // Reads the clock, and works out the step of the ask.
+    fn prepare(&mut self, alloc: Global, client: ClientNo, ask: &Ask) -> Result<Prepared, Memory>
+        requires { IsAsked ask.now }
+        ensures reading { Reads (C.ticking self.old.clock) (C.ticking self.new.clock) self.new.reading }
+        ensures step { IfOk result (λ prepared. Step self.new.state (event_at client ask.now self.new.reading) prepared.reply (after prepared self.new.state)) }
+        ensures writes { IfOk result (λ prepared. Writes self.new.state client ask.now (stamp_of self.new.state self.new.reading) (after prepared self.new.state) prepared.framed) }
+        ensures carries { IfOk result (λ prepared. CarriesTo self.new.state.kept prepared.framed (after prepared self.new.state).kept) }
+        ensures ends { IfOk result (λ prepared. EndsWell (after prepared self.new.state).kept) }
+        ensures fits { IfOk result (λ prepared. Fits prepared (reserved_of self.new)) }
+        ensures state { self.new.state ≡ self.old.state }
+        ensures same { (self.new.disk ≡ self.old.disk) × (self.new.seat ≡ self.old.seat) }
+    {
+        let reading = self.clock.now();
+        self.reading = reading;
+        let stamp = self.engine.stamp(reading);
+        text_of(ask);
+        self.engine.lawful();
+        frames_lead_on();
+        self.engine.prepare(alloc, client, ask, stamp)
+    }
+
+    // Writes what the prepared step leaves to be kept, and makes the step.
+    fn make(&mut self, prepared: Prepared) -> Said
+        requires settled { self.old.seat.doubt ≡ Doubt.Settled }
+        requires fits { Fits prepared (reserved_of self.old) }
+        requires carries { CarriesTo self.old.state.kept prepared.framed (after prepared self.old.state).kept }
+        requires ends { EndsWell (after prepared self.old.state).kept }
+        ensures made { MakesBy prepared self.old.state result self.new.state }
+        ensures within { (reply : AnyReply) → result ≡ Said.Replied reply → IsWithin self.old.seat prepared.framed }
+        ensures full { (needed limit : ℕ) → result ≡ Said.Full needed limit → (bytes : List ℕ) × (prepared.framed ≡ Some bytes) × IsFullAt self.old.seat false (length bytes) needed limit }
+        ensures untouched { (needed limit : ℕ) → result ≡ Said.Full needed limit → self.new.disk ≡ self.old.disk }
+        ensures moved { IsMoved result (growth prepared.framed) self.old.seat self.new.seat }
+        ensures kept { D.told → result ≢ Said.Disk → IsKeptOn self.new.state.kept (D.meaning self.new.disk) self.new.seat }
+        ensures settled { result ≢ Said.Disk → self.new.seat.doubt ≡ Doubt.Settled }
+        ensures doubted { D.told → result ≡ Said.Disk → IsStoodOn self.old.state.kept (after prepared self.old.state).kept (D.meaning self.new.disk) self.new.seat }
+        ensures any_moment { D.told → LeavesSince (RecoversToEither self.old.state.kept (after prepared self.old.state).kept) (D.meaning self.old.disk) (D.meaning self.new.disk) }
+        ensures same { (self.new.clock ≡ self.old.clock) × (self.new.reading ≡ self.old.reading) }
+        ensures time { Passes (D.meaning self.old.disk) (D.meaning self.new.disk) }
+        ensures cost { (D.meaning self.new.disk).written ≤ (D.meaning self.old.disk).written + append_cost prepared.framed }
+        ensures cause { StepCause result (D.faults self.old.disk) (D.faults self.new.disk) }
+    {
+        match write(&mut self.journal, &prepared) {
+            Appended::Done => Said::Replied(self.engine.apply(prepared)),
+            Appended::Disk => {
+                let_go(prepared);
+                Said::Disk
+            }
+            Appended::Full { needed, limit } => {
+                let_go(prepared);
+                Said::Full { needed, limit }
+            }
+        }
+    }
+}
+
+// A text that is asked is UTF-8. It does nothing.
+fn text_of(ask: &Ask)
+    ensures { IsText ask.now }
+{
+    match ask {
+        Ask::Sql(text) => {
+            let _bytes = text.as_bytes();
+        }
+        Ask::Local | Ask::Logon { .. } | Ask::Logoff => {}
+    }
+}
+
+// Lets go of a step that isn't made.
+fn let_go(_prepared: Prepared) {}
