@@ -10,3 +10,6 @@ mod writing;
 
 pub use created::Created;
 pub use store::Store;
+
+#[cfg(test)]
+mod tests;
