@@ -1,4 +1,5 @@
 pub mod Created
+pub mod Ends
 pub mod Holding
 pub mod Leaving
 pub mod Lists

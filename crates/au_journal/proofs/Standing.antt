@@ -5,8 +5,8 @@ use Rattle.std.proofs.lemmas.List.{append-nil}
 use Rattle.std.proofs.lemmas.List.Concat.{flat_map-append}
 use Rattle.std.specs.Int.{w64, to_be_bytes}
 use Rattle.std.specs.List.{flat_map}
-use Rattle.au_journal.specs.Frames.{spelled, frame, header, front, framed_of, IsLimit, AreSome, IsShut, IsOpen, Stands, StandsForOr}
-use Rattle.au_journal.specs.Images.{Closed, Doubted, EndsIn, MayStandFor}
+use Rattle.au_journal.specs.Frames.{spelled, frame, header, front, framed_of, IsLimit, AreSome, IsShut, IsOpen, Stands}
+use Rattle.au_journal.specs.Images.{Closed, Doubted, EndsIn, MayStandFor, StandsForOr, StandsGated}
 
 pub front-push : (limit : ℕ) (bodies : List (List ℕ)) (body : List ℕ) → front limit (bodies ++ body ∷ []) ≡ front limit bodies ++ 165 ∷ spelled body
 unfolding front
@@ -51,22 +51,25 @@ module _ (limit : ℕ) (bodies : List (List ℕ)) (in_range : IsLimit limit) (so
   end_stands true c is = bare_stands c is
   end_stands false c is = closed_stands c is
 
+  pub closed_gated : (c : List ℕ) → Closed F c → StandsGated limit bodies c
+  closed_gated c closed = record { stands = closed_stands c closed; gated = closed }
+
   pub closed_or : (body c : List ℕ) → Closed F c → StandsForOr limit bodies body c
-  closed_or body c closed = inl (closed_stands c closed)
+  closed_or body c closed = inl (closed_gated c closed)
 
   pub doubted_or : (body c : List ℕ) → 0 < length body → Doubted F (framed_of body) c → StandsForOr limit bodies body c
   doubted_or body c more doubted =
       let whole = doubted.split ∙ append_assoc F (doubted.gate ∷ framed_of body) doubted.tail in
       elim (cases_eq doubted.gate 165) [
-        | inl is_open ↦ inr (record {
-          in_range = in_range;
-          some = some-push bodies body some more;
-          rest = 0 ∷ doubted.tail;
-          split = whole ∙ ap (λ (g : ℕ). F ++ g ∷ (framed_of body ++ doubted.tail)) is_open ∙ ap (λ (l : List ℕ). F ++ 165 ∷ l) (append_assoc (spelled body) (0 ∷ []) doubted.tail)
-              ∙ sym (append_assoc F (165 ∷ spelled body) (0 ∷ doubted.tail)) ∙ ap (λ (l : List ℕ). l ++ 0 ∷ doubted.tail) (sym (front-push limit bodies body));
-          shut = omega arith;
-        })
-        | inr shut ↦ inl (record { in_range = in_range; some = some; rest = doubted.gate ∷ (framed_of body ++ doubted.tail); split = whole; shut = shut })
+        | inl is_open ↦
+            let split : c ≡ front limit (bodies ++ body ∷ []) ++ 0 ∷ doubted.tail =
+            whole ∙ ap (λ (g : ℕ). F ++ g ∷ (framed_of body ++ doubted.tail)) is_open ∙ ap (λ (l : List ℕ). F ++ 165 ∷ l) (append_assoc (spelled body) (0 ∷ []) doubted.tail)
+            ∙ sym (append_assoc F (165 ∷ spelled body) (0 ∷ doubted.tail)) ∙ ap (λ (l : List ℕ). l ++ 0 ∷ doubted.tail) (sym (front-push limit bodies body)) in
+            inr (record {
+              stands = record { in_range = in_range; some = some-push bodies body some more; rest = 0 ∷ doubted.tail; split = split; shut = omega arith };
+              gated = record { gate = 0; tail = doubted.tail; split = split; shut = omega arith };
+            })
+        | inr shut ↦ inl (closed_gated c (record { gate = doubted.gate; tail = framed_of body ++ doubted.tail; split = whole; shut = shut }))
       ]
 
   pub may_stand : (bare : Bool) (body c : List ℕ) → StandsForOr limit bodies body c → MayStandFor bare limit bodies body c

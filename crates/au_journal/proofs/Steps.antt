@@ -5,12 +5,16 @@ use Rattle.au_io.specs.Disk.{Meaning}
 use Rattle.au_io.specs.Moments.{Leaves, LeavesSince}
 use Rattle.au_journal.specs.declared.seat.Seat.{Seat}
 use Rattle.au_journal.specs.declared.doubt.Doubt.{Doubt}
-use Rattle.au_journal.specs.Frames.{spelled, front, framed_of}
+use Rattle.au_journal.specs.Frames.{spelled, front, framed_of, IsLimit, AreSome}
 use Rattle.au_journal.specs.Images.{Closed, Doubted, TornEnd, EndsIn, In, MayStandFor}
 use Rattle.au_journal.specs.Seats.{IsPlaced, IsSettled, IsGateDoubted, IsEdgeDoubted, IsFramed, advanced, left_in}
 use Rattle.au_journal.proofs.Leaving.{leaves_weaker, since_weaker}
 use Rattle.au_journal.proofs.Lists.{within, bare_is_torn, end_within}
 use Rattle.au_journal.proofs.Standing.{front-push, some-push, closed_or, doubted_or, may_stand}
+
+ends_may : (limit : ℕ) (bodies : List (List ℕ)) → IsLimit limit → AreSome bodies → (bare : Bool) (body c : List ℕ) → EndsIn bare (front limit bodies) c → MayStandFor bare limit bodies body c
+ends_may limit bodies in_range some true body c is = inr (bare_is_torn (front limit bodies) c is)
+ends_may limit bodies in_range some false body c closed = closed_or limit bodies in_range some body c closed
 
 module _ (seat : Seat) (bodies : List (List ℕ)) where
   abbrev F : List ℕ
@@ -41,6 +45,12 @@ module _ (seat : Seat) (bodies : List (List ℕ)) where
 
   pub edge_doubt_within : (m : Meaning) → m.images m.reads → IsEdgeDoubted m seat bodies → seat.used ≤ length (area_of seat.area m.reads)
   edge_doubt_within m reads doubted = end_within F seat.used doubted.placed.place (area_of seat.area m.reads) (doubted.leaves m.reads reads).here
+
+  -- where no body is in doubt
+  pub settled_leaves : (m : Meaning) (body : List ℕ) → IsSettled m seat bodies → Leaves (In seat.area (MayStandFor seat.bare seat.limit bodies body)) m
+  settled_leaves m body settled =
+      leaves_weaker seat.area (EndsIn seat.bare F) (MayStandFor seat.bare seat.limit bodies body) m
+      (ends_may seat.limit bodies settled.placed.in_range settled.placed.some seat.bare body) settled.leaves
 
   -- a closed gate stands behind the bodies, at every moment
   pub closed_since : (old new : Meaning) (bare : Bool) (body : List ℕ) → IsPlaced seat bodies → LeavesSince (In seat.area (Closed F)) old new

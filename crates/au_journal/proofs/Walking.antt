@@ -97,7 +97,7 @@ length_spelled : (body : List ℕ) → length (spelled body) ≡ 8 + length body
 unfolding spelled
 length_spelled body = length-append (to_be_bytes w64 (length body)) body
 
-take_spelled : (body more : List ℕ) → take 8 (spelled body ++ more) ≡ to_be_bytes w64 (length body)
+pub take_spelled : (body more : List ℕ) → take 8 (spelled body ++ more) ≡ to_be_bytes w64 (length body)
 unfolding spelled
 take_spelled body more = ap (λ (l : List ℕ). take 8 l) (append_assoc (to_be_bytes w64 (length body)) body more) ∙ take_at (to_be_bytes w64 (length body)) (body ++ more) 8 refl
 

@@ -7,8 +7,8 @@ use Rattle.au_io.specs.Disk.{Meaning}
 use Rattle.au_io.specs.Faults.{HasRisen}
 use Rattle.au_journal.specs.declared.formatting.Formatting.{Formatting}
 use Rattle.au_journal.specs.declared.formatting.Formatting.TheVariants as format
-use Rattle.au_journal.specs.Frames.{header, front, Stands}
-use Rattle.au_journal.specs.Images.{Selects, In, Closed}
+use Rattle.au_journal.specs.Frames.{header}
+use Rattle.au_journal.specs.Images.{Selects, In, StandsGated}
 use Rattle.au_journal.specs.Walk.{IsFormatted, IsUnformatted}
 
 abbrev pub IsBlank : List ℕ → Type 0
@@ -55,9 +55,8 @@ abbrev pub IsOnTheWay : List ℕ → Areas → Type 0
 IsOnTheWay rest all = IsUnformatted all ⊎ In A (λ area. area ≡ 165 ∷ rest) all
 
 -- a new area: it stands for its one body, and a closed gate comes behind
-pub record IsNew (limit : ℕ) (body area : List ℕ) : Type 0 where
-  pub stands : Stands limit (body ∷ []) area
-  pub gated : Closed (front limit (body ∷ [])) area
+abbrev pub IsNew : ℕ → List ℕ → List ℕ → Type 0
+IsNew limit body area = StandsGated limit (body ∷ []) area
 
 -- an image from before the format, or one on the way to the new area
 abbrev pub FormatLeaves : Meaning → ℕ → List ℕ → Areas → Type 0

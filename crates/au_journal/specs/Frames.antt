@@ -54,7 +54,3 @@ pub record Stands (limit : ℕ) (bodies : List (List ℕ)) (area : List ℕ) : T
   pub rest : List ℕ
   pub split : area ≡ front limit bodies ++ rest
   pub shut : IsShut rest
-
--- the area holds these bodies, or those and this one
-abbrev pub StandsForOr : ℕ → List (List ℕ) → List ℕ → List ℕ → Type 0
-StandsForOr limit bodies body area = Stands limit bodies area ⊎ Stands limit (bodies ++ body ∷ []) area

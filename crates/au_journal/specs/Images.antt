@@ -3,7 +3,7 @@ use Rattle.std.specs.Prelude.{◌≡◌, ◌≢◌, ◌⊎◌, ◌≤◌, ℕ, B
 use Rattle.au_io.specs.declared.disk.Area.{Area}
 use Rattle.au_io.specs.declared.disk.Area.TheVariants.{Head, A, B}
 use Rattle.au_io.specs.Areas.{Areas, area_of}
-use Rattle.au_journal.specs.Frames.{front, StandsForOr}
+use Rattle.au_journal.specs.Frames.{front, Stands}
 
 -- a closed gate stands behind the front
 pub record Closed (front area : List ℕ) : Type 0 where
@@ -11,6 +11,15 @@ pub record Closed (front area : List ℕ) : Type 0 where
   pub tail : List ℕ
   pub split : area ≡ front ++ gate ∷ tail
   pub shut : gate ≢ 165
+
+-- the area holds these bodies and no others, and a closed gate stands behind them
+pub record StandsGated (limit : ℕ) (bodies : List (List ℕ)) (area : List ℕ) : Type 0 where
+  pub stands : Stands limit bodies area
+  pub gated : Closed (front limit bodies) area
+
+-- the area holds these bodies, or those and this one, and a closed gate stands behind them
+abbrev pub StandsForOr : ℕ → List (List ℕ) → List ℕ → List ℕ → Type 0
+StandsForOr limit bodies body area = StandsGated limit bodies area ⊎ StandsGated limit (bodies ++ body ∷ []) area
 
 -- behind the closed gate stand these bytes
 pub record Staged (front bytes area : List ℕ) : Type 0 where
