@@ -1,3 +1,4 @@
+pub mod Abandoning
 pub mod Apart
 pub mod Beginnings
 pub mod Events

@@ -1,3 +1,4 @@
+pub mod Abandoning
 pub mod Answering
 pub mod Auditing
 pub mod Deciding

@@ -1,8 +1,9 @@
 //! The engine: the whole state, and its steps.
-ghost use Rattle.std.specs.Prelude.{◌≡◌, ◌↔◌, ◌≤◌, ◌<◌, [], codes, IfOk, IsTrue, MatchOption, OnErr, OnOk, if◌then◌else◌, option_to_list};
+ghost use Rattle.std.specs.Prelude.{◌≡◌, ◌↔◌, ◌≤◌, ◌<◌, [], codes, IfOk, IsTrue, MatchOption, OnErr, OnOk, if◌then◌else◌, is_some, option_to_list};
 ghost use Rattle.au_base.specs.declared.limits.TheConstants.{INSTANCES, INSTANCE_SESSIONS};
 ghost use Rattle.au_catalog.specs.Changing.{changed_all};
 ghost use Rattle.rec_codec.specs.Frames.{IsSpellable, body, framed};
+ghost use Rattle.au_engine.specs.Abandoning.{abandoned};
 ghost use Rattle.au_engine.specs.Answering.{code_reply};
 ghost use Rattle.au_engine.specs.Drafting.{drafted};
 ghost use Rattle.au_engine.specs.Framing.{Writes};
@@ -14,7 +15,7 @@ ghost use Rattle.au_engine.specs.Replaying.{EndsWell, IsReplayable, PartsGoOn, a
 ghost use Rattle.au_engine.specs.Returning.{start_frame};
 ghost use Rattle.au_engine.specs.Staging.{ChangeEnablements};
 ghost use Rattle.au_engine.specs.State.{IsStampOf, resting, stamp_of, start};
-ghost use Rattle.au_engine.specs.Step.{IsAsked, LocalStep, LoggedStep, SessionStep, SqlStep, StatementStep, StepAt, after_logon, after_refused_logon, concluded, logon_records, next_number, no_session, nothing_logged, recorded, unread_condition};
+ghost use Rattle.au_engine.specs.Step.{IsAsked, LocalStep, LoggedStep, SessionStep, SqlStep, StatementStep, StepAt, after_logon, after_refused_logon, concluded, logon_records, next_number, no_session, nothing_logged, recorded, session_of, unread_condition};
 
 use crate::answer::{code_reply, reply};
 use crate::auditing::record_for;
@@ -31,7 +32,7 @@ use crate::prepared::{Prepared, SessionChange};
 use crate::reading::read;
 use crate::replaying::{ended, ends_well, follow};
 use crate::session::Session;
-use crate::sessions::{counted, drawn_after, entries_after, session_of, settle};
+use crate::sessions::{counted, drawn_after, end_session, entries_after, session_of, settle};
 use crate::trail::{last_after, push_entry};
 use au_base::built_in::SYS;
 use au_base::limits::{INSTANCE_SESSIONS, OPEN_SESSIONS};
@@ -238,6 +239,21 @@ impl Engine {
         push_entry(&mut self.trail, entry);
         settle(&mut self.sessions, sessions);
         reply
+    }
+
+    /// Whether the client has a session.
+    pub fn stands(&self, client: ClientNo) -> bool
+        ensures { result ≡ is_some (session_of self.now.state.sessions client) }
+    {
+        session_of(&self.sessions, client).is_some()
+    }
+
+    /// Ends the client's session, where it has one. Nothing else is changed, and nothing is recorded.
+    /// It takes no memory and can't fail.
+    pub fn abandon(&mut self, client: ClientNo)
+        ensures { self.new.state ≡ abandoned client self.old.state }
+    {
+        end_session(&mut self.sessions, client);
     }
 
     // No instance runs, and this is kept.

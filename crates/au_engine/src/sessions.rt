@@ -2,6 +2,7 @@
 ghost use Rattle.std.specs.Prelude.{◌≡◌, ◌≤◌, ◌<◌, ◌+◌, length, map, option_to_list, vec_len, vec_capacity};
 ghost use Rattle.std.specs.Option.{option_copied};
 ghost use Rattle.au_base.specs.declared.limits.TheConstants.{INSTANCE_SESSIONS};
+ghost use Rattle.au_engine.specs.Abandoning.{sessions_without};
 ghost use Rattle.au_engine.specs.Prepared.{drawn_after, sessions_after};
 ghost use Rattle.au_engine.specs.Step.{counted, session_of, with_counts, with_more};
 
@@ -62,6 +63,15 @@ pub fn settle(sessions: &mut Vec<Session>, change: SessionChange)
             entries,
         } => set_counts(sessions, client, statements, entries),
     }
+}
+
+/// Ends the client's session. It takes no memory.
+pub fn end_session(sessions: &mut Vec<Session>, client: ClientNo)
+    ensures items { sessions.new.items ≡ sessions_without client sessions.old.items }
+    ensures len { vec_len sessions.new ≤ vec_len sessions.old }
+    ensures capacity { vec_capacity sessions.new ≡ vec_capacity sessions.old }
+{
+    sessions.retain(|session| session.client.0 != client.0);
 }
 
 // Sets the counts of the client's session.
