@@ -16,7 +16,7 @@ use Rattle.au_engine.specs.Replaying.{IsImage}
 use Rattle.au_engine.specs.Returning.{LeadsTo}
 use Rattle.au_engine.specs.State.{State}
 use Rattle.au_engine.specs.Step.{is_idle}
-use Rattle.au_store.specs.Recovery.{GoesOnBy, GoesOnTo, BeginsBy, Replayed}
+use Rattle.au_store.specs.Recovery.{GoesOnBy, GoesOnTo, Replayed}
 use Rattle.au_store.specs.Steps.{AreFramed, Carries, CarriesTo, IsWithin}
 
 -- framed bytes are those of the journal

@@ -1,5 +1,5 @@
 -- What a mend and an append make of what a journal stands on, for any property of its bodies.
-use Rattle.std.proofs.Common.{◌≡◌, ◌⊎◌, inl, inr, ⊎_elim, ℕ, Bool, true, false, List, [], ◌∷◌, ◌++◌, refl, sym, ◌∙◌, ap, subst}
+use Rattle.std.proofs.Common.{◌≡◌, inl, inr, ⊎_elim, ℕ, Bool, false, List, [], ◌∷◌, ◌++◌, refl, sym, ◌∙◌, ap, subst}
 use Rattle.au_io.specs.declared.disk.Area.{Area}
 use Rattle.au_io.specs.Areas.{Areas, area_of}
 use Rattle.au_io.specs.Disk.{Meaning, Passes}
@@ -7,19 +7,16 @@ use Rattle.au_io.specs.Moments.{Leaves, LeavesSince, CountsNow, OnlyNow, weaker,
 use Rattle.au_journal.specs.declared.doubt.Doubt.{Doubt}
 use Rattle.au_journal.specs.declared.doubt.Doubt.TheVariants.{Settled, Body, Gate, Edge}
 use Rattle.au_journal.specs.declared.seat.Seat.{Seat}
-use Rattle.au_journal.specs.Frames.{front, IsLimit, AreSome, Stands, StandsForOr}
-use Rattle.au_journal.specs.Images.{Closed, EndsIn, In, MayStandFor}
+use Rattle.au_journal.specs.Frames.{front, IsLimit, AreSome}
+use Rattle.au_journal.specs.Images.{Closed, EndsIn, In, MayStandFor, StandsGated}
 use Rattle.au_journal.specs.Seats.{IsIn, IsSettled, IsDoubted, IsSome, advanced, bare_after, mended}
 use Rattle.au_store.specs.Standing.{Holds, HoldsEither, IsKept, IsInDoubt, StandsOn}
 
 -- a closed gate behind the bodies
-closed_stands : (limit : ℕ) (bodies : List (List ℕ)) → IsLimit limit → AreSome bodies → (area : List ℕ) → Closed (front limit bodies) area → Stands limit bodies area
+closed_stands : (limit : ℕ) (bodies : List (List ℕ)) → IsLimit limit → AreSome bodies → (area : List ℕ) → Closed (front limit bodies) area → StandsGated limit bodies area
 closed_stands limit bodies in_range some area closed = record {
-  in_range = in_range;
-  some = some;
-  rest = closed.gate ∷ closed.tail;
-  split = closed.split;
-  shut = closed.shut;
+  stands = record { in_range = in_range; some = some; rest = closed.gate ∷ closed.tail; split = closed.split; shut = closed.shut };
+  gated = closed;
 }
 
 -- each image of a settled journal holds its bodies
@@ -44,8 +41,8 @@ pub held_either : (P Q : List (List ℕ) → Type 0) (area : Area) (limit : ℕ)
     → (c : Areas) → In area (MayStandFor false limit bodies body) c → HoldsEither P Q c
 held_either P Q area limit bodies body so so_then c may =
     ⊎_elim
-    (λ (stands : Stands limit bodies (area_of area c)). inl (record { area = area; limit = limit; bodies = bodies; held = record { selected = may.selected; here = stands }; so = so }))
-    (λ (stands : Stands limit (bodies ++ body ∷ []) (area_of area c)). inr (record { area = area; limit = limit; bodies = bodies ++ body ∷ []; held = record { selected = may.selected; here = stands }; so = so_then }))
+    (λ (stands : StandsGated limit bodies (area_of area c)). inl (record { area = area; limit = limit; bodies = bodies; held = record { selected = may.selected; here = stands }; so = so }))
+    (λ (stands : StandsGated limit (bodies ++ body ∷ []) (area_of area c)). inr (record { area = area; limit = limit; bodies = bodies ++ body ∷ []; held = record { selected = may.selected; here = stands }; so = so_then }))
     may.here
 
 pub either_since : (P Q : List (List ℕ) → Type 0) (area : Area) (bare : Bool) (limit : ℕ) (bodies : List (List ℕ)) (body : List ℕ) (old new : Meaning) → bare ≡ false → P bodies → Q (bodies ++ body ∷ [])

@@ -1,5 +1,9 @@
+pub mod Begun
+pub mod Exclusive
 pub mod Frames
 pub mod Keeping
+pub mod Once
 pub mod Opening
+pub mod Reading
 pub mod Sound
 pub mod Stepped

@@ -1,5 +1,5 @@
 -- That the image of a new store is replayed to what it keeps.
-use Rattle.std.proofs.Common.{◌≡◌, ◌≢◌, ◌⊎◌, inl, inr, ⊎_elim, ℕ, Bool, true, List, [], ◌∷◌, ◌++◌, length, refl, ap, arith}
+use Rattle.std.proofs.Common.{◌≢◌, ◌⊎◌, inl, inr, ⊎_elim, ℕ, true, List, [], ◌∷◌, ◌++◌, length, refl, ap, arith}
 use Rattle.std.proofs.lemmas.List.Elements.{Contains-push_cases}
 use Rattle.std.specs.List.{Contains}
 use Rattle.au_base.specs.BuiltIn.{sys, audit_admin, audit_viewer}
@@ -81,7 +81,7 @@ made_new limit password all new = record {
     area = A;
     limit = limit;
     bodies = spelled (image_of (opening password)) ∷ [];
-    held = record { selected = new.selected; here = new.here.stands };
+    held = record { selected = new.selected; here = new.here };
     so = opening_replayed password;
   };
   limited = record { selected = new.selected; here = (spelled (image_of (opening password)), new.here) };

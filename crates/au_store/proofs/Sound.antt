@@ -1,5 +1,5 @@
 -- That what is so of a store between two calls is so after each.
-use Rattle.std.proofs.Common.{◌≡◌, inl, true, false, refl, sym, ◌∙◌, ap}
+use Rattle.std.proofs.Common.{◌≡◌, inl, true, false, refl, ◌∙◌, ap}
 use Rattle.au_io.specs.Disk.{Meaning}
 use Rattle.au_catalog.specs.declared.kept.Kept.{Kept}
 use Rattle.au_journal.specs.declared.doubt.Doubt.TheVariants.{Settled}

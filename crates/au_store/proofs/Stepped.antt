@@ -1,5 +1,5 @@
 -- From what a prepared step makes to what a step of the store does, over plain variables.
-use Rattle.std.proofs.Common.{◌≡◌, ◌≢◌, false, ◌⊎◌, inl, inr, ⊎_elim, ℕ, ◌+◌, ◌≤◌, ◌<◌, List, length, Option, Some, None, refl, sym, ◌∙◌, ap, subst, arith}
+use Rattle.std.proofs.Common.{◌≡◌, false, inl, inr, ⊎_elim, ℕ, ◌+◌, ◌≤◌, List, length, Option, Some, None, refl, sym, ◌∙◌, ap, subst, arith}
 use Rattle.au_base.specs.declared.reply.Reply.{Reply}
 use Rattle.au_base.specs.declared.reply.Said.{Said}
 use Rattle.au_base.specs.declared.reply.Said.TheVariants as said
@@ -18,7 +18,7 @@ use Rattle.rec_codec.specs.declared.frame.Frame.{Frame}
 use Rattle.rec_codec.specs.Frames.{framed}
 use Rattle.au_store.specs.Recovery.{RecoversTo, RecoversToEither}
 use Rattle.au_store.specs.Stored.{IsKeptOn}
-use Rattle.au_store.specs.Steps.{EventWrites, Exceeds, EventCosts, IsAfter, FitsUnder, IsMoved, IsMovedTo, IsWithin, IsWritten, MakesBy, StepCosts, StepLeaves, StepMoves, StepsBy, append_cost, growth, step_cost, written_length}
+use Rattle.au_store.specs.Steps.{EventWrites, Exceeds, EventCosts, IsAfter, FitsUnder, IsMoved, IsMovedTo, IsWithin, MakesBy, StepCosts, StepLeaves, StepMoves, StepsBy, append_cost, growth, step_cost, written_length}
 
 -- the state and the reply
 pub steps_by : (m n : State) (event : Event) (prepared : Prepared) (answer : Said) → Step m event prepared.reply (after prepared m) → MakesBy prepared m answer n → StepsBy m event answer n

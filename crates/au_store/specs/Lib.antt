@@ -2,5 +2,6 @@ pub mod Creating
 pub mod Opened
 pub mod Recovery
 pub mod Standing
+pub mod Starting
 pub mod Steps
 pub mod Stored

@@ -1,7 +1,10 @@
 -- What is kept on a disk: the frames that stand in its selected area, replayed from nothing.
-use Rattle.std.specs.Prelude.{◌≡◌, ⊤, ℕ, List, [], ◌∷◌, ◌++◌}
+use Rattle.std.specs.Prelude.{◌≡◌, ℕ, List, [], ◌∷◌}
+use Rattle.au_io.specs.declared.disk.Area.{Area}
 use Rattle.au_io.specs.Areas.{Areas}
 use Rattle.au_catalog.specs.declared.kept.Kept.{Kept}
+use Rattle.au_journal.specs.Frames.{Stands}
+use Rattle.au_journal.specs.Images.{In}
 use Rattle.rec_codec.specs.declared.frame.Frame.{Frame}
 use Rattle.rec_codec.specs.Frames.{IsFrame}
 use Rattle.au_engine.specs.Image.{nothing}
@@ -38,7 +41,15 @@ Replayed (body ∷ bodies) after = (first : Kept) × BeginsBy body first × Goes
 abbrev pub ReplayedTo : Kept → List (List ℕ) → Type 0
 ReplayedTo kept bodies = Replayed bodies kept
 
--- the selected area holds bodies that are replayed to what is kept
+-- the selected area holds bodies that are replayed to what is kept; it may end where they end
+pub record ReadsAs (kept : Kept) (all : Areas) : Type 0 where
+  pub area : Area
+  pub limit : ℕ
+  pub bodies : List (List ℕ)
+  pub held : In area (Stands limit bodies) all
+  pub so : Replayed bodies kept
+
+-- the same, and a closed gate stands behind the bodies
 abbrev pub RecoversTo : Kept → Areas → Type 0
 RecoversTo kept all = Holds (ReplayedTo kept) all
 

@@ -6,16 +6,15 @@ use Rattle.au_io.specs.Disk.{Meaning}
 use Rattle.au_io.specs.Moments.{Leaves}
 use Rattle.au_journal.specs.declared.doubt.Doubt.TheVariants.{Settled}
 use Rattle.au_journal.specs.declared.seat.Seat.{Seat}
-use Rattle.au_journal.specs.Frames.{Stands}
-use Rattle.au_journal.specs.Images.{In}
+use Rattle.au_journal.specs.Images.{In, StandsGated}
 use Rattle.au_journal.specs.Seats.{IsSettled, IsDoubted, IsSome}
 
--- the selected area holds bodies that have the property
+-- the selected area holds bodies that have the property, and a closed gate stands behind them
 pub record Holds (P : List (List ℕ) → Type 0) (all : Areas) : Type 0 where
   pub area : Area
   pub limit : ℕ
   pub bodies : List (List ℕ)
-  pub held : In area (Stands limit bodies) all
+  pub held : In area (StandsGated limit bodies) all
   pub so : P bodies
 
 -- it holds bodies that have the one property or the other

@@ -1,5 +1,5 @@
 -- What is seen of a store, and what is so of it between two calls.
-use Rattle.std.specs.Prelude.{◌≡◌, ℕ, Bool, true, false}
+use Rattle.std.specs.Prelude.{◌≡◌, ℕ, true, false}
 use Rattle.au_io.specs.Disk.{Meaning}
 use Rattle.au_journal.specs.declared.seat.Seat.{Seat}
 use Rattle.au_catalog.specs.declared.kept.Kept.{Kept}

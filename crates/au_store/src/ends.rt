@@ -1,8 +1,11 @@
 //! What is asked of a store between two steps, and its end.
-ghost use Rattle.std.specs.Prelude.{◌≡◌};
+ghost use Rattle.std.specs.Prelude.{◌≡◌, is_some};
 ghost use Rattle.au_catalog.specs.declared.kept.Kept.{Kept};
+ghost use Rattle.au_engine.specs.Abandoning.{abandoned};
+ghost use Rattle.au_engine.specs.Step.{session_of};
 
 use crate::Store;
+use au_base::ClientNo;
 use au_io::{Clock, Disk};
 
 impl<D: Disk, C: Clock> Store<D, C> {
@@ -13,6 +16,22 @@ impl<D: Disk, C: Clock> Store<D, C> {
         ensures { result ≡ self.now.reading }
     {
         self.reading
+    }
+
+    /// Whether the client has a session.
+    pub fn stands(&self, client: ClientNo) -> bool
+        ensures { result ≡ is_some (session_of self.now.state.sessions client) }
+    {
+        self.engine.stands(client)
+    }
+
+    /// Ends the client's session, where it has one: nothing else is changed, nothing is recorded and
+    /// nothing is written. It takes no memory and can't fail.
+    pub fn abandon(&mut self, client: ClientNo)
+        ensures state { self.new.state ≡ abandoned client self.old.state }
+        ensures same { (self.new.disk ≡ self.old.disk) × (self.new.seat ≡ self.old.seat) × (self.new.clock ≡ self.old.clock) × (self.new.reading ≡ self.old.reading) }
+    {
+        self.engine.abandon(client);
     }
 
     /// What a crash may leave between two calls: what is kept, or, where a step is in doubt, what is

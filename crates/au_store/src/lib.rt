@@ -4,11 +4,17 @@
 mod created;
 mod creating;
 mod ends;
+mod laws;
+mod open_fault;
+mod replaying;
+mod starting;
 mod stepping;
 mod store;
 mod writing;
 
 pub use created::Created;
+pub use laws::{one_cause, one_recovery};
+pub use open_fault::OpenFault;
 pub use store::Store;
 
 #[cfg(test)]

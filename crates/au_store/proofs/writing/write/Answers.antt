@@ -1,7 +1,7 @@
-use Rattle.std.proofs.Common.{◌≡◌, ◌++◌, ◌∷◌, [], List, ℕ, Some, false, inr, length, refl, sym, ◌∙◌}
+use Rattle.std.proofs.Common.{◌≡◌, inr, length, refl, sym, ◌∙◌}
 use Rattle.au_journal.specs.declared.appended.Appended.TheVariants as answer
 use Rattle.au_journal.specs.Journals.{disk_of, seat_of}
-use Rattle.au_journal.specs.Seats.{IsFullAt, needed_of}
+use Rattle.au_journal.specs.Seats.{needed_of}
 use Rattle.rec_codec.specs.Frames.{spelled}
 use Rattle.au_store.specs.Recovery.{ReplayedTo}
 use Rattle.au_store.proofs.Frames.{carried, carried_by, is_framed, replayed_push, spelled_some, within_limit}

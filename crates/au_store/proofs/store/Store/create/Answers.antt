@@ -1,5 +1,4 @@
-use Rattle.std.proofs.Common.{◌≡◌, List, ℕ}
-use Rattle.au_io.specs.Moments.{Leaves, LeavesSince}
+use Rattle.std.proofs.Common.{◌≡◌}
 use Rattle.rec_codec.specs.Frames.{framed, spelled}
 use Rattle.au_engine.specs.Image.{image_of}
 use Rattle.au_engine.specs.Opening.{opening}

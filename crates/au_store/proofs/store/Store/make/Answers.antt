@@ -1,10 +1,9 @@
-use Rattle.std.proofs.Common.{◌≡◌, List, ℕ, refl, sym, ◌∙◌, subst}
-use Rattle.au_base.specs.declared.reply.Said.TheVariants as said
+use Rattle.std.proofs.Common.{◌≡◌, sym, subst}
 use Rattle.au_journal.specs.declared.appended.Appended.TheVariants as answer
 use Rattle.au_engine.specs.Prepared.{after}
 use Rattle.au_engine.specs.State.{State}
 use Rattle.au_store.specs.Recovery.{ReplayedTo}
-use Rattle.au_store.specs.Stored.{IsKeptOn, IsStoodOn, IsSound}
+use Rattle.au_store.specs.Stored.{IsKeptOn, IsSound}
 use Rattle.au_store.proofs.Frames.{are_framed}
 use Rattle.au_store.proofs.Keeping.{settled_stands}
 use Rattle.au_store.proofs.Sound.{settled_sound}

@@ -1,5 +1,3 @@
-use Rattle.std.proofs.Common.{◌≡◌, List, ℕ}
-use Rattle.au_journal.specs.Journals.{disk_of, seat_of}
 use Rattle.au_store.specs.Recovery.{ReplayedTo}
 use Rattle.au_store.proofs.Keeping.{mended_kept, mending_since, still_stands}
 use Rattle.au_store.proofs.Sound.{mend_sound}

@@ -1,6 +1,4 @@
-use Rattle.std.proofs.Common.{◌≡◌, Option, IfOk, refl, sym, subst}
-use Rattle.rec_codec.specs.declared.frame.Frame.{Frame}
-use Rattle.au_engine.specs.declared.prepared.Prepared.{Prepared}
+use Rattle.std.proofs.Common.{IfOk, sym, subst}
 use Rattle.au_engine.specs.Framing.{Writes}
 use Rattle.au_engine.specs.Prepared.{after}
 use Rattle.au_engine.specs.Replaying.{EndsWell}

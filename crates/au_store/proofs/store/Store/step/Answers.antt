@@ -1,12 +1,11 @@
-use Rattle.std.proofs.Common.{◌≡◌, ◌≤◌, ◌+◌, inl, inr, ℕ, refl, sym, ◌∙◌, ap, subst, arith}
-use Rattle.au_base.specs.declared.reply.Said.TheVariants as said
+use Rattle.std.proofs.Common.{◌≡◌, inl, inr, ℕ, refl, sym, ◌∙◌, ap, subst, arith}
 use Rattle.au_io.specs.Moments.{LeavesSince, both_pass}
 use Rattle.au_journal.specs.declared.seat.Seat.{Seat}
 use Rattle.au_journal.specs.Seats.{mended}
 use Rattle.au_engine.specs.Prepared.{after}
 use Rattle.au_engine.specs.State.{State}
 use Rattle.au_store.specs.Recovery.{RecoversToEither}
-use Rattle.au_store.specs.Steps.{Exceeds, StepCause, StepCosts, StepDoubts, StepLeaves, StepMoves, StepsBy, append_cost, event_at}
+use Rattle.au_store.specs.Steps.{Exceeds, StepCause, StepCosts, StepDoubts, StepLeaves, StepMoves, StepsBy, event_at}
 use Rattle.au_store.proofs.Stepped.{exceeds_by, exceeds_from, kept_from, made_after, mend_leaves, moves_from, since_from, since_to, step_costs, step_leaves, step_moves, steps_by, time_from, written_from}
 use Rattle.au_store.proofs.store.Store.step.Goals as goal
 

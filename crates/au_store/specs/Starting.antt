@@ -1,0 +1,94 @@
+-- What opening a store does, by what it answers.
+use Rattle.std.specs.Prelude.{◌≡◌, ◌⊎◌, ◌≤◌, ◌<◌, ⊤, ℕ, ◌+◌, List, length, Result, Ok, Err}
+use Rattle.au_base.specs.declared.limits.TheConstants.{INSTANCES}
+use Rattle.au_catalog.specs.declared.kept.Kept.{Kept}
+use Rattle.au_io.specs.Areas.{Areas}
+use Rattle.au_io.specs.Disk.{Meaning}
+use Rattle.au_io.specs.Faults.{HasRisen}
+use Rattle.au_journal.specs.declared.mount_fault.MountFault.{MountFault}
+use Rattle.au_journal.specs.declared.mount_fault.MountFault.TheVariants as mount
+use Rattle.au_journal.specs.declared.seat.Seat.{Seat}
+use Rattle.au_journal.specs.Seats.{IsSettled}
+use Rattle.au_journal.specs.Walk.{IsDamaged, IsUnformatted, IsWalked}
+use Rattle.rec_codec.specs.Frames.{framed}
+use Rattle.au_engine.specs.Returning.{start_frame}
+use Rattle.au_engine.specs.State.{State, start}
+use Rattle.au_store.specs.declared.open_fault.OpenFault.{OpenFault}
+use Rattle.au_store.specs.declared.open_fault.OpenFault.TheVariants as fault
+use Rattle.au_store.specs.Opened.{IsBare, IsFrameDamage}
+use Rattle.au_store.specs.Recovery.{ReadsAs, RecoversToEither, Replayed}
+
+-- the walk is behind bodies that are replayed to what is kept, and end at that place
+pub record IsTaken (m : Meaning) (seat : Seat) (kept : Kept) (at : ℕ) : Type 0 where
+  pub bodies : List (List ℕ)
+  pub walked : IsWalked m seat bodies
+  pub so : Replayed bodies kept
+  pub place : at ≡ seat.used
+
+-- the walk has ended, and the journal stands for bodies that are replayed to what is kept
+pub record IsRead (m : Meaning) (seat : Seat) (kept : Kept) : Type 0 where
+  pub bodies : List (List ℕ)
+  pub settled : IsSettled m seat bodies
+  pub so : Replayed bodies kept
+
+-- a journal that can't be mounted or walked can't be opened, for the same reason
+abbrev pub fault_of : MountFault → OpenFault
+fault_of mount.Disk = fault.Disk
+fault_of mount.Unformatted = fault.Unformatted
+fault_of (mount.Damaged area at) = fault.Damaged area at
+
+-- what is said of the areas that couldn't be opened
+abbrev pub OpenSays : Areas → OpenFault → Type 0
+OpenSays all fault.Disk = ⊤
+OpenSays all fault.Unformatted = IsUnformatted all
+OpenSays all (fault.Damaged area at) = IsDamaged all area at ⊎ IsFrameDamage all area at
+OpenSays all fault.Worn = (kept : Kept) × ReadsAs kept all × (kept.instance ≡ INSTANCES)
+OpenSays all fault.Memory = ⊤
+
+-- the count of faults rose in the call where it answers that the disk failed, and nowhere else
+abbrev pub OpenCause : OpenFault → ℕ → ℕ → Type 0
+OpenCause fault.Disk before now = (before ≤ now) × HasRisen before now
+OpenCause fault.Unformatted before now = now ≡ before
+OpenCause (fault.Damaged area at) before now = now ≡ before
+OpenCause fault.Worn before now = now ≡ before
+OpenCause fault.Memory before now = now ≡ before
+
+-- the same of a walk, at which no fault is an answer too
+abbrev pub WalkMeets : {T : Type 0} → Result T OpenFault → ℕ → ℕ → Type 0
+WalkMeets (Ok value) before now = now ≡ before
+WalkMeets (Err why) before now = OpenCause why before now
+
+-- no image ends where its bodies end
+abbrev pub NoneIsBare : Meaning → Type 0
+NoneIsBare m = (c : Areas) → m.images c → IsBare c → ⊥
+
+-- at any moment a crash leaves an image from before, or one that recovers to what the disk reads as, or to the start over it
+abbrev pub OpenLeaves : Meaning → ℕ → Areas → Type 0
+OpenLeaves old reading all = old.images all ⊎ ((kept : Kept) × ReadsAs kept old.reads × RecoversToEither kept (start kept reading).kept all)
+
+-- at most the frame with which an instance begins is written, and two gates
+abbrev pub OpenCosts : ℕ → ℕ → Type 0
+OpenCosts before now = (kept : Kept) × (reading : ℕ) × (now ≤ before + length (framed (start_frame kept reading)) + 2)
+
+-- the state is that of the next instance, at this reading, over what the areas read as
+pub record IsOpened (all : Areas) (reading : ℕ) (m : State) : Type 0 where
+  pub kept : Kept
+  pub reads : ReadsAs kept all
+  pub fresh : kept.instance < INSTANCES
+  pub begins : m ≡ start kept reading
+
+-- an instance that can't begin over what is kept, for want of a number where that is said
+abbrev pub StartSays : Kept → OpenFault → Type 0
+StartSays kept fault.Disk = ⊤
+StartSays kept fault.Unformatted = ⊥
+StartSays kept (fault.Damaged area at) = ⊥
+StartSays kept fault.Worn = kept.instance ≡ INSTANCES
+StartSays kept fault.Memory = ⊤
+
+-- the bytes alone are why
+abbrev pub IsOfBytes : OpenFault → Type 0
+IsOfBytes fault.Disk = ⊥
+IsOfBytes fault.Unformatted = ⊤
+IsOfBytes (fault.Damaged area at) = ⊤
+IsOfBytes fault.Worn = ⊤
+IsOfBytes fault.Memory = ⊥

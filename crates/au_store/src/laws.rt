@@ -1,0 +1,31 @@
+//! Laws of what stands on a disk.
+ghost use Rattle.std.specs.Prelude.{◌≡◌, ℕ};
+ghost use Rattle.au_catalog.specs.declared.kept.Kept.{Kept};
+ghost use Rattle.au_io.specs.Areas.{Areas, IsBounded};
+ghost use Rattle.au_engine.specs.State.{State};
+ghost use Rattle.au_store.specs.declared.open_fault.OpenFault.{OpenFault};
+ghost use Rattle.au_store.specs.Opened.{IsBare};
+ghost use Rattle.au_store.specs.Recovery.{ReadsAs, RecoversTo};
+ghost use Rattle.au_store.specs.Starting.{IsOfBytes, IsOpened, OpenSays};
+
+use rec_codec::one_front;
+
+/// Areas read as one thing. Those that recover to what is kept read as it, and don't end where their
+/// bodies end: a store that is opened on them is safe from a crash at any moment.
+pub fn one_recovery()
+    ensures one { (all : Areas) (kept other : Kept) → IsBounded all → ReadsAs kept all → ReadsAs other all → kept ≡ other }
+    ensures reads { (all : Areas) (kept : Kept) → RecoversTo kept all → ReadsAs kept all }
+    ensures gated { (all : Areas) (kept : Kept) → IsBounded all → RecoversTo kept all → IsBare all → ⊥ }
+{
+    one_front();
+}
+
+/// The bytes of areas give one reason why a store on them can't be opened: that the selected one
+/// isn't formatted, its first damage, or that no number is left for another instance. They give none
+/// where a store is opened on them.
+pub fn one_cause()
+    ensures one { (all : Areas) (why other : OpenFault) → IsBounded all → OpenSays all why → OpenSays all other → IsOfBytes why → IsOfBytes other → why ≡ other }
+    ensures opened { (all : Areas) (why : OpenFault) (reading : ℕ) (m : State) → IsBounded all → IsOpened all reading m → OpenSays all why → IsOfBytes why → ⊥ }
+{
+    one_recovery();
+}
