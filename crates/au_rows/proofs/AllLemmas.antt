@@ -10,13 +10,13 @@ use Rattle.au_rows.specs.declared.ending.Ending.{Ending}
 use Rattle.au_rows.specs.declared.place.Place.{Place}
 use Rattle.au_rows.specs.declared.unsettled.Unsettled.{Unsettled}
 use Rattle.au_rows.specs.declared.version.Version.{Version}
-use Rattle.au_rows.specs.Ends.{EndedBefore, IfOwn, IsCovered, IsGone, KeptOrEnded, RowEnded, is_bare, is_clear, is_own, is_own_of, is_used_still}
+use Rattle.au_rows.specs.Ends.{EndedBefore, IsCovered, IsGone, KeptOrEnded, RowEnded, is_bare, is_clear, is_own, is_own_of, is_used_still}
 use Rattle.au_rows.specs.Held.{is_by, is_this}
 use Rattle.au_rows.specs.Kept.{change_names, is_owned, is_used, is_version, is_whole, owner_in, place_in, place_names, place_owner, place_shown, unsettled_others}
 use Rattle.au_rows.specs.Order.{in_order}
 use Rattle.au_rows.proofs.ChainLemmas.{slot-named}
 use Rattle.au_rows.proofs.EndLemmas.{frees-trans}
-use Rattle.au_rows.proofs.UsedLemmas.{bare-names, bare-unowned, not-vacant, or-left, or-right, some-before}
+use Rattle.au_rows.proofs.UsedLemmas.{bare-names, bare-unowned, not-vacant, or-left, some-before}
 
 abbrev owner_at : Option Place → Option ClientNo
 owner_at place = option_and_then place_owner place
@@ -71,9 +71,10 @@ ended-none e by changes places slots order whole covered = record {
 module _ (e : Ending) (by : ClientNo) (change : Unsettled) (rest changes : List Unsettled) (old mid new : List Place) (before during after : List (Option Version))
     (so_far : EndedBefore e by (change ∷ rest) changes old before mid during)
     (owned : is_owned old change ≡ true)
-    (gone : is_own by change ≡ true → IsGone change.slot (place_in change.table change.number new) after) where
-  step-own : is_own by change ≡ true → RowEnded e change.table change.number by mid during new after → EndedBefore e by rest changes old before new after
-  step-own own row = record {
+    (own : is_own by change ≡ true)
+    (gone : IsGone change.slot (place_in change.table change.number new) after) where
+  pub ended-step : RowEnded e change.table change.number by mid during new after → EndedBefore e by rest changes old before new after
+  ended-step row = record {
     order = row.order;
     whole = row.whole;
     left = λ h. row.left (so_far.left h);
@@ -112,7 +113,7 @@ module _ (e : Ending) (by : ClientNo) (change : Unsettled) (rest changes : List 
           go (inr same) = ap is_bare same.1 ∙ still (is_by by (owner_in change.table change.number old)) refl (so_far.others change.table change.number) same.0
 
       named : (slot : ℕ) → is_some (get_or after slot None) ≡ true → change_names slot change ≡ true → list_any (place_names slot) new ≡ true
-      named slot some names = go (subst (λ (o : Option ℕ). IsGone o (place_in change.table change.number new) after) (slot-named slot change.slot names) (gone own))
+      named slot some names = go (subst (λ (o : Option ℕ). IsGone o (place_in change.table change.number new) after) (slot-named slot change.slot names) gone)
         where
           go : (get_or after slot None ≡ None) ⊎ (is_clear (Some slot) (place_in change.table change.number new) ≡ false) → list_any (place_names slot) new ≡ true
           go (inl none) = absurd (not-vacant after slot some none)
@@ -180,57 +181,6 @@ module _ (e : Ending) (by : ClientNo) (change : Unsettled) (rest changes : List 
           here : (is_bare (place_in change.table change.number new) ≡ true) ⊎ ((is_by by (owner_in change.table change.number mid) ≡ false) × (place_in change.table change.number new ≡ place_in change.table change.number mid)) → ⊥
           here (inl none) = no-more (is_by by (owner_in t n new)) is (ap (λ (o : Option Place). is_by by (owner_at o)) at_new ∙ ap (is_by by) (bare-unowned (place_in change.table change.number new) none))
           here (inr same) = no-more (is_by by (owner_in t n new)) is (ap (λ (o : Option Place). is_by by (owner_at o)) (at_new ∙ same.1) ∙ same.0)
-
-  step-other : is_own by change ≡ false → new ≡ mid → after ≡ during → EndedBefore e by rest changes old before new after
-  step-other non places slots = subst (λ (ps : List Place). EndedBefore e by rest changes old before ps after) (sym places) (subst (λ (ss : List (Option Version)). EndedBefore e by rest changes old before mid ss) (sym slots) same)
-    where
-      same : EndedBefore e by rest changes old before mid during
-      same = record {
-        order = so_far.order;
-        whole = so_far.whole;
-        left = so_far.left;
-        open_tables = so_far.open_tables;
-        numbered = so_far.numbered;
-        rows = so_far.rows;
-        elsewhere = so_far.elsewhere;
-        frees = so_far.frees;
-        others = so_far.others;
-        ahead = λ t n is. ahead t n (so_far.ahead t n is);
-        shown = shown;
-        within = λ slot h. so_far.within slot (rw others_first (or-right (change_names slot change) (list_any (change_names slot) (filter (unsettled_others by) rest)) h));
-        used = λ all slot some. used slot (so_far.used all slot some);
-      }
-        where
-          others_first : filter (unsettled_others by) (change ∷ rest) ≡ change ∷ filter (unsettled_others by) rest
-          others_first = let others : unsettled_others by change ≡ true = grind (arith, common_steps) in rw others refl
-
-          used : (slot : ℕ) → is_used_still by (change ∷ rest) changes mid slot ≡ true → is_used_still by rest changes mid slot ≡ true
-          used slot h = go (change_names slot change) refl h
-            where
-              go : (c : Bool) → change_names slot change ≡ c
-                  → ((list_any (place_names slot) mid || (c || list_any (change_names slot) rest)) || list_any (change_names slot) (filter (unsettled_others by) changes)) ≡ true → is_used_still by rest changes mid slot ≡ true
-              go true f u =
-                  let other : list_any (change_names slot) (filter (unsettled_others by) changes) ≡ true = so_far.within slot (rw others_first (or-left (change_names slot change) (list_any (change_names slot) (filter (unsettled_others by) rest)) f)) in
-                  or-right (is_used mid rest slot) (list_any (change_names slot) (filter (unsettled_others by) changes)) other
-              go false f u = u
-
-          shown : count_by place_shown mid + count_by (is_own by) rest ≤ count_by place_shown old + count_by (is_own by) changes
-          shown =
-              let none = count-none (is_own by) change rest non in
-              let a = so_far.shown in omega arith
-
-          ahead : (t : ℕ) (n : RowNo) → list_any (is_own_of t n by) (change ∷ rest) ≡ true → list_any (is_own_of t n by) rest ≡ true
-          ahead t n some =
-              let not_own : is_own_of t n by change ≡ false = grind (arith, common_steps) in
-              let or : (is_own_of t n by change || list_any (is_own_of t n by) rest) ≡ true = some in
-              rw not_own at or
-
-  pub ended-step : IfOwn (is_own by change) e change.table change.number by mid during new after → EndedBefore e by rest changes old before new after
-  ended-step = go (is_own by change) refl
-    where
-      go : (b : Bool) → is_own by change ≡ b → IfOwn b e change.table change.number by mid during new after → EndedBefore e by rest changes old before new after
-      go true own row = step-own own row
-      go false non same = step-other non same.0 same.1
 
 pub drop-past : {X : Type 0} (xs : List X) (i : ℕ) → length xs ≤ i → drop i xs ≡ []
 drop-past [] i h = grind (arith, common_steps)

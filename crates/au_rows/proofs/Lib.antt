@@ -8,11 +8,13 @@ pub mod EndLemmas
 pub mod FoundLemmas
 pub mod IndexLemmas
 pub mod KeyLemmas
+pub mod LinkLemmas
 pub mod NumberLemmas
 pub mod OrderLemmas
 pub mod PutLemmas
 pub mod SoughtLemmas
 pub mod TableLemmas
+pub mod TakenLemmas
 pub mod UnderLemmas
 pub mod UsedLemmas
 pub mod ViewLemmas

@@ -329,14 +329,14 @@ open-there name tables h = named (get_or tables (number_of name tables) None) (p
 -- how much spare a call takes
 module _ (tables open_tables places rows versions changes taken : ℕ) where
   pub spare-put : (places' rows' versions' changes' taken' : ℕ)
-      → places ≤ places' → rows' ≤ rows + 1 → versions ≤ versions' + 1 → changes' ≡ changes → taken' ≤ taken + 2
+      → places ≤ places' → rows' ≤ rows + 1 → versions ≤ versions' + 1 → changes + taken' ≤ changes' + taken + 2
       → spare_of tables open_tables places rows versions changes taken ≤ spare_of tables open_tables places' rows' versions' changes' taken' + 1
-  spare-put places' rows' versions' changes' taken' a b c d e = omega arith
+  spare-put places' rows' versions' changes' taken' a b c d = omega arith
 
   pub spare-kept : (places' rows' versions' changes' taken' : ℕ)
-      → places ≤ places' → rows' ≤ rows → versions ≤ versions' → changes' ≡ changes → taken' ≤ taken
+      → places ≤ places' → rows' ≤ rows → versions ≤ versions' → changes + taken' ≤ changes' + taken
       → spare_of tables open_tables places rows versions changes taken ≤ spare_of tables open_tables places' rows' versions' changes' taken'
-  spare-kept places' rows' versions' changes' taken' a b c d e = omega arith
+  spare-kept places' rows' versions' changes' taken' a b c d = omega arith
 
   pub spare-rooms : 0 < spare_of tables open_tables places rows versions changes taken
       → (open_tables < tables) × (rows < places) × (0 < versions) × (taken + 2 ≤ changes)

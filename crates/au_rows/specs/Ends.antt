@@ -88,11 +88,6 @@ pub record RowEnded (ending : Ending) (table : ℕ) (number : RowNo) (by : Clien
   pub shown : count_by place_shown new ≤ count_by place_shown old + 1
   pub keeps : KeepsNames old new after
 
--- the changes of the client of one row have ended, or all is as it was
-abbrev pub IfOwn : Bool → Ending → ℕ → RowNo → ClientNo → List Place → List (Option Version) → List Place → List (Option Version) → Type 0
-IfOwn true ending table number by old before new after = RowEnded ending table number by old before new after
-IfOwn false ending table number by old before new after = (new ≡ old) × (after ≡ before)
-
 -- each row that the client owns has one of the client's changes
 abbrev pub IsCovered : ClientNo → List Place → List Unsettled → Type 0
 IsCovered by places changes = (t : ℕ) (n : RowNo) → is_by by (owner_in t n places) ≡ true → list_any (is_own_of t n by) changes ≡ true

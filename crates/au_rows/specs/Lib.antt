@@ -5,6 +5,7 @@ pub mod Ends
 pub mod Hash
 pub mod Held
 pub mod Kept
+pub mod Links
 pub mod Order
 pub mod Sought
 pub mod Spare

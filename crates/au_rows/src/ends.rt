@@ -1,12 +1,13 @@
 //! The end of a client's changes, row by row.
-ghost use Rattle.std.specs.Prelude.{◌≡◌, ◌≤◌, [], true, vec_len, vec_capacity};
+ghost use Rattle.std.specs.Prelude.{◌≡◌, ◌+◌, ◌≤◌, [], filter, length, true, vec_len, vec_capacity};
 ghost use Rattle.std.specs.List.{list_all};
 ghost use Rattle.au_rows.specs.Edits.{edited};
-ghost use Rattle.au_rows.specs.Ends.{EndedBefore, IfOwn, IsCovered, IsGone, RowEnded, SlotDropped, is_clear, is_loose, is_own};
-ghost use Rattle.au_rows.specs.Kept.{if_left, is_apart, is_logged, is_owned, is_whole, place_at, place_ended, place_from, place_in, slot_ended};
+ghost use Rattle.au_rows.specs.Ends.{EndedBefore, IsCovered, IsGone, RowEnded, SlotDropped, is_clear, is_loose};
+ghost use Rattle.au_rows.specs.Kept.{if_left, is_apart, is_logged, is_owned, is_whole, place_at, place_ended, place_from, place_in, slot_ended, unsettled_others};
 ghost use Rattle.au_rows.specs.Order.{in_order};
 ghost use Rattle.au_rows.specs.Stored.{Frees};
 
+use crate::changes::Changes;
 use crate::ending::Ending;
 use crate::place::Place;
 use crate::places::{erase, find, write};
@@ -138,7 +139,7 @@ fn drop_version(places: &[Place], versions: &mut Versions, change: Unsettled)
 }
 
 /// Ends the client's changes of the row of one of its changes, and lets the version of this change
-/// go where nothing names it. A change of another client stays.
+/// go where nothing names it.
 fn end_change(
     places: &mut Vec<Place>,
     versions: &mut Versions,
@@ -149,37 +150,37 @@ fn end_change(
     requires order { in_order places.old.items ≡ true }
     requires whole { list_all (is_whole versions.old.slots) places.old.items ≡ true }
     requires loose { is_loose versions.old.slots change ≡ true }
-    ensures gone { is_own by change ≡ true → IsGone change.slot (place_in change.table change.number places.new.items) versions.new.slots }
-    ensures row { IfOwn (is_own by change) ending change.table change.number by places.old.items versions.old.slots places.new.items versions.new.slots }
+    ensures gone { IsGone change.slot (place_in change.table change.number places.new.items) versions.new.slots }
+    ensures row { RowEnded ending change.table change.number by places.old.items versions.old.slots places.new.items versions.new.slots }
     ensures room { versions.old.room ≤ versions.new.room }
     ensures len { vec_len places.new ≤ vec_len places.old }
     ensures capacity { vec_capacity places.old ≤ vec_capacity places.new }
 {
-    if change.by.0 == by.0 {
-        end_row(places, versions, change, by, ending);
-        drop_version(places, versions, change);
-    }
+    end_row(places, versions, change, by, ending);
+    drop_version(places, versions, change);
 }
 
-/// Ends the client's changes.
+/// Ends the client's changes, the newest first.
 pub(crate) fn end_all(
     places: &mut Vec<Place>,
     versions: &mut Versions,
-    changes: &[Unsettled],
+    changes: &mut Changes,
     by: ClientNo,
     ending: Ending,
 )
     requires order { in_order places.old.items ≡ true }
     requires whole { list_all (is_whole versions.old.slots) places.old.items ≡ true }
-    requires logged { list_all (is_logged versions.old.slots) changes.now ≡ true }
-    requires owned { list_all (is_owned places.old.items) changes.now ≡ true }
-    requires covered { IsCovered by places.old.items changes.now }
-    ensures ended { EndedBefore ending by [] changes.now places.old.items versions.old.slots places.new.items versions.new.slots }
+    requires logged { list_all (is_logged versions.old.slots) changes.old.listed ≡ true }
+    requires owned { list_all (is_owned places.old.items) changes.old.listed ≡ true }
+    requires covered { IsCovered by places.old.items changes.old.listed }
+    ensures ended { EndedBefore ending by [] changes.old.listed places.old.items versions.old.slots places.new.items versions.new.slots }
+    ensures others { changes.new.listed ≡ filter (unsettled_others by) changes.old.listed }
     ensures room { versions.old.room ≤ versions.new.room }
     ensures len { vec_len places.new ≤ vec_len places.old }
     ensures capacity { vec_capacity places.old ≤ vec_capacity places.new }
+    ensures changes_room { changes.old.room + length changes.old.listed ≤ changes.new.room + length changes.new.listed }
 {
-    for change in changes {
-        end_change(places, versions, *change, by, ending);
+    while let Some(change) = changes.pop(by) {
+        end_change(places, versions, change, by, ending);
     }
 }

@@ -1,12 +1,14 @@
 //! Keys of rows.
-ghost use Rattle.std.specs.Prelude.{◌≡◌, ◌≢◌, ◌↔◌, [], IsTrue, Some, map, slice_get, true};
+ghost use Rattle.std.specs.Prelude.{◌≡◌, ◌≢◌, ◌↔◌, [], ◌∷◌, IsTrue, Some, map, slice_get, true};
 ghost use Rattle.std.specs.List.{list_all};
 ghost use Rattle.std.specs.Option.{option_copied};
 ghost use Rattle.au_rows.specs.Held.{HasKey, IsLocking, SomeLocks, settled_of};
-ghost use Rattle.au_rows.specs.Kept.{Sound, change_of, content_at, held_of, unsettled_elsewhere};
+ghost use Rattle.au_rows.specs.Kept.{Sound, change_of, content_at, held_of};
+ghost use Rattle.au_rows.specs.Links.{entry_elsewhere, live};
 ghost use Rattle.au_rows.specs.Order.{in_order};
 ghost use Rattle.au_rows.specs.Sought.{IsIndexedBy};
 
+use crate::entry::Entry;
 use crate::place::Place;
 use crate::places::find_settled;
 use crate::sought::Sought;
@@ -108,19 +110,34 @@ fn is_locking(places: &[Place], versions: &Versions, change: &Unsettled, asked: 
     has_committed_key(places, versions, change, asked)
 }
 
+fn is_locking_entry(
+    places: &[Place],
+    versions: &Versions,
+    entry: &Option<Entry>,
+    asked: &Asked<'_>,
+) -> bool
+    requires { in_order places.now ≡ true }
+    ensures { IsTrue result ↔ SomeLocks asked.now.places.now (map (held_of versions.now.slots) places.now) asked.now.table asked.now.key.now asked.now.by (map (change_of versions.now.slots) (live (entry.now ∷ []))) }
+{
+    match entry {
+        Some(entry) => is_locking(places, versions, &entry.change, asked),
+        None => false,
+    }
+}
+
 /// Whether an unsettled change of another client has the key as its old or new key, by a walk over
 /// the changes.
 fn locked_walk(
     places: &[Place],
     versions: &Versions,
-    changes: &[Unsettled],
+    entries: &[Option<Entry>],
     asked: &Asked<'_>,
 ) -> bool
     requires { in_order places.now ≡ true }
-    ensures { IsTrue result ↔ SomeLocks asked.now.places.now (map (held_of versions.now.slots) places.now) asked.now.table asked.now.key.now asked.now.by (map (change_of versions.now.slots) changes.now) }
+    ensures { IsTrue result ↔ SomeLocks asked.now.places.now (map (held_of versions.now.slots) places.now) asked.now.table asked.now.key.now asked.now.by (map (change_of versions.now.slots) (live entries.now)) }
 {
-    for change in changes {
-        if is_locking(places, versions, change, asked) {
+    for entry in entries {
+        if is_locking_entry(places, versions, entry, asked) {
             return true;
         }
     }
@@ -132,13 +149,13 @@ fn locked_walk(
 fn locked_index(
     places: &[Place],
     versions: &Versions,
-    changes: &[Unsettled],
+    entries: &[Option<Entry>],
     asked: &Asked<'_>,
 ) -> bool
-    requires sound { Sound places.now versions.now.slots changes.now }
+    requires sound { Sound places.now versions.now.slots (live entries.now) }
     requires indexed { IsIndexedBy asked.now.table asked.now.places.now versions.now.slots }
     requires keyed { asked.now.places.now ≢ [] }
-    ensures { IsTrue result ↔ SomeLocks asked.now.places.now (map (held_of versions.now.slots) places.now) asked.now.table asked.now.key.now asked.now.by (map (change_of versions.now.slots) changes.now) }
+    ensures { IsTrue result ↔ SomeLocks asked.now.places.now (map (held_of versions.now.slots) places.now) asked.now.table asked.now.key.now asked.now.by (map (change_of versions.now.slots) (live entries.now)) }
 {
     versions.find(places, asked, Sought::Locked).is_some()
 }
@@ -148,23 +165,32 @@ fn locked_index(
 pub(crate) fn is_locked(
     places: &[Place],
     versions: &Versions,
-    changes: &[Unsettled],
+    entries: &[Option<Entry>],
     asked: &Asked<'_>,
 ) -> bool
-    requires sound { Sound places.now versions.now.slots changes.now }
+    requires sound { Sound places.now versions.now.slots (live entries.now) }
     requires indexed { IsIndexedBy asked.now.table asked.now.places.now versions.now.slots }
-    ensures { IsTrue result ↔ SomeLocks asked.now.places.now (map (held_of versions.now.slots) places.now) asked.now.table asked.now.key.now asked.now.by (map (change_of versions.now.slots) changes.now) }
+    ensures { IsTrue result ↔ SomeLocks asked.now.places.now (map (held_of versions.now.slots) places.now) asked.now.table asked.now.key.now asked.now.by (map (change_of versions.now.slots) (live entries.now)) }
 {
     if asked.places.is_empty() {
-        locked_walk(places, versions, changes, asked)
+        locked_walk(places, versions, entries, asked)
     } else {
-        locked_index(places, versions, changes, asked)
+        locked_index(places, versions, entries, asked)
+    }
+}
+
+fn is_elsewhere(entry: &Option<Entry>, table: usize) -> bool
+    ensures { result ≡ entry_elsewhere table entry.now }
+{
+    match entry {
+        Some(entry) => entry.change.table != table,
+        None => true,
     }
 }
 
 /// Whether all changes are of rows of other tables.
-pub(crate) fn is_settled_in(changes: &[Unsettled], table: usize) -> bool
-    ensures { result ≡ list_all (unsettled_elsewhere table) changes.now }
+pub(crate) fn is_settled_in(entries: &[Option<Entry>], table: usize) -> bool
+    ensures { result ≡ list_all (entry_elsewhere table) entries.now }
 {
-    changes.iter().all(|change| change.table != table)
+    entries.iter().all(|entry| is_elsewhere(entry, table))
 }

@@ -2,12 +2,15 @@
 #![tactic(auto)]
 
 mod chains;
+mod changes;
 mod closing;
 mod dropping;
 mod ending;
 mod ends;
+mod entry;
 mod hash;
 mod keys;
+mod links;
 mod node;
 mod numbers;
 mod place;

@@ -7,6 +7,7 @@ ghost use Rattle.au_base.specs.declared.numbers.RowNo.{RowNo};
 ghost use Rattle.au_rows.specs.Held.{Agrees, IsLocked, IsOpen, IsUnder, changes_of_others, is_elsewhere, is_free_for, is_of, is_of_other, largest_of, lent, next_of, number_of, owner_of, seen_at, settled_by, undone_by, view_of, with_table};
 ghost use Rattle.au_rows.specs.Calls.{after_mark, after_put};
 
+use crate::changes::Changes;
 use crate::closing::end_changes;
 use crate::dropping::drop_rows;
 use crate::ending::Ending;
@@ -33,7 +34,7 @@ use std::marker::Model;
 pub struct Rows {
     tables: Vec<Option<Table>>,
     places: Vec<Place>,
-    unsettled: Vec<Unsettled>,
+    unsettled: Changes,
     versions: Versions,
 }
 
@@ -42,14 +43,14 @@ impl Model for Rows {
 
     ghost Value = { Contents };
 
-    ghost use Rattle.std.specs.Prelude.{◌≡◌, ◌+◌, ◌≤◌, true, map, vec_len, vec_capacity};
+    ghost use Rattle.std.specs.Prelude.{◌≡◌, ◌≤◌, true, map, vec_len, vec_capacity};
     ghost use Rattle.std.specs.List.{count_by, list_all};
     ghost use Rattle.au_rows.specs.Kept.{IsIndexed, Sound, change_of, held_of, place_open, place_shown};
     ghost use Rattle.au_rows.specs.Spare.{spare_of};
 
-    ghost view = { λ r. record { tables = r.tables.items; held = map (held_of r.versions.slots) r.places.items; changes = map (change_of r.versions.slots) r.unsettled.items; spare = spare_of (vec_capacity r.tables) (vec_len r.tables) (vec_capacity r.places) (vec_len r.places) r.versions.room (vec_capacity r.unsettled) (vec_len r.unsettled + count_by place_shown r.places.items) } };
+    ghost view = { λ r. record { tables = r.tables.items; held = map (held_of r.versions.slots) r.places.items; changes = map (change_of r.versions.slots) r.unsettled.listed; spare = spare_of (vec_capacity r.tables) (vec_len r.tables) (vec_capacity r.places) (vec_len r.places) r.versions.room r.unsettled.room (count_by place_shown r.places.items) } };
 
-    ghost invariant = { λ r. Sound r.places.items r.versions.slots r.unsettled.items × (list_all (place_open r.tables.items) r.places.items ≡ true) × (vec_len r.unsettled + count_by place_shown r.places.items ≤ vec_capacity r.unsettled) × IsIndexed r.tables.items r.versions.slots };
+    ghost invariant = { λ r. Sound r.places.items r.versions.slots r.unsettled.listed × (list_all (place_open r.tables.items) r.places.items ≡ true) × (count_by place_shown r.places.items ≤ r.unsettled.room) × IsIndexed r.tables.items r.versions.slots };
 }
 
 impl Rows {
@@ -60,7 +61,7 @@ impl Rows {
         Ok(Rows {
             tables: Vec::new(alloc),
             places: Vec::new(alloc),
-            unsettled: Vec::new(alloc),
+            unsettled: Changes::new(alloc),
             versions: Versions::new(alloc),
         })
     }
@@ -127,7 +128,7 @@ impl Rows {
             hash,
         });
         own(&mut self.places, table, row, by, Some(slot));
-        self.unsettled.push_reserved(Unsettled {
+        self.unsettled.push(Unsettled {
             by,
             table,
             number: row,
@@ -144,7 +145,7 @@ impl Rows {
     {
         let table = number_of(&self.tables, table);
         own(&mut self.places, table, row, by, None);
-        self.unsettled.push_reserved(Unsettled {
+        self.unsettled.push(Unsettled {
             by,
             table,
             number: row,
@@ -195,7 +196,12 @@ impl Rows {
             key,
             by,
         };
-        is_locked(&self.places, &self.versions, &self.unsettled, &asked)
+        is_locked(
+            &self.places,
+            &self.versions,
+            self.unsettled.entries(),
+            &asked,
+        )
     }
 
     /// The client with an unsettled change of the row. `None` exactly where there is none.
@@ -236,7 +242,7 @@ impl Rows {
         ensures owners { IsTrue result → (row : RowNo) → owner_of (number_of table.now self.now.tables) row self.now.held ≡ None }
     {
         let table = number_of(&self.tables, table);
-        is_settled_in(&self.unsettled, table)
+        is_settled_in(self.unsettled.entries(), table)
     }
 
     /// A row of the table that the client sees and that has this key. `None` exactly where there

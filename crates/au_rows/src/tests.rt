@@ -35,7 +35,7 @@ struct Case {
     under: &'static [(i64, u32)],
 }
 
-const CASES: [Case; 12] = [
+const CASES: [Case; 15] = [
     Case {
         steps: &[Put(1, 1, 5), Undo(1)],
         first: &[],
@@ -129,6 +129,59 @@ const CASES: [Case; 12] = [
         locked: &[7, 8],
         free: &[5, 6],
         under: &[(5, 1), (6, 0), (7, 0), (8, 0)],
+    },
+    // three clients in turn, of which one settles and one undoes
+    Case {
+        steps: &[
+            Put(1, 1, 1),
+            Put(2, 2, 2),
+            Put(3, 3, 3),
+            Put(1, 1, 4),
+            Put(2, 5, 5),
+            Put(3, 3, 6),
+            Settle(2),
+            Undo(3),
+        ],
+        first: &[(1, 4), (2, 2), (5, 5)],
+        second: &[(2, 2), (5, 5)],
+        locked: &[],
+        free: &[1, 2, 3, 4, 5, 6],
+        under: &[(1, 0), (2, 2), (3, 0), (4, 1), (5, 5)],
+    },
+    // a client that has settled changes rows again between others' changes
+    Case {
+        steps: &[
+            Put(2, 2, 2),
+            Put(3, 3, 3),
+            Settle(2),
+            Put(2, 2, 7),
+            Put(3, 4, 4),
+            Put(2, 5, 5),
+            Undo(3),
+            Put(3, 3, 8),
+            Undo(2),
+        ],
+        first: &[(2, 2)],
+        second: &[(2, 2)],
+        locked: &[8],
+        free: &[2, 3, 4, 5, 7],
+        under: &[(2, 2), (7, 0), (8, 0)],
+    },
+    // a client without changes settles and undoes beside others
+    Case {
+        steps: &[
+            Put(2, 2, 2),
+            Settle(3),
+            Undo(1),
+            Put(3, 3, 3),
+            Settle(1),
+            Settle(2),
+        ],
+        first: &[(2, 2)],
+        second: &[(2, 2)],
+        locked: &[3],
+        free: &[2],
+        under: &[(2, 2), (3, 0)],
     },
     // changes over the client's own changes go away together
     Case {
@@ -387,5 +440,33 @@ fn a_number_and_its_negative_are_indexed_together(rt: HostRuntime) -> Result<(),
     let five = key_hash(0, &[Cell::Num(5)]);
     assert_eq!(rt; five, key_hash(0, &[Cell::Num(-5)]));
     assert!(rt; five != key_hash(1, &[Cell::Num(5)]));
+    Ok(())
+}
+
+// marks row 1 as one client and row 3 as another, and lets both go, many times
+fn marks_go(rows: &mut Rows, table: &TableName) -> bool {
+    for _turn in 0..50 {
+        if !mark(rows, table, ClientNo(3), RowNo(1)) {
+            return false;
+        }
+        if !mark(rows, table, ClientNo(4), RowNo(3)) {
+            return false;
+        }
+        rows.undo(ClientNo(3));
+        rows.undo(ClientNo(4));
+    }
+    true
+}
+
+#[test]
+fn marks_that_go_away_leave_room_for_others(rt: HostRuntime) -> Result<(), Fail> {
+    let alloc = rt.alloc();
+    let table = table_name(alloc)?;
+    let mut rows = some_rows(alloc, &table)?;
+    assert!(rt; marks_go(&mut rows, &table));
+    assert!(rt; sees(&rows, alloc, &table, ClientNo(3), &[(1, 5), (3, 7)])?);
+    assert!(rt; sees(&rows, alloc, &table, ClientNo(2), &[(1, 5), (3, 7), (4, 9)])?);
+    rows.settle(ClientNo(2));
+    assert!(rt; sees(&rows, alloc, &table, ClientNo(1), &[(1, 5), (3, 7), (4, 9)])?);
     Ok(())
 }

@@ -1,4 +1,4 @@
-use Rattle.std.proofs.Common.{◌≡◌, ◌∙◌, ℕ, ap, sym, filter, length, map, set, subst, None, refl, arith}
+use Rattle.std.proofs.Common.{◌≡◌, ◌∙◌, ℕ, ap, sym, filter, length, map, set, subst, None, arith}
 use Rattle.std.specs.List.{count_by}
 use Rattle.au_base.specs.declared.numbers.RowNo.{RowNo}
 use Rattle.au_rows.specs.Held.{is_elsewhere, number_of, owner_of}
@@ -17,11 +17,11 @@ invariant_of-self c =
     let fewer = count-filter place_shown (place_elsewhere c.number_of-table.result) places in
     let room = c.self.invariant.2 in
     rw c.drop_rows.ensures.items (
-      gone-sound c.number_of-table.result c.self.inside.versions.slots c.drop_rows.new.versions.slots c.drop_rows.ensures.others places c.self.inside.unsettled.items c.self.invariant.0 settled_here c.drop_rows.ensures.frees c.drop_rows.ensures.freed,
+      gone-sound c.number_of-table.result c.self.inside.versions.slots c.drop_rows.new.versions.slots c.drop_rows.ensures.others places c.self.inside.unsettled.listed c.self.invariant.0 settled_here c.drop_rows.ensures.frees c.drop_rows.ensures.freed,
       gone-open c.number_of-table.result c.self.inside.tables.items places c.self.invariant.1,
       omega arith,
-      indexed-gone c.number_of-table.result c.self.inside.tables.items (filter (place_elsewhere c.number_of-table.result) places) c.self.inside.versions.slots c.drop_rows.new.versions.slots c.self.inside.unsettled.items
-          (gone-sound c.number_of-table.result c.self.inside.versions.slots c.drop_rows.new.versions.slots c.drop_rows.ensures.others places c.self.inside.unsettled.items c.self.invariant.0 settled_here c.drop_rows.ensures.frees c.drop_rows.ensures.freed)
+      indexed-gone c.number_of-table.result c.self.inside.tables.items (filter (place_elsewhere c.number_of-table.result) places) c.self.inside.versions.slots c.drop_rows.new.versions.slots c.self.inside.unsettled.listed
+          (gone-sound c.number_of-table.result c.self.inside.versions.slots c.drop_rows.new.versions.slots c.drop_rows.ensures.others places c.self.inside.unsettled.listed c.self.invariant.0 settled_here c.drop_rows.ensures.frees c.drop_rows.ensures.freed)
           (gone-open c.number_of-table.result c.self.inside.tables.items places c.self.invariant.1) c.drop_rows.ensures.frees c.self.invariant.3,
     )
 
@@ -37,7 +37,7 @@ returns-clause-rest c =
     (ap (map (held_of c.drop_rows.new.versions.slots)) c.drop_rows.ensures.items
     ∙ (gone-held c.number_of-table.result c.self.inside.versions.slots c.drop_rows.new.versions.slots c.drop_rows.ensures.others places sound.whole
     ∙ ap (λ (t : ℕ). filter (is_elsewhere t) (map (held_of c.self.inside.versions.slots) places)) (sym is)))
-    (gone-changes c.number_of-table.result c.self.inside.versions.slots c.drop_rows.new.versions.slots c.drop_rows.ensures.others places c.self.inside.unsettled.items sound settled_here c.drop_rows.ensures.frees c.drop_rows.ensures.freed))
+    (gone-changes c.number_of-table.result c.self.inside.versions.slots c.drop_rows.new.versions.slots c.drop_rows.ensures.others places c.self.inside.unsettled.listed sound settled_here c.drop_rows.ensures.frees c.drop_rows.ensures.freed))
 
 pub returns-clause-spare : goal.returns-clause-spare
 returns-clause-spare c =
@@ -46,4 +46,4 @@ returns-clause-spare c =
     let counted = ap (count_by place_shown) c.drop_rows.ensures.items in
     let short = shorter (place_elsewhere c.number_of-table.result) places in
     let kept = ap length c.drop_rows.ensures.items in
-    rw (← c.self.view_is) (spare-kept _ _ _ _ _ _ _ _ _ _ _ _ (omega arith) (omega arith) c.drop_rows.ensures.room refl (omega arith))
+    rw (← c.self.view_is) (spare-kept _ _ _ _ _ _ _ _ _ _ _ _ (omega arith) (omega arith) c.drop_rows.ensures.room (omega arith))

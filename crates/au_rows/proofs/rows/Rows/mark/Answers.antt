@@ -14,17 +14,17 @@ own-requires-clause-room c =
     let free = rw (← c.self.view_is) at c.requires.free in
     let seen_here = subst (λ (t : ℕ). IsSome (seen_at t c.args.row c.args.by (map (held_of c.self.inside.versions.slots) c.self.inside.places.items))) is seen in
     let free_here = subst (λ (t : ℕ). is_free_for c.args.by (owner_of t c.args.row (map (held_of c.self.inside.versions.slots) c.self.inside.places.items)) ≡ true) is free in
-    λ none. absurd (mark-room c.self.inside.versions.slots c.number_of-table.result c.args.row c.args.by c.self.inside.places.items c.self.inside.unsettled.items c.self.invariant.0 seen_here free_here none)
+    λ none. absurd (mark-room c.self.inside.versions.slots c.number_of-table.result c.args.row c.args.by c.self.inside.places.items c.self.inside.unsettled.listed c.self.invariant.0 seen_here free_here none)
 
-pub push_reserved-requires : goal.push_reserved-requires
-push_reserved-requires c =
+pub push-requires : goal.push-requires
+push-requires c =
     let tables = c.self.inside.tables.items in
     let is : number_of c.args.table.now tables ≡ c.number_of-table.result = sym (c.number_of-table.ensures.number ∙ ap (number_of c.args.table.now) c.deref.ensures.value) in
     let seen = rw (← c.self.view_is) at c.requires.seen in
     let free = rw (← c.self.view_is) at c.requires.free in
     let seen_here = subst (λ (t : ℕ). IsSome (seen_at t c.args.row c.args.by (map (held_of c.self.inside.versions.slots) c.self.inside.places.items))) is seen in
     let free_here = subst (λ (t : ℕ). is_free_for c.args.by (owner_of t c.args.row (map (held_of c.self.inside.versions.slots) c.self.inside.places.items)) ≡ true) is free in
-    let taken = mark-taken c.self.inside.versions.slots c.number_of-table.result c.args.row c.args.by c.self.inside.places.items c.self.inside.unsettled.items c.self.invariant.0 seen_here free_here in
+    let taken = mark-taken c.self.inside.versions.slots c.number_of-table.result c.args.row c.args.by c.self.inside.places.items c.self.inside.unsettled.listed c.self.invariant.0 seen_here free_here in
     let room = c.self.invariant.2 in
     omega arith
 
@@ -36,12 +36,12 @@ invariant_of-self c =
     let free = rw (← c.self.view_is) at c.requires.free in
     let seen_here = subst (λ (t : ℕ). IsSome (seen_at t c.args.row c.args.by (map (held_of c.self.inside.versions.slots) c.self.inside.places.items))) is seen in
     let free_here = subst (λ (t : ℕ). is_free_for c.args.by (owner_of t c.args.row (map (held_of c.self.inside.versions.slots) c.self.inside.places.items)) ≡ true) is free in
-    let taken = mark-taken c.self.inside.versions.slots c.number_of-table.result c.args.row c.args.by c.self.inside.places.items c.self.inside.unsettled.items c.self.invariant.0 seen_here free_here in
+    let taken = mark-taken c.self.inside.versions.slots c.number_of-table.result c.args.row c.args.by c.self.inside.places.items c.self.inside.unsettled.listed c.self.invariant.0 seen_here free_here in
     let room = c.self.invariant.2 in
-    rw (c.own.ensures.items, c.push_reserved.ensures.items) (
-      mark-sound c.self.inside.versions.slots c.number_of-table.result c.args.row c.args.by c.self.inside.places.items c.self.inside.unsettled.items c.self.invariant.0 seen_here free_here,
+    rw (c.own.ensures.items, c.push.ensures.listed) (
+      mark-sound c.self.inside.versions.slots c.number_of-table.result c.args.row c.args.by c.self.inside.places.items c.self.inside.unsettled.listed c.self.invariant.0 seen_here free_here,
       own-open tables c.number_of-table.result c.args.row c.args.by None c.self.inside.places.items
-          (mark-open c.self.inside.versions.slots c.number_of-table.result c.args.row c.args.by c.self.inside.places.items c.self.inside.unsettled.items c.self.invariant.0 seen_here free_here tables c.self.invariant.1) c.self.invariant.1,
+          (mark-open c.self.inside.versions.slots c.number_of-table.result c.args.row c.args.by c.self.inside.places.items c.self.inside.unsettled.listed c.self.invariant.0 seen_here free_here tables c.self.invariant.1) c.self.invariant.1,
       omega arith,
       c.self.invariant.3,
     )
@@ -58,9 +58,9 @@ returns-clause-rest c =
     (ap (map (held_of c.self.inside.versions.slots)) c.own.ensures.items
     ∙ (held-mark c.self.inside.versions.slots c.number_of-table.result c.args.row c.args.by c.self.inside.places.items
     ∙ ap (λ (t : ℕ). with_row t c.args.row c.args.by None (map (held_of c.self.inside.versions.slots) c.self.inside.places.items)) (sym is)))
-    (ap (map (change_of c.self.inside.versions.slots)) c.push_reserved.ensures.items
-    ∙ (mark-changes c.self.inside.versions.slots c.number_of-table.result c.args.row c.args.by c.self.inside.places.items c.self.inside.unsettled.items c.self.invariant.0 seen_here free_here
-    ∙ ap (λ (t : ℕ). map (change_of c.self.inside.versions.slots) c.self.inside.unsettled.items ++ (let change : Change = record { by = c.args.by; table = t; number = c.args.row; content = None } in change) ∷ []) (sym is))))
+    (ap (map (change_of c.self.inside.versions.slots)) c.push.ensures.listed
+    ∙ (mark-changes c.self.inside.versions.slots c.number_of-table.result c.args.row c.args.by c.self.inside.places.items c.self.inside.unsettled.listed c.self.invariant.0 seen_here free_here
+    ∙ ap (λ (t : ℕ). map (change_of c.self.inside.versions.slots) c.self.inside.unsettled.listed ++ (let change : Change = record { by = c.args.by; table = t; number = c.args.row; content = None } in change) ∷ []) (sym is))))
 
 pub returns-clause-spare : goal.returns-clause-spare
 returns-clause-spare c =
@@ -70,8 +70,8 @@ returns-clause-spare c =
     let free = rw (← c.self.view_is) at c.requires.free in
     let seen_here = subst (λ (t : ℕ). IsSome (seen_at t c.args.row c.args.by (map (held_of c.self.inside.versions.slots) c.self.inside.places.items))) is seen in
     let free_here = subst (λ (t : ℕ). is_free_for c.args.by (owner_of t c.args.row (map (held_of c.self.inside.versions.slots) c.self.inside.places.items)) ≡ true) is free in
-    let taken = mark-taken c.self.inside.versions.slots c.number_of-table.result c.args.row c.args.by c.self.inside.places.items c.self.inside.unsettled.items c.self.invariant.0 seen_here free_here in
-    let there = mark-place c.self.inside.versions.slots c.number_of-table.result c.args.row c.args.by c.self.inside.places.items c.self.inside.unsettled.items c.self.invariant.0 seen_here free_here in
+    let taken = mark-taken c.self.inside.versions.slots c.number_of-table.result c.args.row c.args.by c.self.inside.places.items c.self.inside.unsettled.listed c.self.invariant.0 seen_here free_here in
+    let there = mark-place c.self.inside.versions.slots c.number_of-table.result c.args.row c.args.by c.self.inside.places.items c.self.inside.unsettled.listed c.self.invariant.0 seen_here free_here in
     let counted = ap (count_by place_shown) c.own.ensures.items in
     let stays = c.own.ensures.in_place there in
-    rw (← c.self.view_is) (spare-kept _ _ _ _ _ _ _ _ _ _ _ _ c.own.ensures.capacity (omega arith) (omega arith) c.push_reserved.ensures.capacity (omega arith))
+    rw (← c.self.view_is) (spare-kept _ _ _ _ _ _ _ _ _ _ _ _ c.own.ensures.capacity (omega arith) (omega arith) (omega arith))

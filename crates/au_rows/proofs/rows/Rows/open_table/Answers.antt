@@ -12,7 +12,7 @@ invariant_of-self c =
       c.self.invariant.0,
       all-open c.self.inside.tables.items (record { name = c.args.table; key = c.from_vec-key.result }) c.self.inside.places.items c.self.invariant.1,
       c.self.invariant.2,
-      indexed-open c.self.inside.tables.items (record { name = c.args.table; key = c.from_vec-key.result }) c.self.inside.places.items c.self.inside.versions.slots c.self.inside.unsettled.items c.self.invariant.0 c.self.invariant.1 c.self.invariant.3,
+      indexed-open c.self.inside.tables.items (record { name = c.args.table; key = c.from_vec-key.result }) c.self.inside.places.items c.self.inside.versions.slots c.self.inside.unsettled.listed c.self.invariant.0 c.self.invariant.1 c.self.invariant.3,
     )
 
 pub returns-clause-empty : goal.returns-clause-empty

@@ -22,8 +22,8 @@ invariant_of-self c =
     let key : c.key_of.result.now ≡ key_of c.number_of-table.result tables = c.key_of.ensures ∙ ap (key_of c.number_of-table.result) c.deref-2.ensures.value in
     let hash : c.version_hash-hash.result ≡ version_hash c.number_of-table.result c.args.row.0 (key_of c.number_of-table.result tables) c.args.cells.items =
     c.version_hash-hash.ensures ∙ ap₂ (version_hash c.number_of-table.result c.args.row.0) key c.deref-3.ensures.value in
-    rw (c.own.ensures.items, c.push_reserved.ensures.items) (
-      put-sound c.self.inside.versions.slots c.insert-slot.new.self.slots c.insert-slot.result c.args.cells.items c.version_hash-hash.result c.number_of-table.result c.args.row puts c.args.by places c.self.inside.unsettled.items c.self.invariant.0 c.requires.numbered
+    rw (c.own.ensures.items, c.push.ensures.listed) (
+      put-sound c.self.inside.versions.slots c.insert-slot.new.self.slots c.insert-slot.result c.args.cells.items c.version_hash-hash.result c.number_of-table.result c.args.row puts c.args.by places c.self.inside.unsettled.listed c.self.invariant.0 c.requires.numbered
           (ap (λ (t : ℕ). is_free_for c.args.by (owner_of t c.args.row (map (held_of c.self.inside.versions.slots) places))) is ∙ free),
       own-open tables c.number_of-table.result c.args.row c.args.by (Some c.insert-slot.result) places
           (ap (λ (t : ℕ). is_some (get_or tables t None)) is ∙ open-there c.args.table.now tables open_table) c.self.invariant.1,
@@ -39,14 +39,14 @@ returns-clause-rest c =
     let puts = subst (λ (x : List Cell). Puts c.self.inside.versions.slots c.insert-slot.new.self.slots c.insert-slot.result (record { table = c.number_of-table.result; number = c.args.row; cells = x; hash = c.version_hash-hash.result })) c.from_vec.ensures c.insert-slot.ensures.puts in
     rw (← c.self.view_is) (same-contents tables _ _ _ _ _
     (ap (map (held_of c.insert-slot.new.self.slots)) c.own.ensures.items
-    ∙ (put-held c.self.inside.versions.slots c.insert-slot.new.self.slots c.insert-slot.result c.args.cells.items c.version_hash-hash.result c.number_of-table.result c.args.row puts c.args.by places c.self.inside.unsettled.items c.self.invariant.0
+    ∙ (put-held c.self.inside.versions.slots c.insert-slot.new.self.slots c.insert-slot.result c.args.cells.items c.version_hash-hash.result c.number_of-table.result c.args.row puts c.args.by places c.self.inside.unsettled.listed c.self.invariant.0
     ∙ ap (λ (t : ℕ). with_row t c.args.row c.args.by (Some c.args.cells.items) (map (held_of c.self.inside.versions.slots) places)) is))
-    (ap (map (change_of c.insert-slot.new.self.slots)) c.push_reserved.ensures.items
-    ∙ (put-changes c.self.inside.versions.slots c.insert-slot.new.self.slots c.insert-slot.result c.args.cells.items c.version_hash-hash.result c.number_of-table.result c.args.row puts c.args.by places c.self.inside.unsettled.items c.self.invariant.0
-    ∙ ap (λ (t : ℕ). map (change_of c.self.inside.versions.slots) c.self.inside.unsettled.items ++ (let change : Change = record { by = c.args.by; table = t; number = c.args.row; content = Some c.args.cells.items } in change) ∷ []) is)))
+    (ap (map (change_of c.insert-slot.new.self.slots)) c.push.ensures.listed
+    ∙ (put-changes c.self.inside.versions.slots c.insert-slot.new.self.slots c.insert-slot.result c.args.cells.items c.version_hash-hash.result c.number_of-table.result c.args.row puts c.args.by places c.self.inside.unsettled.listed c.self.invariant.0
+    ∙ ap (λ (t : ℕ). map (change_of c.self.inside.versions.slots) c.self.inside.unsettled.listed ++ (let change : Change = record { by = c.args.by; table = t; number = c.args.row; content = Some c.args.cells.items } in change) ∷ []) is)))
 
 pub returns-clause-spare : goal.returns-clause-spare
 returns-clause-spare c =
     let shown = own-shown c.number_of-table.result c.args.row c.args.by (Some c.insert-slot.result) c.self.inside.places.items in
     let counted = ap (count_by place_shown) c.own.ensures.items in
-    rw (← c.self.view_is) (spare-put _ _ _ _ _ _ _ _ _ _ _ _ c.own.ensures.capacity c.own.ensures.len c.insert-slot.ensures.room c.push_reserved.ensures.capacity (omega arith))
+    rw (← c.self.view_is) (spare-put _ _ _ _ _ _ _ _ _ _ _ _ c.own.ensures.capacity c.own.ensures.len c.insert-slot.ensures.room (omega arith))

@@ -1,0 +1,11 @@
+//! Changes of open transactions, as they are kept.
+
+use crate::unsettled::Unsettled;
+
+/// A change of an open transaction. The changes of one client are a chain.
+#[derive(Clone, Copy, Debug)]
+pub struct Entry {
+    pub change: Unsettled,
+    /// Where the client's change before it is kept.
+    pub below: Option<usize>,
+}
