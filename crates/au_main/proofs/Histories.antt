@@ -1,23 +1,27 @@
 -- Histories, and runs over lines, that go on by one.
-use Rattle.std.proofs.Common.{◌≡◌, ℕ, List, [], ◌∷◌, ◌++◌, map, refl, sym, ap, ◌∙◌, subst, append-nil}
-use Rattle.std.specs.Prelude.{Option, Some, None, flat_map, codes}
+use Rattle.std.proofs.Common.{◌≡◌, ℕ, List, [], ◌∷◌, ◌++◌, refl, sym, ap, ◌∙◌, subst, append-nil}
+use Rattle.std.specs.Prelude.{Option, Some, None, flat_map}
 use Rattle.std.specs.List.{AllByRecursion, AllZip}
 use Rattle.std.proofs.lemmas.List.{map-append}
 use Rattle.std.proofs.lemmas.List.Concat.{flat_map-append}
 use Rattle.au_base.specs.declared.ask.Ask.{Ask}
-use Rattle.au_base.specs.declared.numbers.ClientNo.{ClientNo}
 use Rattle.au_base.specs.declared.reply.Reply.{Reply}
-use Rattle.au_base.specs.declared.reply.Said.{Said}
 use Rattle.au_base.specs.declared.reply.Said.TheVariants.{Replied, Disk, Full, Memory}
+use Rattle.au_io.specs.Moments.{CountsNow, OnlyNow}
 use Rattle.au_io.specs.Time.{Ticking, Reads, after_reading}
+use Rattle.au_journal.specs.declared.doubt.Doubt.TheVariants.{Settled}
 use Rattle.au_engine.specs.State.{State}
 use Rattle.au_engine.specs.Step.{Event, Step}
-use Rattle.au_engine.specs.History.{Run, AreSteps, IsHistory, Opened, stepped, entries_of}
+use Rattle.au_engine.specs.History.{Entry, Run, AreSteps, stepped, entries_of}
 use Rattle.au_script.specs.declared.lines.ScriptLine.{ScriptLine}
 use Rattle.au_script.specs.declared.lines.ScriptLine.TheVariants as line
-use Rattle.au_main.specs.Answers.{Answer, Answers, Does, IsSaid, ReadAll, SaysTo, Serves, asks_of, line_of, steps_of, steps_said, texts}
+use Rattle.au_store.specs.Stored.{Stored, IsKeptOn}
+use Rattle.au_main.specs.Answers.{Answer, Made, Unmended, Goes, GoesOver, Place, ReadAll, asks_of, line_of, place_of, readings_of, said_of, steps_of, texts}
 use Rattle.au_main.specs.Built.{IsScriptLine}
-use Rattle.au_main.specs.Ran.{Ran, first_state}
+use Rattle.au_main.specs.Means.{Means}
+use Rattle.au_main.specs.Ran.{Ran}
+use Rattle.au_main.specs.Serving.{Answers, Does, Serves}
+use Rattle.au_main.proofs.OnDisk.{IsOnDisk-none, IsOnDisk-more}
 
 -- ---- lists
 
@@ -74,20 +78,30 @@ AreSteps-push k m n entries e r h step = record {
 steps_of-push : (answers : List Answer) (a : Answer) → flat_map steps_of (answers ++ a ∷ []) ≡ flat_map steps_of answers ++ steps_of a
 steps_of-push answers a = flat_map-append steps_of answers (a ∷ []) ∙ ap (λ l. flat_map steps_of answers ++ l) (append-nil (steps_of a))
 
--- what was said to an event: a reply is one more step, and without memory there is none
-IsHistory-said : (k m n : State) (answers : List Answer) (client : ClientNo) (ask : Ask) (reading : ℕ) (said : Said) → IsHistory (Opened k ∷ flat_map steps_of answers) m
-    → SaysTo m (record { client = client; ask = ask; reading = reading }) said n
-    → IsHistory (Opened k ∷ (flat_map steps_of answers ++ steps_said client ask reading said)) n
-IsHistory-said k m n answers client ask reading (Replied reply) history step = AreSteps-push k m n (flat_map steps_of answers) (record { client = client; ask = ask; reading = reading }) reply history step
-IsHistory-said k m n answers client ask reading Disk history step = absurd step
-IsHistory-said k m n answers client ask reading (Full needed limit) history step = absurd step
-IsHistory-said k m n answers client ask reading Memory history same = rw (append-nil (flat_map steps_of answers)) (subst (λ x. AreSteps k (flat_map steps_of answers) x) (sym same) history)
+-- nothing more happened
+AreSteps-still : (k m n : State) (entries : List Entry) → AreSteps k entries m → n ≡ m → AreSteps k (entries ++ []) n
+AreSteps-still k m n entries steps same = rw (append-nil entries) (subst (λ (x : State). AreSteps k entries x) (sym same) steps)
 
-IsSaid-of : (m n : State) (e : Event) (said : Said) → SaysTo m e said n → IsSaid said
-IsSaid-of m n e (Replied reply) h = tt
-IsSaid-of m n e Disk h = absurd h
-IsSaid-of m n e (Full needed limit) h = absurd h
-IsSaid-of m n e Memory h = tt
+-- an answer: a reply is one more step, and anything else is none
+AreSteps-goes : (k : State) (entries : List Entry) (p q : Place) (a : Answer) → AreSteps k entries p.state → Goes p a q → AreSteps k (entries ++ steps_of a) q.state
+AreSteps-goes k entries p q (Made client ask reading (Replied reply)) steps goes =
+    AreSteps-push k p.state q.state entries (record { client = client; ask = ask; reading = reading }) reply steps goes.step
+AreSteps-goes k entries p q (Made client ask reading Disk) steps goes = AreSteps-still k p.state q.state entries steps goes.state
+AreSteps-goes k entries p q (Made client ask reading (Full needed limit)) steps goes = AreSteps-still k p.state q.state entries steps goes.1.state
+AreSteps-goes k entries p q (Made client ask reading Memory) steps goes = AreSteps-still k p.state q.state entries steps goes.state
+AreSteps-goes k entries p q (Unmended client ask) steps goes = AreSteps-still k p.state q.state entries steps goes.state
+
+GoesOver-push : (p q r : Place) (answers : List Answer) (a : Answer) → GoesOver p answers q → Goes q a r → GoesOver p (answers ++ a ∷ []) r
+GoesOver-push p q r [] a over goes = (r, subst (λ (x : Place). Goes x a r) over goes, refl)
+GoesOver-push p q r (first ∷ answers) a over goes = (over.0, over.1, GoesOver-push over.0 q r answers a over.2 goes)
+
+-- where the disk failed the state stays
+goes_state : (p q : Place) (a : Answer) → Goes p a q → said_of a ≡ Disk → q.state ≡ p.state
+goes_state p q (Made client ask reading (Replied reply)) goes is = absurd (let no : Replied reply ≡ Disk = is in cc)
+goes_state p q (Made client ask reading Disk) goes is = goes.state
+goes_state p q (Made client ask reading (Full needed limit)) goes is = goes.1.state
+goes_state p q (Made client ask reading Memory) goes is = goes.state
+goes_state p q (Unmended client ask) goes is = goes.state
 
 -- ---- runs over lines
 
@@ -97,56 +111,58 @@ asks_of-append (line.Skip ∷ s) t = asks_of-append s t
 asks_of-append (line.Ask label ask ∷ s) t = ap (λ xs. (1, ask) ∷ xs) (asks_of-append s t)
 
 -- a store was opened, and no line was done yet
-pub Ran-none : (m : State) (first : ℕ) (t u : Option Ticking) → m ≡ first_state first → Reads t u first → Ran [] m t u []
-Ran-none m first t u opened read = record {
+pub Ran-none : {D C : Type 0} (means : Means D C) (s : Stored D C)
+    → CountsNow (means.meaning s.disk) → OnlyNow (means.meaning s.disk) → (means.told → s.seat.doubt ≡ Settled) → (means.told → IsKeptOn s.state.kept (means.meaning s.disk) s.seat)
+    → Ran means [] s s [] []
+Ran-none means s counts only settled kept = record {
   script = [];
-  answers = [];
-  first = first;
   spelled = tt;
   asks = refl;
-  read = ReadAll-one t u first read;
-  said = tt;
-  history = rw opened (AreSteps-none (first_state first));
+  read = ReadAll-nil (means.ticking s.clock);
+  history = AreSteps-none s.state;
+  goes = refl;
+  on_disk = λ told. IsOnDisk-none s.state (means.meaning s.disk) s.seat counts only (settled told) (kept told);
   text_is = refl;
 }
 
-Ran-skip : (lines : List (List ℕ)) (bytes : List ℕ) (m : State) (t u : Option Ticking) (text : List ℕ) → IsScriptLine bytes line.Skip → Ran lines m t u text → Ran (lines ++ bytes ∷ []) m t u text
-Ran-skip lines bytes m t u text spelled ran = record {
+Ran-skip : {D C : Type 0} (means : Means D C) (lines : List (List ℕ)) (bytes : List ℕ) (o s : Stored D C) (answers : List Answer) (text : List ℕ)
+    → IsScriptLine bytes line.Skip → Ran means lines o s answers text → Ran means (lines ++ bytes ∷ []) o s answers text
+Ran-skip means lines bytes o s answers text spelled ran = record {
   script = ran.script ++ line.Skip ∷ [];
-  answers = ran.answers;
-  first = ran.first;
   spelled = AllZip-append IsScriptLine lines (bytes ∷ []) ran.script (line.Skip ∷ []) ran.spelled (spelled, tt);
   asks = ran.asks ∙ sym (asks_of-append ran.script (line.Skip ∷ []) ∙ append-nil (asks_of ran.script));
   read = ran.read;
-  said = ran.said;
   history = ran.history;
+  goes = ran.goes;
+  on_disk = ran.on_disk;
   text_is = ran.text_is;
 }
 
-same_asked : (client number : ℕ) (ask : Ask) → client ≡ number → ◌≡◌ {A = ℕ × Ask} (client, ask) (number, ask)
-same_asked client number ask e = ap (λ n. (n, ask)) e
-
-Ran-ask : (lines : List (List ℕ)) (bytes label : List ℕ) (ask : Ask) (said : Said) (m n : State) (t u v : Option Ticking) (text : List ℕ) → IsScriptLine bytes (line.Ask label ask) → Ran lines m t u text → Answers m n ask said u v → Ran (lines ++ bytes ∷ []) n t v (text ++ line_of said)
-Ran-ask lines bytes label ask said m n t u v text spelled ran answer =
-    let a : Answer = record { client = answer.client; ask = ask; reading = answer.reading; said = said } in
+Ran-ask : {D C : Type 0} (means : Means D C) (lines : List (List ℕ)) (bytes label : List ℕ) (ask : Ask) (a : Answer) (o s t : Stored D C) (answers : List Answer) (text : List ℕ)
+    → IsScriptLine bytes (line.Ask label ask) → Ran means lines o s answers text → Answers means s t ask a → Ran means (lines ++ bytes ∷ []) o t (answers ++ a ∷ []) (text ++ line_of (said_of a))
+Ran-ask means lines bytes label ask a o s t answers text spelled ran answer =
+    let history = AreSteps-goes o.state (flat_map steps_of answers) (place_of means s) (place_of means t) a ran.history answer.goes in
     record {
       script = ran.script ++ line.Ask label ask ∷ [];
-      answers = ran.answers ++ a ∷ [];
-      first = ran.first;
       spelled = AllZip-append IsScriptLine lines (bytes ∷ []) ran.script (line.Ask label ask ∷ []) ran.spelled (spelled, tt);
-      asks = rw (map-append, ran.asks, asks_of-append) (ap (λ x. asks_of ran.script ++ x ∷ []) (same_asked answer.client.0 1 ask answer.first));
-      read = rw map-append (ReadAll-append t u v (ran.first ∷ map (λ x. x.reading) ran.answers) (answer.reading ∷ []) ran.read (ReadAll-one u v answer.reading answer.read));
-      said = AllByRecursion-append (λ x. IsSaid x.said) ran.answers (a ∷ []) ran.said (IsSaid-of m n (record { client = answer.client; ask = ask; reading = answer.reading }) said answer.says, tt);
-      history = rw (steps_of-push ran.answers a) (IsHistory-said (first_state ran.first) m n ran.answers answer.client ask answer.reading said ran.history answer.says);
-      text_is = rw ran.text_is (sym (flat_map-append (λ x. line_of x.said) ran.answers (a ∷ []) ∙ ap (λ l. texts ran.answers ++ l) (append-nil (line_of said))));
+      asks = rw (map-append, ran.asks, asks_of-append) (ap (λ x. asks_of ran.script ++ x ∷ []) answer.asks);
+      read = rw (flat_map-append readings_of answers (a ∷ []), append-nil (readings_of a))
+          (ReadAll-append (means.ticking o.clock) (means.ticking s.clock) (means.ticking t.clock) (flat_map readings_of answers) (readings_of a) ran.read answer.read);
+      history = rw (steps_of-push answers a) history;
+      goes = GoesOver-push (place_of means o) (place_of means s) (place_of means t) answers a ran.goes answer.goes;
+      on_disk = λ told. IsOnDisk-more o.state s.state t.state answers (means.meaning o.disk) (means.meaning s.disk) (means.meaning t.disk) s.seat t.seat (ran.on_disk told) ran.history answer.time
+          a (goes_state (place_of means s) (place_of means t) a answer.goes) (answer.on_disk told);
+      text_is = rw ran.text_is (sym (flat_map-append (λ x. line_of (said_of x)) answers (a ∷ []) ∙ ap (λ l. texts answers ++ l) (append-nil (line_of (said_of a)))));
     }
 
-Ran-does : (lines : List (List ℕ)) (bytes : List ℕ) (said : ScriptLine) (m n : State) (t u v : Option Ticking) (text more : List ℕ) → IsScriptLine bytes said → Ran lines m t u text → Does m n said u v more → Ran (lines ++ bytes ∷ []) n t v (text ++ more)
-Ran-does lines bytes line.Skip m n t u v text more spelled ran does =
-    rw (does.0, does.1, does.2, append-nil text) (Ran-skip lines bytes m t u text spelled ran)
-Ran-does lines bytes (line.Ask label ask) m n t u v text more spelled ran does =
-    rw does.2 (Ran-ask lines bytes label ask does.0 m n t u v text spelled ran does.1)
-
 -- one more line was done
-pub Ran-more : (lines : List (List ℕ)) (bytes : List ℕ) (m n : State) (t u v : Option Ticking) (text more : List ℕ) → Ran lines m t u text → Serves m n bytes u v more → Ran (lines ++ bytes ∷ []) n t v (text ++ more)
-Ran-more lines bytes m n t u v text more ran serves = Ran-does lines bytes serves.said m n t u v text more serves.spelled ran serves.does
+pub Ran-does : {D C : Type 0} (means : Means D C) (lines : List (List ℕ)) (bytes : List ℕ) (said : ScriptLine) (o s t : Stored D C) (answers : List Answer) (text more : List ℕ)
+    → IsScriptLine bytes said → Ran means lines o s answers text → Does means s t said more → (after : List Answer) × Ran means (lines ++ bytes ∷ []) o t after (text ++ more)
+Ran-does means lines bytes line.Skip o s t answers text more spelled ran does =
+    (answers, rw (does.0, does.1, append-nil text) (Ran-skip means lines bytes o s answers text spelled ran))
+Ran-does means lines bytes (line.Ask label ask) o s t answers text more spelled ran does =
+    (answers ++ does.0 ∷ [], rw does.2 (Ran-ask means lines bytes label ask does.0 o s t answers text spelled ran does.1))
+
+pub Ran-more : {D C : Type 0} (means : Means D C) (lines : List (List ℕ)) (bytes : List ℕ) (o s t : Stored D C) (answers : List Answer) (text more : List ℕ)
+    → Ran means lines o s answers text → Serves means s t bytes more → (after : List Answer) × Ran means (lines ++ bytes ∷ []) o t after (text ++ more)
+Ran-more means lines bytes o s t answers text more ran serves = Ran-does means lines bytes serves.said o s t answers text more serves.spelled ran serves.does

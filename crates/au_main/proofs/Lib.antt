@@ -1,7 +1,11 @@
 pub mod Counts
+pub mod Ends
 pub mod Gathering
 pub mod Giving
 pub mod Histories
+pub mod OnDisk
+pub mod Options
 pub mod Pieces
+pub mod Running
 pub mod Runs
 pub mod Serving

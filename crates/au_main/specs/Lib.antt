@@ -1,9 +1,15 @@
 pub mod Answers
 pub mod Built
+pub mod Causes
+pub mod Complete
 pub mod Given
+pub mod Init
 pub mod Lines
+pub mod Means
 pub mod NextLine
+pub mod OnDisk
 pub mod Ran
+pub mod Serving
 pub mod Status
 pub mod Stretch
 pub mod Words

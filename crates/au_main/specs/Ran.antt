@@ -1,113 +1,113 @@
 -- How a run over the lines of a script goes.
-use Rattle.std.specs.Prelude.{◌≡◌, ℕ, ◌+◌, ◌<◌, List, [], ◌∷◌, ◌++◌, length, map, flat_map, Option, IfSome, codes}
-use Rattle.std.specs.List.{AllByRecursion, AllZip}
+use Rattle.std.specs.Prelude.{◌≡◌, ◌⊎◌, ℕ, ◌+◌, ◌<◌, List, [], ◌∷◌, ◌++◌, length, map, flat_map, Option, IfSome}
+use Rattle.std.specs.List.{AllZip}
 use Rattle.std.specs.Io.KnownBytes.{Consumes, Appends, IsAtEnd}
-use Rattle.au_io.specs.Time.{Ticking}
-use Rattle.au_engine.specs.Opening.{opening}
-use Rattle.au_engine.specs.State.{State, start}
-use Rattle.au_engine.specs.History.{IsHistory, Opened}
-use Rattle.au_script.specs.declared.lines.ScriptLine.{ScriptLine}
+use Rattle.au_io.specs.Areas.{Areas}
+use Rattle.au_io.specs.Disk.{Meaning}
 use Rattle.au_io.specs.Faults.{HasRisen}
+use Rattle.au_io.specs.Moments.{Leaves, LeavesSince}
+use Rattle.au_io.specs.Time.{Reads}
+use Rattle.au_engine.specs.History.{IsHistory, Opened}
+use Rattle.au_engine.specs.State.{State}
+use Rattle.au_script.specs.declared.lines.ScriptLine.{ScriptLine}
+use Rattle.au_store.specs.declared.open_fault.OpenFault.{OpenFault}
+use Rattle.au_store.specs.declared.open_fault.OpenFault.TheVariants as fault
+use Rattle.au_store.specs.Starting.{IsOpened, NoneIsBare, OpenCause, OpenLeaves, OpenSays}
+use Rattle.au_store.specs.Stored.{Stored}
 use Rattle.au_main.specs.declared.status.Status.{Status}
 use Rattle.au_main.specs.declared.status.Status.TheVariants.{Done, Usage, ReadFault, WriteFault, DiskFault, Unformatted, Formatted, Damaged, BadLine, TooLong, LobbyFault, Memory, Worn}
-use Rattle.au_main.specs.Answers.{Answer, FoundNoMemory, Served, ServedInPart, Stays, asked, asks_of, steps_of, IsSaid, ReadAll, texts}
+use Rattle.au_main.specs.Answers.{Answer, GoesOver, ReadAll, asked, asks_of, place_of, readings_of, steps_of, texts}
 use Rattle.au_main.specs.Built.{IsScriptLine, IsNoScriptLine}
 use Rattle.au_main.specs.Given.{AppendsFront}
 use Rattle.au_main.specs.Lines.{AreLines, ended, last_line, BeginsWithLines, script_limit}
+use Rattle.au_main.specs.Means.{Means}
+use Rattle.au_main.specs.OnDisk.{IsOnDisk, RecoversAfter, RecoversAlong}
+use Rattle.au_main.specs.Serving.{FoundNoMemory, Served, ServedInPart, Stays}
 
--- a new store, whose SYS has the password p, in its first instance, which begins at this reading
-unfoldable pub first_state : ℕ → State
-first_state reading = start (opening (codes "p")) reading
-
--- a store was opened on the opening state at the clock's first reading, and these lines were done, in
--- order: each ask has one answer, at the clock's next reading; what was opened and the steps that
--- were replied to, in order, are a history that ends in the state
-pub record Ran (lines : List (List ℕ)) (state : State) (ticking ticked : Option Ticking) (text : List ℕ) : Type 0 where
+-- These lines were done in the store as it was opened, and it went on to what it is now. Each ask has one answer, at the
+-- clock's next reading unless an earlier step's doubt couldn't be mended. The opened state and the steps that were replied
+-- to, in order, are a history that ends in the state; and the answers, each in its place, lead from the used length and
+-- the count of faults at the opening to those of now.
+pub record Ran {D C : Type 0} (means : Means D C) (lines : List (List ℕ)) (opened here : Stored D C) (answers : List Answer) (text : List ℕ) : Type 0 where
   pub script : List ScriptLine
-  pub answers : List Answer
-  pub first : ℕ
   pub spelled : AllZip IsScriptLine lines script
   pub asks : map asked answers ≡ asks_of script
-  pub read : ReadAll ticking ticked (first ∷ map (λ a. a.reading) answers)
-  pub said : AllByRecursion (λ a. IsSaid a.said) answers
-  pub history : IsHistory (Opened (first_state first) ∷ flat_map steps_of answers) state
+  pub read : ReadAll (means.ticking opened.clock) (means.ticking here.clock) (flat_map readings_of answers)
+  pub history : IsHistory (Opened opened.state ∷ flat_map steps_of answers) here.state
+  pub goes : GoesOver (place_of means opened) answers (place_of means here)
+  pub on_disk : means.told → IsOnDisk opened.state here.state answers (means.meaning opened.disk) (means.meaning here.disk) here.seat
   pub text_is : text ≡ texts answers
 
 -- the source was taken to its end, and all its lines were done
-pub record RanToEnd (left now : Option (List ℕ)) (ticking ticked : Option Ticking) (given gave : Option (List ℕ)) : Type 0 where
+pub record RanToEnd {D C : Type 0} (means : Means D C) (left now : Option (List ℕ)) (opened here : Stored D C) (answers : List Answer) (given gave : Option (List ℕ)) : Type 0 where
   pub lines : List (List ℕ)
   pub rest : List ℕ
-  pub state : State
   pub text : List ℕ
   pub whole : AreLines (lines ++ rest ∷ [])
   pub taken : Consumes left now (ended lines ++ rest)
   pub at_end : IsAtEnd now
-  pub ran : Ran (lines ++ last_line rest) state ticking ticked text
+  pub ran : Ran means (lines ++ last_line rest) opened here answers text
   pub given_all : Appends given gave text
 
 -- the lines before line n, which counts from 1, were done, and line n is no script line
-pub record RanToBadLine (n : ℕ) (left : Option (List ℕ)) (ticking ticked : Option Ticking) (given gave : Option (List ℕ)) : Type 0 where
+pub record RanToBadLine {D C : Type 0} (means : Means D C) (n : ℕ) (left : Option (List ℕ)) (opened here : Stored D C) (answers : List Answer) (given gave : Option (List ℕ)) : Type 0 where
   pub lines : List (List ℕ)
   pub bad : List ℕ
-  pub state : State
   pub text : List ℕ
   pub number : n ≡ length lines + 1
   pub whole : AreLines (lines ++ bad ∷ [])
   pub stands : IfSome left (BeginsWithLines (lines ++ bad ∷ []))
   pub says_nothing : IsNoScriptLine bad
-  pub ran : Ran lines state ticking ticked text
+  pub ran : Ran means lines opened here answers text
   pub given_all : Appends given gave text
 
 -- the source failed behind these lines, which were done, in a line that has no end yet
-pub record RanToFault (left now : Option (List ℕ)) (ticking ticked : Option Ticking) (given gave : Option (List ℕ)) : Type 0 where
+pub record RanToFault {D C : Type 0} (means : Means D C) (left now : Option (List ℕ)) (opened here : Stored D C) (answers : List Answer) (given gave : Option (List ℕ)) : Type 0 where
   pub lines : List (List ℕ)
   pub begun : List ℕ
-  pub state : State
   pub text : List ℕ
   pub whole : AreLines (lines ++ begun ∷ [])
   pub taken : Consumes left now (ended lines ++ begun)
-  pub ran : Ran lines state ticking ticked text
+  pub ran : Ran means lines opened here answers text
   pub given_all : Appends given gave text
 
 -- as many bytes as a script may have were taken, and then more; the lines that end among them were done
-pub record RanToLimit (left now : Option (List ℕ)) (ticking ticked : Option Ticking) (given gave : Option (List ℕ)) : Type 0 where
+pub record RanToLimit {D C : Type 0} (means : Means D C) (left now : Option (List ℕ)) (opened here : Stored D C) (answers : List Answer) (given gave : Option (List ℕ)) : Type 0 where
   pub lines : List (List ℕ)
   pub begun : List ℕ
   pub more : List ℕ
-  pub state : State
   pub text : List ℕ
   pub whole : AreLines (lines ++ begun ∷ [])
   pub taken : Consumes left now (ended lines ++ (begun ++ more))
   pub full : length (ended lines ++ begun) ≡ script_limit
   pub beyond : 0 < length more
-  pub ran : Ran lines state ticking ticked text
+  pub ran : Ran means lines opened here answers text
   pub given_all : Appends given gave text
 
 -- these lines were done, and a front of their text was given
-pub record RanToFront (left : Option (List ℕ)) (ticking ticked : Option Ticking) (given gave : Option (List ℕ)) : Type 0 where
+pub record RanToFront {D C : Type 0} (means : Means D C) (left : Option (List ℕ)) (opened here : Stored D C) (answers : List Answer) (given gave : Option (List ℕ)) : Type 0 where
   pub lines : List (List ℕ)
-  pub state : State
   pub text : List ℕ
   pub whole : AreLines lines
   pub stands : IfSome left (BeginsWithLines lines)
-  pub ran : Ran lines state ticking ticked text
+  pub ran : Ran means lines opened here answers text
   pub given_front : AppendsFront given gave text
 
 -- what a run came to, by its end; no other end comes
-abbrev pub RanTo : Status → (left now : Option (List ℕ)) (ticking ticked : Option Ticking) (given gave : Option (List ℕ)) → Type 0
-RanTo Done left now ticking ticked given gave = RanToEnd left now ticking ticked given gave
-RanTo (BadLine n) left now ticking ticked given gave = RanToBadLine n left ticking ticked given gave
-RanTo ReadFault left now ticking ticked given gave = RanToFault left now ticking ticked given gave
-RanTo WriteFault left now ticking ticked given gave = RanToFront left ticking ticked given gave
-RanTo TooLong left now ticking ticked given gave = RanToLimit left now ticking ticked given gave
-RanTo Memory left now ticking ticked given gave = RanToFront left ticking ticked given gave
-RanTo Usage left now ticking ticked given gave = ⊥
-RanTo DiskFault left now ticking ticked given gave = ⊥
-RanTo Unformatted left now ticking ticked given gave = ⊥
-RanTo Formatted left now ticking ticked given gave = ⊥
-RanTo (Damaged area at) left now ticking ticked given gave = ⊥
-RanTo LobbyFault left now ticking ticked given gave = ⊥
-RanTo Worn left now ticking ticked given gave = ⊥
+abbrev pub RanTo : {D C : Type 0} → Means D C → Status → (left now : Option (List ℕ)) (opened here : Stored D C) → List Answer → (given gave : Option (List ℕ)) → Type 0
+RanTo means Done left now opened here answers given gave = RanToEnd means left now opened here answers given gave
+RanTo means (BadLine n) left now opened here answers given gave = RanToBadLine means n left opened here answers given gave
+RanTo means ReadFault left now opened here answers given gave = RanToFault means left now opened here answers given gave
+RanTo means WriteFault left now opened here answers given gave = RanToFront means left opened here answers given gave
+RanTo means TooLong left now opened here answers given gave = RanToLimit means left now opened here answers given gave
+RanTo means Memory left now opened here answers given gave = RanToFront means left opened here answers given gave
+RanTo means Usage left now opened here answers given gave = ⊥
+RanTo means DiskFault left now opened here answers given gave = ⊥
+RanTo means Unformatted left now opened here answers given gave = ⊥
+RanTo means Formatted left now opened here answers given gave = ⊥
+RanTo means (Damaged area at) left now opened here answers given gave = ⊥
+RanTo means LobbyFault left now opened here answers given gave = ⊥
+RanTo means Worn left now opened here answers given gave = ⊥
 
 -- the source's count of faults rose where the run ended by a read fault, and nowhere else
 abbrev pub IsReadCause : Status → ℕ → ℕ → Type 0
@@ -120,17 +120,54 @@ IsWriteCause WriteFault before now = HasRisen before now
 IsWriteCause _ before now = now ≡ before
 
 -- what becomes of a last line, which has this number
-abbrev pub EndsLast : ℕ → Status → (m n : State) (bytes : List ℕ) (ticking ticked : Option Ticking) (given gave : Option (List ℕ)) → Type 0
-EndsLast number Done m n bytes ticking ticked given gave = Served m n bytes ticking ticked given gave
-EndsLast number (BadLine k) m n bytes ticking ticked given gave = (k ≡ number) × IsNoScriptLine bytes × Stays m n ticking ticked given gave
-EndsLast number WriteFault m n bytes ticking ticked given gave = ServedInPart m n bytes ticking ticked given gave
-EndsLast number Memory m n bytes ticking ticked given gave = FoundNoMemory m n bytes ticking ticked given gave
-EndsLast number ReadFault m n bytes ticking ticked given gave = ⊥
-EndsLast number TooLong m n bytes ticking ticked given gave = ⊥
-EndsLast number Usage m n bytes ticking ticked given gave = ⊥
-EndsLast number DiskFault m n bytes ticking ticked given gave = ⊥
-EndsLast number Unformatted m n bytes ticking ticked given gave = ⊥
-EndsLast number Formatted m n bytes ticking ticked given gave = ⊥
-EndsLast number (Damaged area at) m n bytes ticking ticked given gave = ⊥
-EndsLast number LobbyFault m n bytes ticking ticked given gave = ⊥
-EndsLast number Worn m n bytes ticking ticked given gave = ⊥
+abbrev pub EndsLast : {D C : Type 0} → Means D C → ℕ → Status → (s t : Stored D C) (bytes : List ℕ) (given gave : Option (List ℕ)) → Type 0
+EndsLast means number Done s t bytes given gave = Served means s t bytes given gave
+EndsLast means number (BadLine k) s t bytes given gave = (k ≡ number) × IsNoScriptLine bytes × Stays s t given gave
+EndsLast means number WriteFault s t bytes given gave = ServedInPart means s t bytes given gave
+EndsLast means number Memory s t bytes given gave = FoundNoMemory means s t bytes given gave
+EndsLast means number ReadFault s t bytes given gave = ⊥
+EndsLast means number TooLong s t bytes given gave = ⊥
+EndsLast means number Usage s t bytes given gave = ⊥
+EndsLast means number DiskFault s t bytes given gave = ⊥
+EndsLast means number Unformatted s t bytes given gave = ⊥
+EndsLast means number Formatted s t bytes given gave = ⊥
+EndsLast means number (Damaged area at) s t bytes given gave = ⊥
+EndsLast means number LobbyFault s t bytes given gave = ⊥
+EndsLast means number Worn s t bytes given gave = ⊥
+
+-- how a run ends where no store was opened
+abbrev pub status_of : OpenFault → Status
+status_of fault.Disk = DiskFault
+status_of fault.Unformatted = Unformatted
+status_of (fault.Damaged area at) = Damaged area at
+status_of fault.Worn = Worn
+status_of fault.Memory = Memory
+
+-- what a crash leaves while the store is opened; or it recovers to what the run came by
+abbrev pub RunLeaves : Meaning → ℕ → State → List Answer → Areas → Type 0
+RunLeaves old reading opened answers all = OpenLeaves old reading all ⊎ RecoversAlong opened answers all
+
+-- a store was opened on the disk at the clock's next reading, as the next instance over what the disk recovers to; the
+-- lines of the source were done in it up to this end, and disk and clock came back
+pub record HasRun {D C : Type 0} (means : Means D C) (status : Status) (left now : Option (List ℕ)) (disk last : D) (clock clocked : C) (given gave : Option (List ℕ)) : Type 0 where
+  pub opened : Stored D C
+  pub closed : Stored D C
+  pub answers : List Answer
+  pub begins : means.told → IsOpened (means.meaning disk).reads opened.reading opened.state
+  pub read : Reads (means.ticking clock) (means.ticking opened.clock) opened.reading
+  pub well : means.faults opened.disk ≡ means.faults disk
+  pub ran : RanTo means status left now opened closed answers given gave
+  pub disk_is : closed.disk ≡ last
+  pub clock_is : closed.clock ≡ clocked
+  -- where in no image at entry the selected area ends where its bodies end
+  pub any_moment : means.told → NoneIsBare (means.meaning disk) → LeavesSince (RunLeaves (means.meaning disk) opened.reading opened.state answers) (means.meaning disk) (means.meaning last)
+  pub at_last : means.told → Leaves (RecoversAfter closed.state answers) (means.meaning last)
+
+-- no store was opened, and why; the clock was read once at most
+pub record IsUnopened {D C : Type 0} (means : Means D C) (status : Status) (disk last : D) (clock clocked : C) : Type 0 where
+  pub why : OpenFault
+  pub status_is : status ≡ status_of why
+  pub says : means.told → OpenSays (means.meaning disk).reads why
+  pub read : (clocked ≡ clock) ⊎ ((reading : ℕ) × Reads (means.ticking clock) (means.ticking clocked) reading)
+  pub cause : OpenCause why (means.faults disk) (means.faults last)
+  pub any_moment : means.told → NoneIsBare (means.meaning disk) → (reading : ℕ) × LeavesSince (OpenLeaves (means.meaning disk) reading) (means.meaning disk) (means.meaning last)

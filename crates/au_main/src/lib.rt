@@ -4,6 +4,7 @@
 mod built;
 mod command;
 mod give;
+mod init;
 mod line;
 mod next_line;
 mod no_lobby;
@@ -13,6 +14,7 @@ mod serve;
 mod status;
 mod stop;
 mod stretch;
+mod words;
 
 pub use command::top;
 pub use no_lobby::{NoLink, NoLobby};

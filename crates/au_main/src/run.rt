@@ -1,7 +1,9 @@
 //! The command `run`.
-ghost use Rattle.std.specs.Prelude.{◌≡◌, IfOk, Option};
-ghost use Rattle.au_io.specs.Time.{Reads, Ticking};
-ghost use Rattle.au_main.specs.Ran.{EndsLast, IsReadCause, IsWriteCause, RanTo, first_state};
+ghost use Rattle.std.specs.Prelude.{◌≡◌, ◌⊎◌, List};
+ghost use Rattle.au_store.specs.Stored.{IsKeptOn};
+ghost use Rattle.au_main.specs.Answers.{Answer};
+ghost use Rattle.au_main.specs.Means.{means_of};
+ghost use Rattle.au_main.specs.Ran.{EndsLast, HasRun, IsReadCause, IsUnopened, IsWriteCause, RanTo, status_of};
 
 use crate::line::Line;
 use crate::next_line::next_line;
@@ -10,39 +12,58 @@ use crate::status::Status;
 use crate::stop::Stop;
 use crate::stretch::Pending;
 use au_base::Memory;
-use au_engine::Engine;
-use au_io::{Clock, Sink, Source};
+use au_io::{Clock, Disk, Sink, Source};
+use au_journal::Doubt;
+use au_store::{OpenFault, Store};
 use std::alloc::Global;
 
-/// Opens a store in memory and does what the lines of the source say, one after another.
-pub(crate) fn run<S: Source, W: Sink, C: Clock>(
+/// Opens the store that stands on the disk, and does what the lines of the source say, one after
+/// another.
+pub(crate) fn run<S: Source, W: Sink, D: Disk, C: Clock>(
     alloc: Global,
     source: &mut S,
     sink: &mut W,
-    clock: &mut C,
-) -> Status
-    ensures ran { RanTo result (S.left source.old) (S.left source.new) (C.ticking clock.old) (C.ticking clock.new) (W.given sink.old) (W.given sink.new) }
-    ensures read { IsReadCause result (S.faults source.old) (S.faults source.new) }
-    ensures write { IsWriteCause result (W.faults sink.old) (W.faults sink.new) }
+    disk: D,
+    clock: C,
+) -> (Status, D, C)
+    ensures run { HasRun (means_of D.told D.meaning D.faults C.ticking) result.0 (S.left source.old) (S.left source.new) disk result.1 clock result.2 (W.given sink.old) (W.given sink.new)
+        ⊎ (IsUnopened (means_of D.told D.meaning D.faults C.ticking) result.0 disk result.1 clock result.2 × (source.new ≡ source.old) × (sink.new ≡ sink.old)) }
+    ensures read { IsReadCause result.0 (S.faults source.old) (S.faults source.new) }
+    ensures write { IsWriteCause result.0 (W.faults sink.old) (W.faults sink.new) }
 {
-    let reading = clock.now();
-    let Ok(mut engine) = first_engine(alloc, reading) else {
-        return Status::Memory;
-    };
-    do_lines(alloc, reading, &mut engine, source, sink, clock)
+    match Store::open(alloc, disk, clock) {
+        Ok(mut store) => {
+            let status = do_lines(alloc, &mut store, source, sink);
+            let (disk, clock) = store.shut();
+            (status, disk, clock)
+        }
+        Err((disk, clock, why)) => (unopened_status(why), disk, clock),
+    }
 }
 
-// Does what the lines of the source say, in a store that was opened at this reading.
-fn do_lines<S: Source, W: Sink, C: Clock>(
+// How a run ends where no store was opened.
+fn unopened_status(why: OpenFault) -> Status
+    ensures { result ≡ status_of why }
+{
+    match why {
+        OpenFault::Disk => Status::DiskFault,
+        OpenFault::Unformatted => Status::Unformatted,
+        OpenFault::Damaged { area, at } => Status::Damaged { area, at },
+        OpenFault::Worn => Status::Worn,
+        OpenFault::Memory => Status::Memory,
+    }
+}
+
+// Does what the lines of the source say, in a store in which no step is in doubt.
+fn do_lines<S: Source, W: Sink, D: Disk, C: Clock>(
     alloc: Global,
-    reading: u64,
-    engine: &mut Engine,
+    store: &mut Store<D, C>,
     source: &mut S,
     sink: &mut W,
-    clock: &mut C,
 ) -> Status
-    requires { engine.old.state ≡ first_state reading }
-    ensures ran { (ticking : Option Ticking) → Reads ticking (C.ticking clock.old) reading → RanTo result (S.left source.old) (S.left source.new) ticking (C.ticking clock.new) (W.given sink.old) (W.given sink.new) }
+    requires settled { store.old.seat.doubt ≡ Doubt.Settled }
+    requires kept { D.told → IsKeptOn store.old.state.kept (D.meaning store.old.disk) store.old.seat }
+    ensures ran { (answers : List Answer) × RanTo (means_of D.told D.meaning D.faults C.ticking) result (S.left source.old) (S.left source.new) store.old store.new answers (W.given sink.old) (W.given sink.new) }
     ensures read { IsReadCause result (S.faults source.old) (S.faults source.new) }
     ensures write { IsWriteCause result (W.faults sink.old) (W.faults sink.new) }
 {
@@ -52,15 +73,13 @@ fn do_lines<S: Source, W: Sink, C: Clock>(
     let mut number = 1;
     loop {
         match next_line(alloc, source, &mut pending) {
-            Ok(Line::Ended(line)) => match serve_line(alloc, engine, clock, sink, &line) {
+            Ok(Line::Ended(line)) => match serve_line(alloc, store, sink, &line) {
                 Ok(()) => number += 1,
                 Err(Stop::BadLine) => return Status::BadLine(number),
                 Err(Stop::WriteFault) => return Status::WriteFault,
                 Err(Stop::Memory) => return Status::Memory,
             },
-            Ok(Line::Last(line)) => {
-                return serve_last(alloc, engine, clock, sink, &line, number);
-            }
+            Ok(Line::Last(line)) => return serve_last(alloc, store, sink, &line, number),
             Ok(Line::End) => return Status::Done,
             Ok(Line::Overlong) => return Status::BadLine(number),
             Ok(Line::Failed) => return Status::ReadFault,
@@ -70,26 +89,18 @@ fn do_lines<S: Source, W: Sink, C: Clock>(
     }
 }
 
-// The engine of a new store, whose SYS has the password `p`.
-fn first_engine(alloc: Global, reading: u64) -> Result<Engine, Memory>
-    ensures { IfOk result (λ engine. engine.state ≡ first_state reading) }
-{
-    Engine::empty(alloc, reading)
-}
-
 // The line that no LF ends, at the end of the source.
-fn serve_last<W: Sink, C: Clock>(
+fn serve_last<W: Sink, D: Disk, C: Clock>(
     alloc: Global,
-    engine: &mut Engine,
-    clock: &mut C,
+    store: &mut Store<D, C>,
     sink: &mut W,
     line: &[u8],
     number: u64,
 ) -> Status
-    ensures ends { EndsLast number result engine.old.state engine.new.state line.now (C.ticking clock.old) (C.ticking clock.new) (W.given sink.old) (W.given sink.new) }
+    ensures ends { EndsLast (means_of D.told D.meaning D.faults C.ticking) number result store.old store.new line.now (W.given sink.old) (W.given sink.new) }
     ensures cause { IsWriteCause result (W.faults sink.old) (W.faults sink.new) }
 {
-    match serve_line(alloc, engine, clock, sink, line) {
+    match serve_line(alloc, store, sink, line) {
         Ok(()) => Status::Done,
         Err(Stop::BadLine) => Status::BadLine(number),
         Err(Stop::WriteFault) => Status::WriteFault,

@@ -2,34 +2,35 @@
 ghost use Rattle.std.specs.Prelude.{◌≡◌, OnOk, IfOk, IsErrOf};
 ghost use Rattle.au_io.specs.Faults.{HasRisen};
 ghost use Rattle.au_engine.specs.Step.{IsAsked};
-ghost use Rattle.au_main.specs.Answers.{Answers, FoundNoMemory, Served, ServedInPart, Stays, Told, ToldInPart, line_of};
+ghost use Rattle.au_main.specs.Answers.{line_of};
 ghost use Rattle.au_main.specs.Built.{IsNoScriptLine};
+ghost use Rattle.au_main.specs.Means.{means_of};
+ghost use Rattle.au_main.specs.Serving.{AnswersBy, FoundNoMemory, Served, ServedInPart, Stays, Told, ToldInPart};
 
 use crate::built::built_ask;
 use crate::give::give_all;
 use crate::stop::Stop;
 use au_base::{Ask, ClientNo, Memory, Said};
-use au_engine::Engine;
-use au_io::{Clock, Sink};
+use au_io::{Clock, Disk, Sink};
 use au_script::{ScriptLine, line, said_text, say_one_thing};
+use au_store::Store;
 use std::alloc::Global;
 
 // The client with the one label that is built.
 const CLIENT: ClientNo = ClientNo(1);
 
 /// Does what a line says, and gives the text of what was said.
-pub(crate) fn serve_line<W: Sink, C: Clock>(
+pub(crate) fn serve_line<D: Disk, C: Clock, W: Sink>(
     alloc: Global,
-    engine: &mut Engine,
-    clock: &mut C,
+    store: &mut Store<D, C>,
     sink: &mut W,
     bytes: &[u8],
 ) -> Result<(), Stop>
-    ensures ok { OnOk result (Served engine.old.state engine.new.state bytes.now (C.ticking clock.old) (C.ticking clock.new) (W.given sink.old) (W.given sink.new)) }
-    ensures write_fault { IsErrOf result Stop.WriteFault → ServedInPart engine.old.state engine.new.state bytes.now (C.ticking clock.old) (C.ticking clock.new) (W.given sink.old) (W.given sink.new) }
-    ensures memory { IsErrOf result Stop.Memory → FoundNoMemory engine.old.state engine.new.state bytes.now (C.ticking clock.old) (C.ticking clock.new) (W.given sink.old) (W.given sink.new) }
+    ensures ok { OnOk result (Served (means_of D.told D.meaning D.faults C.ticking) store.old store.new bytes.now (W.given sink.old) (W.given sink.new)) }
+    ensures write_fault { IsErrOf result Stop.WriteFault → ServedInPart (means_of D.told D.meaning D.faults C.ticking) store.old store.new bytes.now (W.given sink.old) (W.given sink.new) }
+    ensures memory { IsErrOf result Stop.Memory → FoundNoMemory (means_of D.told D.meaning D.faults C.ticking) store.old store.new bytes.now (W.given sink.old) (W.given sink.new) }
     ensures bad { IsErrOf result Stop.BadLine → IsNoScriptLine bytes.now }
-    ensures bad_stays { IsErrOf result Stop.BadLine → Stays engine.old.state engine.new.state (C.ticking clock.old) (C.ticking clock.new) (W.given sink.old) (W.given sink.new) }
+    ensures bad_stays { IsErrOf result Stop.BadLine → Stays store.old store.new (W.given sink.old) (W.given sink.new) }
     ensures cause { IsErrOf result Stop.WriteFault → HasRisen (W.faults sink.old) (W.faults sink.new) }
     ensures well { (IsErrOf result Stop.WriteFault → ⊥) → W.faults sink.new ≡ W.faults sink.old }
 {
@@ -39,43 +40,38 @@ pub(crate) fn serve_line<W: Sink, C: Clock>(
         Some(ScriptLine::Skip) => Ok(()),
         Some(ScriptLine::Ask { label, ask }) => match built_ask(&label, ask) {
             None => Err(Stop::BadLine),
-            Some(ask) => answer(alloc, engine, clock, sink, &ask),
+            Some(ask) => answer(alloc, store, sink, &ask),
         },
     }
 }
 
 // One step, and the text of what was said, in one piece.
-fn answer<W: Sink, C: Clock>(
+fn answer<D: Disk, C: Clock, W: Sink>(
     alloc: Global,
-    engine: &mut Engine,
-    clock: &mut C,
+    store: &mut Store<D, C>,
     sink: &mut W,
     ask: &Ask,
 ) -> Result<(), Stop>
     requires { IsAsked ask.now }
-    ensures ok { OnOk result (Told engine.old.state engine.new.state ask.now (C.ticking clock.old) (C.ticking clock.new) (W.given sink.old) (W.given sink.new)) }
-    ensures write_fault { IsErrOf result Stop.WriteFault → ToldInPart engine.old.state engine.new.state ask.now (C.ticking clock.old) (C.ticking clock.new) (W.given sink.old) (W.given sink.new) }
-    ensures memory { IsErrOf result Stop.Memory → ToldInPart engine.old.state engine.new.state ask.now (C.ticking clock.old) (C.ticking clock.new) (W.given sink.old) (W.given sink.new) }
+    ensures ok { OnOk result (Told (means_of D.told D.meaning D.faults C.ticking) store.old store.new ask.now (W.given sink.old) (W.given sink.new)) }
+    ensures write_fault { IsErrOf result Stop.WriteFault → ToldInPart (means_of D.told D.meaning D.faults C.ticking) store.old store.new ask.now (W.given sink.old) (W.given sink.new) }
+    ensures memory { IsErrOf result Stop.Memory → ToldInPart (means_of D.told D.meaning D.faults C.ticking) store.old store.new ask.now (W.given sink.old) (W.given sink.new) }
     ensures bad { IsErrOf result Stop.BadLine → ⊥ }
     ensures cause { IsErrOf result Stop.WriteFault → HasRisen (W.faults sink.old) (W.faults sink.new) }
     ensures well { (IsErrOf result Stop.WriteFault → ⊥) → W.faults sink.new ≡ W.faults sink.old }
 {
-    let said = step(alloc, engine, clock, ask);
+    let said = step(alloc, store, ask);
     let text = text_line(alloc, &said)?;
     give_all(sink, &text)?;
     Ok(())
 }
 
-// One step at the clock's next reading. A step that finds no memory leaves the state.
-fn step<C: Clock>(alloc: Global, engine: &mut Engine, clock: &mut C, ask: &Ask) -> Said
+// One step of the client.
+fn step<D: Disk, C: Clock>(alloc: Global, store: &mut Store<D, C>, ask: &Ask) -> Said
     requires { IsAsked ask.now }
-    ensures { Answers engine.old.state engine.new.state ask.now result (C.ticking clock.old) (C.ticking clock.new) }
+    ensures { AnswersBy (means_of D.told D.meaning D.faults C.ticking) store.old store.new ask.now result }
 {
-    let stamp = engine.stamp(clock.now());
-    match engine.prepare(alloc, CLIENT, ask, stamp) {
-        Ok(prepared) => Said::Replied(engine.apply(prepared)),
-        Err(Memory) => Said::Memory,
-    }
+    store.step(alloc, CLIENT, ask)
 }
 
 // The text of what was said, with the LF that ends it.

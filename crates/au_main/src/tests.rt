@@ -1,3 +1,7 @@
+//! Commands on an outside in memory.
+
+mod disks;
+
 use super::*;
 use au_base::Text;
 use au_io::{Area, MemClock, MemDisk, MemSink, MemSource};
@@ -102,30 +106,62 @@ const OK_ONE: &str = "{\"code\":0,\"columns\":[],\"count\":0,\"rows\":[]}
 ";
 
 // words that are no command
-const NO_COMMANDS: [&[&str]; 6] = [
+const NO_COMMANDS: [&[&str]; 14] = [
     &[],
     &["run", "x"],
     &["run", "run"],
     &["Run"],
     &["--help"],
     &[""],
+    &["init"],
+    &["init", "--sys-password"],
+    &["init", "--sys-password", "-p"],
+    &["init", "--sys-password="],
+    &["init", "--limit", "400"],
+    &["init", "--sys-password", "p", "--limit", "399"],
+    &["init", "--sys-password", "p", "--limit=2147483648"],
+    &["init", "--sys-password", "p", "--sys-password", "p"],
 ];
 
-#[derive(Debug, Drop)]
+// words that make a store
+const INITS: [&[&str]; 6] = [
+    &["init", "--sys-password", "p"],
+    &["init", "--sys-password=p"],
+    &["init", "--sys-password=-p"],
+    &["init", "--sys-password", "p", "--limit", "+400"],
+    &["init", "--limit=2147483647", "--sys-password", "p"],
+    &["init", "--limit", "0400", "--sys-password=p"],
+];
+
+#[derive(Drop)]
 struct Outcome {
     status: Status,
     given: Vec<u8>,
     /// The clock's next reading; the first was 1,000,000.
     next: u64,
+    disk: MemDisk,
+}
+
+// A disk in memory, a call of which fails where it is listed.
+fn empty_disk(alloc: Global, fail: &[u64]) -> Result<MemDisk, Fail> {
+    Ok(MemDisk::new(alloc, fail)?)
+}
+
+// A disk with a store whose SYS has the password `p`, under the default limit.
+fn new_disk(alloc: Global) -> Result<MemDisk, Fail> {
+    let disk = empty_disk(alloc, &[])?;
+    let made = on_disk(alloc, INITS[0], b"", 9, (&[], &[]), disk)?;
+    Ok(made.disk)
 }
 
 // What the words do with a script that comes in pieces, the calls of source and sink listed failing.
-fn ran(
+fn on_disk(
     alloc: Global,
     words: &[&str],
     script: &[u8],
     piece: usize,
     fail: (&[u64], &[u64]),
+    disk: MemDisk,
 ) -> Result<Outcome, Fail> {
     let mut texts = Vec::new(alloc);
     for word in words {
@@ -133,12 +169,11 @@ fn ran(
     }
     let mut source = MemSource::new(alloc, script, piece, fail.0)?;
     let mut sink = MemSink::new(alloc, piece, fail.1)?;
-    let disk = MemDisk::new(alloc, &[])?;
     let clock = MemClock {
         next: 1_000_000,
         step: 1,
     };
-    let (status, _disk, clock, _lobby) = top(
+    let (status, disk, clock, _lobby) = top(
         alloc,
         &texts,
         &mut source,
@@ -151,7 +186,20 @@ fn ran(
         status,
         given: sink.given().to_vec(alloc)?,
         next: clock.next,
+        disk,
     })
+}
+
+// The same on the disk of a new store.
+fn ran(
+    alloc: Global,
+    words: &[&str],
+    script: &[u8],
+    piece: usize,
+    fail: (&[u64], &[u64]),
+) -> Result<Outcome, Fail> {
+    let disk = new_disk(alloc)?;
+    on_disk(alloc, words, script, piece, fail, disk)
 }
 
 // The first script.

@@ -1,9 +1,9 @@
-use Rattle.std.proofs.Common.{refl}
-use Rattle.au_main.proofs.Runs.{RanToFront-opened}
+use Rattle.std.proofs.Common.{inl}
+use Rattle.au_main.specs.Means.{means_of}
+use Rattle.au_main.proofs.Running.{has_run}
 use Rattle.au_main.proofs.run.run.Goals as goal
 
-pub returns-in_default-clause-ran : goal.returns-in_default-clause-ran
-returns-in_default-clause-ran g c = RanToFront-opened _ _ _ _ _ c.now-reading.ensures
-
-pub returns-clause-ran : goal.returns-clause-ran
-returns-clause-ran g c = c.do_lines.ensures.ran _ c.now-reading.ensures
+pub returns-in-Ok-clause-run : goal.returns-in-Ok-clause-run
+returns-in-Ok-clause-run g c =
+    let means = means_of g.D.Disk.told g.D.Disk.meaning g.D.Disk.faults g.C.Clock.ticking in
+    inl (has_run means _ _ _ _ _ _ _ _ _ _ _ c.in-Ok.ensures.opened c.in-Ok.ensures.clock c.in-Ok.ensures.cause c.in-Ok.ensures.time c.in-Ok.ensures.any_moment c.do_lines-status.ensures.ran c.shut-disk.ensures.disk c.shut-disk.ensures.clock)

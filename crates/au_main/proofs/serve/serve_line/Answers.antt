@@ -16,11 +16,11 @@ returns-clause-write_fault g c = λ failed.
     let said = rw c.in-Some-Ask.is at c.in_ok-line.ensures in
     let says = rw c.in-Some-Ask.field-0-is at said in
     let built = c.in-Some.ensures in
-    Served-told_in_part _ _ _ _ _ _ _ _ _ (says, built.1) (rw built.0 at (c.answer.ensures.write_fault failed))
+    Served-told_in_part _ _ _ _ _ _ _ _ (says, built.1) (rw built.0 at (c.answer.ensures.write_fault failed))
 
 pub returns-clause-memory : goal.returns-clause-memory
 returns-clause-memory g c = λ failed.
     let said = rw c.in-Some-Ask.is at c.in_ok-line.ensures in
     let says = rw c.in-Some-Ask.field-0-is at said in
     let built = c.in-Some.ensures in
-    inr (Served-told_in_part _ _ _ _ _ _ _ _ _ (says, built.1) (rw built.0 at (c.answer.ensures.memory failed)))
+    inr (Served-told_in_part _ _ _ _ _ _ _ _ (says, built.1) (rw built.0 at (c.answer.ensures.memory failed)))

@@ -1,21 +1,11 @@
 use Rattle.std.proofs.Common.{refl}
-use Rattle.au_main.proofs.Serving.{Step-applied}
+use Rattle.au_main.specs.Means.{means_of}
+use Rattle.au_main.proofs.Serving.{answers_by}
 use Rattle.au_main.proofs.serve.step.Goals as goal
 
-pub returns-in-Ok : goal.returns-in-Ok
-returns-in-Ok g c = record {
-  client = record { 0 = 1 };
-  reading = c.now.result;
-  first = refl;
-  read = c.now.ensures;
-  says = Step-applied c.args.engine.now.state c.prepare.new.self.state c.apply.new.self.state (record { 0 = 1 }) c.args.ask.now c.now.result c.stamp-stamp.result.0 c.apply.result c.in-Ok.prepared c.in-Ok.ensures.step c.stamp-stamp.ensures c.apply.ensures.reply c.apply.ensures.next c.in-Ok.ensures.keeps;
-}
-
-pub returns-in-Err : goal.returns-in-Err
-returns-in-Err g c = record {
-  client = record { 0 = 1 };
-  reading = c.now.result;
-  first = refl;
-  read = c.now.ensures;
-  says = c.in-Err.ensures.keeps;
-}
+pub returns : goal.returns
+returns g c =
+    let means = means_of g.D.Disk.told g.D.Disk.meaning g.D.Disk.faults g.C.Clock.ticking in
+    let done = c.step.ensures in
+    answers_by means c.args.store.now c.step.new.self (record { 0 = 1 }) c.args.ask.now c.step.result refl
+    done.step done.moves done.full done.clock done.settled done.kept done.doubted done.any_moment done.time done.cause

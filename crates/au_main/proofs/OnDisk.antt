@@ -1,0 +1,224 @@
+-- What a crash leaves of a run, one step further.
+use Rattle.std.proofs.Common.{◌≡◌, ◌≢◌, ◌⊎◌, inl, inr, ⊎_elim, ℕ, List, [], ◌∷◌, ◌++◌, refl, sym, ap, ◌∙◌, subst, append-nil, append_assoc, arith}
+use Rattle.std.specs.Prelude.{flat_map}
+use Rattle.std.proofs.lemmas.List.Concat.{flat_map-append}
+use Rattle.au_base.specs.declared.ask.Ask.{Ask}
+use Rattle.au_base.specs.declared.numbers.ClientNo.{ClientNo}
+use Rattle.au_base.specs.declared.reply.Said.{Said}
+use Rattle.au_base.specs.declared.reply.Said.TheVariants.{Replied, Disk, Full, Memory}
+use Rattle.au_catalog.specs.declared.kept.Kept.{Kept}
+use Rattle.au_io.specs.Areas.{Areas}
+use Rattle.au_io.specs.Disk.{Meaning, Passes}
+use Rattle.au_io.specs.Moments.{Leaves, LeavesSince, CountsNow, OnlyNow, both_calls, both_pass, no_call, weaker, weaker_since}
+use Rattle.au_journal.specs.declared.doubt.Doubt.TheVariants.{Settled}
+use Rattle.au_journal.specs.declared.seat.Seat.{Seat}
+use Rattle.au_engine.specs.History.{AreSteps, Entry}
+use Rattle.au_engine.specs.State.{State}
+use Rattle.au_store.specs.Recovery.{RecoversTo, RecoversToEither, ReplayedTo}
+use Rattle.au_store.specs.Standing.{Holds, IsInDoubt}
+use Rattle.au_store.specs.Steps.{IsAfter, StepLeaves, event_at}
+use Rattle.au_store.specs.Stored.{IsKeptOn, IsStoodOn}
+use Rattle.au_main.specs.Answers.{Answer, Made, Unmended, said_of, steps_of}
+use Rattle.au_main.specs.OnDisk.{AreFaults, IsTried, CameBy, RecoversAlong, IsUncertain, RecoversAfter, StandsFor, IsOnDisk, MakesOnDisk, StepsOnDisk}
+
+-- ---- what a run came by
+
+IsTried-more : (m : State) (answers : List Answer) (a : Answer) (kept : Kept) → IsTried m answers kept → IsTried m (answers ++ a ∷ []) kept
+IsTried-more m [] a kept is = absurd is
+IsTried-more m (Made client ask reading said ∷ answers) a kept is = is
+IsTried-more m (Unmended client ask ∷ answers) a kept is = is
+
+CameBy-more : (m : State) (answers : List Answer) (a : Answer) (kept : Kept) → CameBy m answers kept → CameBy m (answers ++ a ∷ []) kept
+CameBy-more m answers a kept came = record {
+  before = came.before;
+  rest = came.rest ++ a ∷ [];
+  split = ap (λ (l : List Answer). l ++ a ∷ []) came.split ∙ append_assoc came.before came.rest (a ∷ []);
+  state = came.state;
+  reached = came.reached;
+  is = ⊎_elim (λ (same : kept ≡ came.state.kept). inl same) (λ (tried : IsTried came.state came.rest kept). inr (IsTried-more came.state came.rest a kept tried)) came.is;
+}
+
+RecoversAlong-more : (m : State) (answers : List Answer) (a : Answer) (all : Areas) → RecoversAlong m answers all → RecoversAlong m (answers ++ a ∷ []) all
+RecoversAlong-more m answers a all along = (along.0, CameBy-more m answers a along.0 along.1, along.2)
+
+-- what is kept before the last step
+CameBy-before : (m n : State) (answers rest : List Answer) → AreSteps m (flat_map steps_of answers) n → CameBy m (answers ++ rest) n.kept
+CameBy-before m n answers rest reached = record { before = answers; rest = rest; split = refl; state = n; reached = reached; is = inl refl }
+
+-- and what is kept after its event
+CameBy-tried : (m n : State) (answers : List Answer) (client : ClientNo) (ask : Ask) (reading : ℕ) (said : Said) (kept : Kept) → AreSteps m (flat_map steps_of answers) n
+    → IsAfter n (event_at client ask reading) kept → CameBy m (answers ++ Made client ask reading said ∷ []) kept
+CameBy-tried m n answers client ask reading said kept reached is =
+    record { before = answers; rest = Made client ask reading said ∷ []; split = refl; state = n; reached = reached; is = inr is }
+
+-- ---- the step in doubt
+
+-- a fault is no step
+no_step : (a : Answer) → said_of a ≡ Disk → steps_of a ≡ []
+no_step (Made client ask reading (Replied reply)) is = absurd (let no : Replied reply ≡ Disk = is in cc)
+no_step (Made client ask reading Disk) is = refl
+no_step (Made client ask reading (Full needed limit)) is = refl
+no_step (Made client ask reading Memory) is = refl
+no_step (Unmended client ask) is = refl
+
+no_steps : (answers : List Answer) → AreFaults answers → flat_map steps_of answers ≡ []
+no_steps [] faults = refl
+no_steps (a ∷ answers) faults = ap (λ (l : List Entry). l ++ flat_map steps_of answers) (no_step a faults.0) ∙ no_steps answers faults.1
+
+AreFaults-push : (answers : List Answer) (a : Answer) → AreFaults answers → said_of a ≡ Disk → AreFaults (answers ++ a ∷ [])
+AreFaults-push [] a faults is = (is, tt)
+AreFaults-push (first ∷ answers) a faults is = (faults.0, AreFaults-push answers a faults.1 is)
+
+IsUncertain-more : (m : State) (answers : List Answer) (a : Answer) (kept : Kept) → IsUncertain m answers kept → said_of a ≡ Disk → IsUncertain m (answers ++ a ∷ []) kept
+IsUncertain-more m answers a kept un is = record {
+  before = un.before;
+  client = un.client;
+  ask = un.ask;
+  reading = un.reading;
+  since = un.since ++ a ∷ [];
+  split = ap (λ (l : List Answer). l ++ a ∷ []) un.split ∙ append_assoc un.before (Made un.client un.ask un.reading Disk ∷ un.since) (a ∷ []);
+  faults = AreFaults-push un.since a un.faults is;
+  is_after = un.is_after;
+}
+
+IsUncertain-last : (m : State) (answers : List Answer) (client : ClientNo) (ask : Ask) (reading : ℕ) (kept : Kept) → IsAfter m (event_at client ask reading) kept
+    → IsUncertain m (answers ++ Made client ask reading Disk ∷ []) kept
+IsUncertain-last m answers client ask reading kept is = record { before = answers; client = client; ask = ask; reading = reading; since = []; split = refl; faults = tt; is_after = is }
+
+-- the run came by what is kept after the step in doubt
+CameBy-uncertain : (m n : State) (answers : List Answer) (kept : Kept) → AreSteps m (flat_map steps_of answers) n → IsUncertain n answers kept → CameBy m answers kept
+CameBy-uncertain m n answers kept reached un =
+    let made = Made un.client un.ask un.reading Disk in
+    let none : flat_map steps_of answers ≡ flat_map steps_of un.before =
+    ap (λ (l : List Answer). flat_map steps_of l) un.split ∙ flat_map-append steps_of un.before (made ∷ un.since)
+    ∙ ap (λ (l : List Entry). flat_map steps_of un.before ++ l) (no_steps un.since un.faults) ∙ append-nil (flat_map steps_of un.before) in
+    record {
+      before = un.before;
+      rest = made ∷ un.since;
+      split = un.split;
+      state = n;
+      reached = subst (λ (l : List Entry). AreSteps m l n) none reached;
+      is = inr un.is_after;
+    }
+
+-- ---- the images
+
+-- no call passes no moment
+passes_none : (m : Meaning) → CountsNow m → OnlyNow m → Passes m m
+passes_none m counts only = record {
+  later = omega arith;
+  splits = λ t c le since. inl since;
+  keeps_past = λ t c le past. past;
+  keeps_call = λ t c le call. counts t c le (only c call);
+}
+
+-- nothing was done yet
+pub IsOnDisk-none : (m : State) (meaning : Meaning) (seat : Seat) → CountsNow meaning → OnlyNow meaning → seat.doubt ≡ Settled → IsKeptOn m.kept meaning seat → IsOnDisk m m [] meaning meaning seat
+IsOnDisk-none m meaning seat counts only settled kept = record {
+  time = passes_none meaning counts only;
+  any_moment = no_call (RecoversAlong m []) meaning only
+      (weaker (RecoversTo m.kept) (RecoversAlong m []) meaning
+      (λ c recovers. (m.kept, CameBy-before m m [] [] (record { events = []; replies = []; run = refl; told = refl }), recovers)) kept.leaves);
+  stands = record { doubted = m.kept; stood = inl (settled, kept); which = inl refl };
+}
+
+module _ (m n o : State) (answers : List Answer) (first old new : Meaning) (before after : Seat) (disk : IsOnDisk m n answers first old before)
+    (reached : AreSteps m (flat_map steps_of answers) n) (time : Passes old new) where
+  -- what may be in doubt is something that the run came by
+  doubt_came : (a : Answer) → CameBy m (answers ++ a ∷ []) disk.stands.doubted
+  doubt_came a = ⊎_elim
+      (λ (same : disk.stands.doubted ≡ n.kept). subst (λ (k : Kept). CameBy m (answers ++ a ∷ []) k) (sym same) (CameBy-before m n answers (a ∷ []) reached))
+      (λ (un : IsUncertain n answers disk.stands.doubted). CameBy-more m answers a disk.stands.doubted (CameBy-uncertain m n answers disk.stands.doubted reached un))
+      disk.stands.which
+
+  -- what was in doubt still is, or nothing was
+  doubt_stays : (a : Answer) → said_of a ≡ Disk → o ≡ n → IsStoodOn n.kept disk.stands.doubted new after → StandsFor o (answers ++ a ∷ []) new after
+  doubt_stays a is same stood = subst (λ (s : State). StandsFor s (answers ++ a ∷ []) new after) (sym same) (record {
+    doubted = disk.stands.doubted;
+    stood = stood;
+    which = ⊎_elim
+        (λ (same : disk.stands.doubted ≡ n.kept). inl same)
+        (λ (un : IsUncertain n answers disk.stands.doubted). inr (IsUncertain-more n answers a disk.stands.doubted un is))
+        disk.stands.which;
+  })
+
+  -- this step is in doubt
+  doubt_comes : (client : ClientNo) (ask : Ask) (reading : ℕ) (kept : Kept) → o ≡ n → IsAfter n (event_at client ask reading) kept → IsStoodOn n.kept kept new after
+      → StandsFor o (answers ++ Made client ask reading Disk ∷ []) new after
+  doubt_comes client ask reading kept same is stood = subst (λ (s : State). StandsFor s (answers ++ Made client ask reading Disk ∷ []) new after) (sym same)
+      (record { doubted = kept; stood = stood; which = inr (IsUncertain-last n answers client ask reading kept is) })
+
+  -- all the moments
+  moments : (a : Answer) → LeavesSince (RecoversAlong m (answers ++ a ∷ [])) old new → LeavesSince (RecoversAlong m (answers ++ a ∷ [])) first new
+  moments a then = both_calls (RecoversAlong m (answers ++ a ∷ [])) first old new disk.time time
+      (weaker_since (RecoversAlong m answers) (RecoversAlong m (answers ++ a ∷ [])) first old (RecoversAlong-more m answers a) disk.any_moment) then
+
+  made_moments : (client : ClientNo) (ask : Ask) (reading : ℕ) (said : Said) → LeavesSince (StepLeaves n (event_at client ask reading) disk.stands.doubted) old new
+      → LeavesSince (RecoversAlong m (answers ++ Made client ask reading said ∷ [])) old new
+  made_moments client ask reading said leaves =
+      let a = Made client ask reading said in
+      weaker_since (StepLeaves n (event_at client ask reading) disk.stands.doubted) (RecoversAlong m (answers ++ a ∷ [])) old new
+      (λ c leaves. ⊎_elim
+      (λ (kept : RecoversTo n.kept c). (n.kept, CameBy-before m n answers (a ∷ []) reached, kept))
+      (λ (rest : RecoversTo disk.stands.doubted c ⊎ ((kept : Kept) × IsAfter n (event_at client ask reading) kept × RecoversTo kept c)). ⊎_elim
+      (λ (doubted : RecoversTo disk.stands.doubted c). (disk.stands.doubted, doubt_came a, doubted))
+      (λ (next : (kept : Kept) × IsAfter n (event_at client ask reading) kept × RecoversTo kept c). (next.0, CameBy-tried m n answers client ask reading said next.0 reached next.1, next.2))
+      rest)
+      leaves)
+      leaves
+
+  unmended_moments : (a : Answer) → LeavesSince (RecoversToEither n.kept disk.stands.doubted) old new → LeavesSince (RecoversAlong m (answers ++ a ∷ [])) old new
+  unmended_moments a leaves =
+      weaker_since (RecoversToEither n.kept disk.stands.doubted) (RecoversAlong m (answers ++ a ∷ [])) old new
+      (λ c leaves. ⊎_elim
+      (λ (kept : RecoversTo n.kept c). (n.kept, CameBy-before m n answers (a ∷ []) reached, kept))
+      (λ (doubted : RecoversTo disk.stands.doubted c). (disk.stands.doubted, doubt_came a, doubted))
+      leaves)
+      leaves
+
+  -- the step was made, or the disk didn't fail
+  no_fault : (client : ClientNo) (ask : Ask) (reading : ℕ) (said : Said) → said ≢ Disk → MakesOnDisk n o (event_at client ask reading) said old new before after
+      → IsOnDisk m o (answers ++ Made client ask reading said ∷ []) first new after
+  no_fault client ask reading said well makes = record {
+    time = both_pass first old new disk.time time;
+    any_moment = moments (Made client ask reading said) (made_moments client ask reading said (makes.any_moment disk.stands.doubted disk.stands.stood));
+    stands = record { doubted = o.kept; stood = inl (makes.settled well, makes.kept well); which = inl refl };
+  }
+
+  a_fault : (client : ClientNo) (ask : Ask) (reading : ℕ) → o ≡ n → MakesOnDisk n o (event_at client ask reading) Disk old new before after
+      → IsOnDisk m o (answers ++ Made client ask reading Disk ∷ []) first new after
+  a_fault client ask reading same makes = record {
+    time = both_pass first old new disk.time time;
+    any_moment = moments (Made client ask reading Disk) (made_moments client ask reading Disk (makes.any_moment disk.stands.doubted disk.stands.stood));
+    stands = ⊎_elim
+        (λ (stood : IsStoodOn n.kept disk.stands.doubted new after). doubt_stays (Made client ask reading Disk) refl same stood)
+        (λ (next : (kept : Kept) × IsAfter n (event_at client ask reading) kept × IsStoodOn n.kept kept new after). doubt_comes client ask reading next.0 same next.1 next.2)
+        (makes.doubted disk.stands.doubted disk.stands.stood refl);
+  }
+
+  -- one step more
+  pub IsOnDisk-more : (a : Answer) → (said_of a ≡ Disk → o ≡ n) → StepsOnDisk n o a old new before after → IsOnDisk m o (answers ++ a ∷ []) first new after
+  IsOnDisk-more (Made client ask reading (Replied reply)) same steps = no_fault client ask reading (Replied reply) (λ is. let no : Replied reply ≡ Disk = is in cc) steps
+  IsOnDisk-more (Made client ask reading Disk) same steps = a_fault client ask reading (same refl) steps
+  IsOnDisk-more (Made client ask reading (Full needed limit)) same steps = no_fault client ask reading (Full needed limit) (λ is. let no : Full needed limit ≡ Disk = is in cc) steps
+  IsOnDisk-more (Made client ask reading Memory) same steps = no_fault client ask reading Memory (λ is. let no : Memory ≡ Disk = is in cc) steps
+  IsOnDisk-more (Unmended client ask) same steps = record {
+    time = both_pass first old new disk.time time;
+    any_moment = moments (Unmended client ask) (unmended_moments (Unmended client ask) (steps.any_moment disk.stands.doubted disk.stands.stood));
+    stands = doubt_stays (Unmended client ask) refl (same refl) (steps.doubted disk.stands.doubted disk.stands.stood);
+  }
+
+-- at the last moment
+pub after_all : (m n : State) (answers : List Answer) (old new : Meaning) (seat : Seat) → IsOnDisk m n answers old new seat → Leaves (RecoversAfter n answers) new
+after_all m n answers old new seat disk c image =
+    let stands = disk.stands in
+    ⊎_elim
+    (λ (kept : (seat.doubt ≡ Settled) × IsKeptOn n.kept new seat). inl (kept.1.leaves c image))
+    (λ (doubt : IsInDoubt (ReplayedTo n.kept) (ReplayedTo stands.doubted) new seat). ⊎_elim
+    (λ (here : Holds (ReplayedTo n.kept) c). inl here)
+    (λ (there : Holds (ReplayedTo stands.doubted) c). ⊎_elim
+    (λ (same : stands.doubted ≡ n.kept). inl (subst (λ (k : Kept). RecoversTo k c) same there))
+    (λ (un : IsUncertain n answers stands.doubted). inr (stands.doubted, un, there))
+    stands.which)
+    (doubt.leaves c image))
+    stands.stood

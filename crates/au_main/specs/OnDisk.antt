@@ -1,0 +1,87 @@
+-- What a crash leaves of a run.
+use Rattle.std.specs.Prelude.{◌≡◌, ◌≢◌, ◌⊎◌, ℕ, List, [], ◌∷◌, ◌++◌, flat_map, ⊤}
+use Rattle.au_base.specs.declared.ask.Ask.{Ask}
+use Rattle.au_base.specs.declared.numbers.ClientNo.{ClientNo}
+use Rattle.au_base.specs.declared.reply.Said.{Said}
+use Rattle.au_base.specs.declared.reply.Said.TheVariants.{Disk}
+use Rattle.au_catalog.specs.declared.kept.Kept.{Kept}
+use Rattle.au_io.specs.Areas.{Areas}
+use Rattle.au_io.specs.Disk.{Meaning, Passes}
+use Rattle.au_io.specs.Moments.{LeavesSince}
+use Rattle.au_journal.specs.declared.doubt.Doubt.TheVariants.{Settled}
+use Rattle.au_journal.specs.declared.seat.Seat.{Seat}
+use Rattle.au_engine.specs.History.{AreSteps}
+use Rattle.au_engine.specs.State.{State}
+use Rattle.au_engine.specs.Step.{Event}
+use Rattle.au_store.specs.Recovery.{RecoversTo, RecoversToEither}
+use Rattle.au_store.specs.Steps.{IsAfter, StepDoubts, StepLeaves, event_at}
+use Rattle.au_store.specs.Stored.{IsKeptOn, IsStoodOn}
+use Rattle.au_main.specs.Answers.{Answer, Made, Unmended, said_of, steps_of}
+
+-- each of them says that the disk failed
+abbrev pub AreFaults : List Answer → Type 0
+AreFaults [] = ⊤
+AreFaults (a ∷ answers) = (said_of a ≡ Disk) × AreFaults answers
+
+-- the first step that is still to come is tried, and this is kept after its event
+abbrev pub IsTried : State → List Answer → Kept → Type 0
+IsTried m [] kept = ⊥
+IsTried m (Made client ask reading said ∷ answers) kept = IsAfter m (event_at client ask reading) kept
+IsTried m (Unmended client ask ∷ answers) kept = ⊥
+
+-- a run from m came by this: it is kept before some step or after the last one, or after the event of a step that was tried
+pub record CameBy (m : State) (answers : List Answer) (kept : Kept) : Type 0 where
+  pub before : List Answer
+  pub rest : List Answer
+  pub split : answers ≡ before ++ rest
+  pub state : State
+  pub reached : AreSteps m (flat_map steps_of before) state
+  pub is : (kept ≡ state.kept) ⊎ IsTried state rest kept
+
+-- the areas recover to something that the run came by
+abbrev pub RecoversAlong : State → List Answer → Areas → Type 0
+RecoversAlong m answers all = (kept : Kept) × CameBy m answers kept × RecoversTo kept all
+
+-- a step is in doubt, and this is kept after its event: it was tried and the disk failed, and it failed at each step since
+pub record IsUncertain (m : State) (answers : List Answer) (kept : Kept) : Type 0 where
+  pub before : List Answer
+  pub client : ClientNo
+  pub ask : Ask
+  pub reading : ℕ
+  pub since : List Answer
+  pub split : answers ≡ before ++ Made client ask reading Disk ∷ since
+  pub faults : AreFaults since
+  pub is_after : IsAfter m (event_at client ask reading) kept
+
+-- the areas recover to what is kept in m, or, where a step is in doubt, to what is kept after it
+abbrev pub RecoversAfter : State → List Answer → Areas → Type 0
+RecoversAfter m answers all = RecoversTo m.kept all ⊎ ((kept : Kept) × IsUncertain m answers kept × RecoversTo kept all)
+
+-- the journal stands for what is kept in m, and perhaps for the step in doubt
+pub record StandsFor (m : State) (answers : List Answer) (meaning : Meaning) (seat : Seat) : Type 0 where
+  pub doubted : Kept
+  pub stood : IsStoodOn m.kept doubted meaning seat
+  pub which : (doubted ≡ m.kept) ⊎ IsUncertain m answers doubted
+
+-- a run from m to n, over these answers: each image of a moment recovers to what the run came by, each image of the last
+-- to what is kept in n or after the step in doubt
+pub record IsOnDisk (m n : State) (answers : List Answer) (old new : Meaning) (seat : Seat) : Type 0 where
+  pub time : Passes old new
+  pub any_moment : LeavesSince (RecoversAlong m answers) old new
+  pub stands : StandsFor n answers new seat
+
+-- what a step does on the disk, by what is said
+pub record MakesOnDisk (m n : State) (event : Event) (said : Said) (old new : Meaning) (before after : Seat) : Type 0 where
+  pub settled : said ≢ Disk → after.doubt ≡ Settled
+  pub kept : said ≢ Disk → IsKeptOn n.kept new after
+  pub doubted : (doubted : Kept) → IsStoodOn m.kept doubted old before → said ≡ Disk → StepDoubts m event doubted new after
+  pub any_moment : (doubted : Kept) → IsStoodOn m.kept doubted old before → LeavesSince (StepLeaves m event doubted) old new
+
+-- what a step does that couldn't mend an earlier one's doubt
+pub record StaysOnDisk (m : State) (old new : Meaning) (before after : Seat) : Type 0 where
+  pub doubted : (doubted : Kept) → IsStoodOn m.kept doubted old before → IsStoodOn m.kept doubted new after
+  pub any_moment : (doubted : Kept) → IsStoodOn m.kept doubted old before → LeavesSince (RecoversToEither m.kept doubted) old new
+
+abbrev pub StepsOnDisk : (m n : State) → Answer → (old new : Meaning) (before after : Seat) → Type 0
+StepsOnDisk m n (Made client ask reading said) old new before after = MakesOnDisk m n (event_at client ask reading) said old new before after
+StepsOnDisk m n (Unmended client ask) old new before after = StaysOnDisk m old new before after

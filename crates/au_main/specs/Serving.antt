@@ -1,0 +1,69 @@
+-- What serving a line comes to, over a store.
+use Rattle.std.specs.Prelude.{◌≡◌, ◌⊎◌, ℕ, List, [], Option}
+use Rattle.std.specs.Io.KnownBytes.{Appends}
+use Rattle.au_base.specs.declared.ask.Ask.{Ask}
+use Rattle.au_base.specs.declared.reply.Said.{Said}
+use Rattle.au_io.specs.Disk.{Passes}
+use Rattle.au_script.specs.declared.lines.ScriptLine.{ScriptLine}
+use Rattle.au_script.specs.declared.lines.ScriptLine.TheVariants as line
+use Rattle.au_store.specs.Stored.{Stored}
+use Rattle.au_main.specs.Answers.{Answer, Goes, ReadAll, asked, line_of, place_of, readings_of, said_of}
+use Rattle.au_main.specs.Built.{IsScriptLine}
+use Rattle.au_main.specs.Given.{AppendsFront}
+use Rattle.au_main.specs.Means.{Means}
+use Rattle.au_main.specs.OnDisk.{StepsOnDisk}
+
+-- an ask of client 1 is answered so, and the store goes from s to t
+pub record Answers {D C : Type 0} (means : Means D C) (s t : Stored D C) (ask : Ask) (answer : Answer) : Type 0 where
+  pub asks : asked answer ≡ (1, ask)
+  pub read : ReadAll (means.ticking s.clock) (means.ticking t.clock) (readings_of answer)
+  pub goes : Goes (place_of means s) answer (place_of means t)
+  pub on_disk : means.told → StepsOnDisk s.state t.state answer (means.meaning s.disk) (means.meaning t.disk) s.seat t.seat
+  pub time : Passes (means.meaning s.disk) (means.meaning t.disk)
+
+-- this is said to the ask
+abbrev pub AnswersBy : {D C : Type 0} → Means D C → (s t : Stored D C) → Ask → Said → Type 0
+AnswersBy means s t ask said = (answer : Answer) × Answers means s t ask answer × (said ≡ said_of answer)
+
+-- what a line comes to: nothing where it is skipped, else an answer and its text
+abbrev pub Does : {D C : Type 0} → Means D C → (s t : Stored D C) → ScriptLine → List ℕ → Type 0
+Does means s t line.Skip text = (t ≡ s) × (text ≡ [])
+Does means s t (line.Ask label ask) text = (answer : Answer) × Answers means s t ask answer × (text ≡ line_of (said_of answer))
+
+-- a script line was served, and this is the text that it is owed
+pub record Serves {D C : Type 0} (means : Means D C) (s t : Stored D C) (bytes : List ℕ) (text : List ℕ) : Type 0 where
+  pub said : ScriptLine
+  pub spelled : IsScriptLine bytes said
+  pub does : Does means s t said text
+
+-- nothing was done
+abbrev pub Stays : {D C : Type 0} → Stored D C → Stored D C → Option (List ℕ) → Option (List ℕ) → Type 0
+Stays s t given gave = (t ≡ s) × (gave ≡ given)
+
+-- a line was served, and the text that it is owed was given
+pub record Served {D C : Type 0} (means : Means D C) (s t : Stored D C) (bytes : List ℕ) (given gave : Option (List ℕ)) : Type 0 where
+  pub text : List ℕ
+  pub serves : Serves means s t bytes text
+  pub given_all : Appends given gave text
+
+-- a line was served, and a front of the text that it is owed was given
+pub record ServedInPart {D C : Type 0} (means : Means D C) (s t : Stored D C) (bytes : List ℕ) (given gave : Option (List ℕ)) : Type 0 where
+  pub text : List ℕ
+  pub serves : Serves means s t bytes text
+  pub given_front : AppendsFront given gave text
+
+-- a line found no memory: it did nothing, or its text was not given
+abbrev pub FoundNoMemory : {D C : Type 0} → Means D C → (s t : Stored D C) → List ℕ → Option (List ℕ) → Option (List ℕ) → Type 0
+FoundNoMemory means s t bytes given gave = Stays s t given gave ⊎ ServedInPart means s t bytes given gave
+
+-- an ask was answered, and the text was given
+pub record Told {D C : Type 0} (means : Means D C) (s t : Stored D C) (ask : Ask) (given gave : Option (List ℕ)) : Type 0 where
+  pub answer : Answer
+  pub answers : Answers means s t ask answer
+  pub given_all : Appends given gave (line_of (said_of answer))
+
+-- an ask was answered, and a front of the text was given
+pub record ToldInPart {D C : Type 0} (means : Means D C) (s t : Stored D C) (ask : Ask) (given gave : Option (List ℕ)) : Type 0 where
+  pub answer : Answer
+  pub answers : Answers means s t ask answer
+  pub given_front : AppendsFront given gave (line_of (said_of answer))
