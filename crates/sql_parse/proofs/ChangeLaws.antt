@@ -1,7 +1,6 @@
 -- Each reader of a statement that changes rows reads exactly its rule.
-use Rattle.std.proofs.Common.{◌≡◌, ℕ, ◌<◌, true, false, List, [], ◌∷◌, length, Option, Some, None, refl, sym, ap, subst, ◌∙◌, arith}
+use Rattle.std.proofs.Common.{◌≡◌, ℕ, ◌<◌, false, List, [], ◌∷◌, length, Option, Some, refl, sym, subst, arith}
 use Rattle.std.specs.Prelude.{codes}
-use Rattle.au_base.specs.declared.table.TableReference.{TableReference}
 use Rattle.sql_lex.specs.declared.token.Kind.{Kind}
 use Rattle.sql_lex.specs.declared.token.Kind.TheVariants.{Word}
 use Rattle.sql_ast.specs.declared.expression.Expr.{Expr}

@@ -2,7 +2,6 @@
 use Rattle.std.proofs.Common.{◌≡◌, ℕ, zero, suc, ◌<◌, ◌≤◌, Bool, true, false, cond, ◌||◌, List, [], ◌∷◌, length, Option, Some, None, refl, sym, ap, subst, ◌∙◌, arith, inl, inr}
 use Rattle.std.specs.Prelude.{codes, ◌==◌}
 use Rattle.std.specs.Str.{bytes_eq}
-use Rattle.std.proofs.lemmas.Bool.{eqb-true}
 use Rattle.std.proofs.lemmas.Slice.Eq.{bytes_eq-Decides}
 use Rattle.sql_lex.specs.declared.token.Kind.{Kind}
 use Rattle.sql_lex.specs.declared.token.Kind.TheVariants.{Word, Quoted, Number, Text, Mark}
@@ -11,7 +10,6 @@ use Rattle.sql_ast.specs.declared.expression.Expr.TheVariants as e
 use Rattle.sql_ast.specs.declared.expression.Relation.{Relation}
 use Rattle.sql_ast.specs.declared.expression.Relation.TheVariants as relation
 use Rattle.std.specs.Prelude.{◌&&◌, ◌⊎◌}
-use Rattle.au_base.specs.Moments.{TellsMoment}
 use Rattle.sql_lex.specs.declared.token.Mark.{Mark as MarkName}
 use Rattle.sql_lex.specs.declared.token.Mark.TheVariants as mark
 use Rattle.sql_parse.specs.MomentReading.{moment_read}

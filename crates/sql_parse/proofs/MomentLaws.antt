@@ -1,11 +1,11 @@
 -- The reading of a moment's text gives the moment that the text tells.
-use Rattle.std.proofs.Common.{◌≡◌, ℕ, ◌+◌, ◌-◌, ◌*◌, ◌/◌, ◌%◌, ◌<◌, ◌≤◌, Bool, true, false, cond, ◌&&◌, List, [], ◌∷◌, ◌++◌, drop, Option, Some, None, refl, sym, ap, subst, ◌∙◌, arith}
-use Rattle.std.specs.Prelude.{nat_le, nat_lt, MatchOption}
+use Rattle.std.proofs.Common.{◌≡◌, ℕ, ◌+◌, ◌-◌, ◌*◌, ◌/◌, ◌%◌, ◌<◌, ◌≤◌, Bool, true, false, cond, ◌&&◌, List, ◌++◌, drop, Option, Some, None, refl, sym, ap, ◌∙◌, arith}
+use Rattle.std.specs.Prelude.{nat_le, nat_lt}
 use Rattle.std.specs.Str.{bytes_eq}
 use Rattle.std.proofs.lemmas.Bool.Decides.{nat_tests}
 use Rattle.std.proofs.lemmas.Slice.Eq.{bytes_eq-Decides}
 use Rattle.au_base.specs.declared.calendar.Civil.{Civil}
-use Rattle.au_base.specs.Calendar.{IsCivil, IsDay, moment_of, month_days}
+use Rattle.au_base.specs.Calendar.{IsCivil, moment_of, month_days}
 use Rattle.au_base.specs.Moments.{TellsMoment, TellsNoMoment, fraction_of, front}
 use Rattle.sql_parse.specs.MomentReading.{moment_read, moment_at, civil_in, civil_with, is_civil}
 

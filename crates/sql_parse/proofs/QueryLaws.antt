@@ -1,5 +1,5 @@
 -- Each reader of a query reads exactly its rule.
-use Rattle.std.proofs.Common.{◌≡◌, ℕ, ◌<◌, Bool, true, false, cond, ◌&&◌, ◌||◌, List, [], ◌∷◌, length, Option, Some, None, refl, sym, ap, subst, ◌∙◌, arith, inl, inr}
+use Rattle.std.proofs.Common.{◌≡◌, ℕ, ◌<◌, Bool, true, false, cond, ◌&&◌, List, [], ◌∷◌, length, Option, Some, None, refl, sym, ap, subst, ◌∙◌, arith, inl, inr}
 use Rattle.std.specs.Prelude.{codes}
 use Rattle.std.specs.Str.{bytes_eq}
 use Rattle.std.proofs.lemmas.Slice.Eq.{bytes_eq-Decides}
@@ -20,7 +20,6 @@ use Rattle.sql_parse.specs.Symbols.{same, sees, opening, closing, star, comma, d
 use Rattle.sql_parse.specs.Rules.{After, after, Many, Maybe, without, written, Optional, absent, present, Parted, parted}
 use Rattle.sql_parse.specs.Expressions.{Cond, IsName, Sum, quoted, word}
 use Rattle.sql_parse.specs.Tables as rules
-use Rattle.sql_parse.specs.Changes.{Where}
 use Rattle.sql_parse.specs.Queries as g
 use Rattle.sql_parse.specs.Reading as read
 use Rattle.sql_parse.specs.Reading.{◌>>=◌, under, behind, expect}
@@ -28,7 +27,7 @@ use Rattle.sql_parse.specs.ReadTables as tables
 use Rattle.sql_parse.specs.ReadChanges as changes
 use Rattle.sql_parse.specs.ReadQueries as queries
 use Rattle.sql_parse.proofs.Exact.{bind_some, under_some, some_is, given, chosen, sees_is, expect_is, Exact, Above, Repeats, parted_exact, many_sound, many_complete, many_follows}
-use Rattle.sql_parse.proofs.Follow.{OneOf, unseen, above, no_name, WHERE, ORDER, LAST, clause_first, clause_sound, clause_complete, past_sound, past_complete}
+use Rattle.sql_parse.proofs.Follow.{OneOf, unseen, above, no_name, WHERE, ORDER, LAST, clause_first, clause_sound, clause_complete, past_sound}
 use Rattle.sql_parse.proofs.TableLaws.{qualified_exact, AliasEnds, alias_sound, aliased_exact, name_unseen}
 use Rattle.sql_parse.proofs.ExpressionLaws.{no_clash, name_sound, name_complete, excluded, sum_first, begins_sum, no_star, sum_exact, cond_exact}
 use Rattle.sql_parse.proofs.ChangeLaws.{where_sound, where_complete}

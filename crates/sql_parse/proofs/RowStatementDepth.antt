@@ -1,13 +1,12 @@
 -- A row statement whose tokens open few parentheses nests no deeper than those allow.
 use Rattle.std.proofs.Common.{◌≡◌, ℕ, ◌+◌, ◌<◌, ◌≤◌, true, List, ◌∷◌, refl, arith}
 use Rattle.std.specs.Prelude.{codes}
-use Rattle.au_base.specs.declared.table.TableReference.{TableReference}
 use Rattle.sql_lex.specs.declared.token.Kind.{Kind}
 use Rattle.sql_lex.specs.declared.token.Kind.TheVariants.{Word}
 use Rattle.sql_ast.specs.declared.expression.Expr.{Expr}
 use Rattle.sql_ast.specs.declared.statement.Statement.{Statement}
-use Rattle.sql_parse.specs.Symbols.{opening, closing, comma, dot, equal}
-use Rattle.sql_parse.specs.Rules.{After, after, Before, before, Maybe, without, written, Parted, Optional, absent, present}
+use Rattle.sql_parse.specs.Symbols.{closing, comma, dot, equal}
+use Rattle.sql_parse.specs.Rules.{After, after, before, Maybe, without, written, Parted, Optional, absent, present}
 use Rattle.sql_parse.specs.Expressions.{quoted, word, Cond, Sum, Within}
 use Rattle.sql_parse.specs.Tables as rules
 use Rattle.sql_parse.specs.Changes as g

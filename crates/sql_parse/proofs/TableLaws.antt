@@ -1,6 +1,5 @@
 -- Each reader of names and tables reads exactly its rule.
-use Rattle.std.proofs.Common.{◌≡◌, ℕ, ◌<◌, true, false, cond, List, [], ◌∷◌, length, Option, Some, None, refl, sym, ap, subst, ◌∙◌, arith, inl, inr}
-use Rattle.std.specs.Prelude.{codes}
+use Rattle.std.proofs.Common.{◌≡◌, ℕ, ◌<◌, true, false, cond, List, ◌∷◌, length, Option, Some, None, refl, sym, subst, arith, inl, inr}
 use Rattle.au_base.specs.declared.table.TableReference.{TableReference}
 use Rattle.sql_lex.specs.declared.token.Kind.{Kind}
 use Rattle.sql_lex.specs.declared.token.Kind.TheVariants.{Word}

@@ -1,5 +1,5 @@
 -- What the code answers of all tokens.
-use Rattle.std.specs.Prelude.{List, Option, Some, None, if◌then◌else◌}
+use Rattle.std.specs.Prelude.{List, Option, None, if◌then◌else◌}
 use Rattle.sql_lex.specs.declared.token.Kind.{Kind}
 use Rattle.sql_ast.specs.declared.expression.Expr.{Expr}
 use Rattle.sql_ast.specs.declared.statement.Statement.{Statement}

@@ -3,7 +3,6 @@ use Rattle.std.specs.Prelude.{ℕ, Bool, true, false, ◌||◌, ◌&&◌, if◌t
 use Rattle.sql_lex.specs.declared.token.Kind.{Kind}
 use Rattle.sql_lex.specs.declared.token.Kind.TheVariants.{Word}
 use Rattle.sql_ast.specs.declared.expression.Expr.{Expr}
-use Rattle.sql_ast.specs.declared.query.AliasedTable.{AliasedTable}
 use Rattle.sql_ast.specs.declared.query.Count.{Count}
 use Rattle.sql_ast.specs.declared.query.FromClause.{FromClause}
 use Rattle.sql_ast.specs.declared.query.Item.{Item}

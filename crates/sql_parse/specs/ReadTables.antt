@@ -1,8 +1,7 @@
 -- Reading names, tables and their aliases by descent: what each function of the code answers.
-use Rattle.std.specs.Prelude.{ℕ, Bool, if◌then◌else◌, List, Option, Some, None}
+use Rattle.std.specs.Prelude.{ℕ, if◌then◌else◌, List, Option, Some, None}
 use Rattle.au_base.specs.declared.table.TableReference.{TableReference}
 use Rattle.sql_lex.specs.declared.token.Kind.{Kind}
-use Rattle.sql_lex.specs.declared.token.Kind.TheVariants.{Word}
 use Rattle.sql_ast.specs.declared.query.AliasedTable.{AliasedTable}
 use Rattle.sql_parse.specs.Symbols.{sees, closing, comma, dot}
 use Rattle.sql_parse.specs.Reading.{Reader, ◌>>=◌, under, behind, expect, parted, name}

@@ -1,6 +1,6 @@
 -- Words and marks as tokens, and the words that are reserved (SQL Language Reference, "Oracle SQL Reserved Words and
 -- Keywords"; the list is this project's profile).
-use Rattle.std.specs.Prelude.{ℕ, Bool, false, not, ◌&&◌, ◌||◌, ◌==◌, nat_le, if◌then◌else◌, List, [], ◌∷◌, length, map, codes}
+use Rattle.std.specs.Prelude.{ℕ, Bool, false, not, ◌&&◌, ◌==◌, nat_le, if◌then◌else◌, List, [], ◌∷◌, length, map, codes}
 use Rattle.std.specs.Str.{bytes_eq}
 use Rattle.std.specs.List.{list_any}
 use Rattle.sql_lex.specs.declared.token.Kind.{Kind}

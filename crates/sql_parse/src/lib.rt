@@ -1,5 +1,5 @@
 //! Reads conditions, and the statements that read and change rows. The modules that are public are
-//! for the readers of the other statements.
+//! for the readers of the other statements, whose grammar stands here too.
 #![tactic(auto)]
 
 mod atom;

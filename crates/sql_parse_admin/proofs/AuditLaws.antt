@@ -1,5 +1,5 @@
 -- AUDIT, NOAUDIT and DROP AUDIT POLICY are read exactly by their rules.
-use Rattle.std.proofs.Common.{◌≡◌, ℕ, ◌<◌, Bool, true, false, List, [], ◌∷◌, length, Option, Some, None, refl, sym, ap, subst, ◌∙◌, arith, inl, inr}
+use Rattle.std.proofs.Common.{◌≡◌, ℕ, ◌<◌, true, List, [], ◌∷◌, length, Option, Some, None, refl, sym, ap, subst, ◌∙◌, arith, inl, inr}
 use Rattle.std.specs.Prelude.{codes}
 use Rattle.sql_lex.specs.declared.token.Kind.{Kind}
 use Rattle.sql_lex.specs.declared.token.Kind.TheVariants.{Word}
@@ -9,7 +9,7 @@ use Rattle.sql_ast.specs.declared.administration.Whenever.TheVariants as wheneve
 use Rattle.sql_ast.specs.declared.statement.Statement.{Statement}
 use Rattle.sql_ast.specs.declared.statement.Statement.TheVariants as statement
 use Rattle.sql_parse.specs.Symbols.{sees, comma, semicolon}
-use Rattle.sql_parse.specs.Rules.{After, Maybe, without, written, Optional, absent, present}
+use Rattle.sql_parse.specs.Rules.{Maybe, without, written, Optional, absent, present}
 use Rattle.sql_parse.specs.Tables.{Name}
 use Rattle.sql_parse.specs.Reading as read
 use Rattle.sql_parse.specs.Reading.{◌>>=◌, under, behind, expect}
@@ -20,8 +20,8 @@ use Rattle.sql_parse.proofs.Exact.{bind_some, under_some, some_is, chosen, guard
 use Rattle.sql_parse.proofs.Follow.{OneOf, unseen, LAST, Anywhere, clause_first, clause_sound, clause_complete}
 use Rattle.sql_parse.proofs.TableLaws.{name_exact, names_exact, NoComma}
 use Rattle.sql_parse.proofs.RowStatementLaws.{last}
-use Rattle.sql_parse_admin.specs.Grants.{Names}
-use Rattle.sql_parse_admin.specs.Audits as g
+use Rattle.sql_parse.specs.Grants.{Names}
+use Rattle.sql_parse.specs.AuditStatements as g
 use Rattle.sql_parse_admin.specs.ReadAudits as audits
 
 abbrev BY : Kind

@@ -1,5 +1,5 @@
 -- GRANT and REVOKE are read exactly by their rules.
-use Rattle.std.proofs.Common.{◌≡◌, ℕ, Bool, true, false, List, [], ◌∷◌, Option, Some, None, refl, sym, ap, subst, ◌∙◌, inl, inr}
+use Rattle.std.proofs.Common.{◌≡◌, ℕ, Bool, true, false, List, ◌∷◌, Some, refl, sym, ap, subst, ◌∙◌, inl, inr}
 use Rattle.std.specs.Prelude.{codes}
 use Rattle.std.specs.Str.{bytes_eq}
 use Rattle.au_base.specs.declared.grant.GrantStatement.{GrantStatement}
@@ -10,15 +10,15 @@ use Rattle.au_base.specs.declared.table.TableReference.{TableReference}
 use Rattle.sql_lex.specs.declared.token.Kind.{Kind}
 use Rattle.sql_lex.specs.declared.token.Kind.TheVariants.{Word}
 use Rattle.sql_parse.specs.Symbols.{sees, comma}
-use Rattle.sql_parse.specs.Rules.{After, after, Many, none, more, Parted, parted}
+use Rattle.sql_parse.specs.Rules.{after, none, more, Parted, parted}
 use Rattle.sql_parse.specs.Tables.{Table}
 use Rattle.sql_parse.specs.Reading.{◌>>=◌, under, behind, expect}
 use Rattle.sql_parse.specs.ReadTables as tables
 use Rattle.sql_parse.proofs.Exact.{bind_some, under_some, some_is, chosen, sees_is, expect_is}
 use Rattle.sql_parse.proofs.Follow.{OneOf, unseen, LAST}
 use Rattle.sql_parse.proofs.TableLaws.{names_exact, NoComma, table_exact}
-use Rattle.sql_parse_admin.specs.Grants as g
-use Rattle.sql_parse_admin.specs.Privileges.{IsObjectRight, IsRight}
+use Rattle.sql_parse.specs.Grants as g
+use Rattle.sql_parse.specs.Privileges.{IsObjectRight, IsRight}
 use Rattle.sql_parse_admin.specs.ReadGrants as grants
 use Rattle.sql_parse_admin.proofs.PrivilegeLaws.{rights_exact, object_rights_exact, object_first, right_first, ON}
 

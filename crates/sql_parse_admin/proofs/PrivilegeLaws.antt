@@ -1,5 +1,5 @@
 -- Each reader of what is granted reads exactly its rule.
-use Rattle.std.proofs.Common.{◌≡◌, ℕ, ◌<◌, ◌≤◌, Bool, true, false, not, ◌&&◌, ◌||◌, List, [], ◌∷◌, ◌++◌, length, Option, Some, None, refl, sym, ap, subst, ◌∙◌, arith, inl, inr}
+use Rattle.std.proofs.Common.{◌≡◌, ℕ, ◌<◌, Bool, true, false, not, ◌&&◌, List, [], ◌∷◌, ◌++◌, length, Option, Some, None, refl, sym, ap, subst, ◌∙◌, arith, inl, inr}
 use Rattle.std.specs.Prelude.{codes}
 use Rattle.au_base.specs.declared.grant.ObjectRight.{ObjectRight}
 use Rattle.au_base.specs.declared.grant.ObjectRight.TheVariants as on
@@ -10,7 +10,7 @@ use Rattle.au_base.specs.declared.privilege.Privilege.TheVariants as p
 use Rattle.sql_lex.specs.declared.token.Kind.{Kind}
 use Rattle.sql_lex.specs.declared.token.Kind.TheVariants.{Word}
 use Rattle.sql_parse.specs.Symbols.{sees, comma, is_reserved}
-use Rattle.sql_parse.specs.Rules.{Maybe, without, written, Parted}
+use Rattle.sql_parse.specs.Rules.{without, written, Parted}
 use Rattle.sql_parse.specs.Expressions.{IsName}
 use Rattle.sql_parse.specs.Tables as rules
 use Rattle.sql_parse.specs.Reading as read
@@ -20,13 +20,13 @@ use Rattle.sql_parse.proofs.Exact.{under_some, some_is, chosen, guard, sees_is, 
 use Rattle.sql_parse.proofs.Follow.{OneOf, unseen, Anywhere, past_sound, past_complete}
 use Rattle.sql_parse.proofs.TableLaws.{name_exact, NoComma, name_unseen}
 use Rattle.sql_parse.proofs.ExpressionLaws.{name_complete}
-use Rattle.sql_parse_admin.specs.Privileges as g
-use Rattle.sql_parse_admin.specs.Privileges.{words_of, tokens_of}
+use Rattle.sql_parse.specs.Privileges as g
+use Rattle.sql_parse.specs.Privileges.{words_of, tokens_of}
 use Rattle.sql_parse_admin.specs.ReadGrants as grants
 
 -- ---- system privileges
 
-words_sound : (ws : List (List ℕ)) (i o : List Kind) → grants.past_words ws i ≡ Some o → i ≡ tokens_of ws ++ o
+pub words_sound : (ws : List (List ℕ)) (i o : List Kind) → grants.past_words ws i ≡ Some o → i ≡ tokens_of ws ++ o
 words_sound [] i o h = some_is i o h
 words_sound (w ∷ ws) i o h =
     let t = guard (sees (Word w) i) (grants.past_words ws (behind i)) o h in
@@ -41,12 +41,12 @@ first_sound (q ∷ ps) i y h = go (first_sound ps i y) (grants.past_words (words
         subst (λ (z : Privilege × List Kind). g.IsPrivilege i z.0 z.1) (some_is (q, o) y h) (subst (λ (j : List Kind). g.IsPrivilege j q o) (sym (words_sound (words_of q) i o at)) g.privilege)
     go others None at h = others h
 
-privilege_sound : (i : List Kind) (y : Privilege × List Kind) → grants.privilege i ≡ Some y → g.IsPrivilege i y.0 y.1
+pub privilege_sound : (i : List Kind) (y : Privilege × List Kind) → grants.privilege i ≡ Some y → g.IsPrivilege i y.0 y.1
 unfolding grants.privilege
 privilege_sound i y h = first_sound grants.each i y h
 
 -- no privilege's words are the first of another's
-each_read : (q : Privilege) (o : List Kind) → grants.privilege (tokens_of (words_of q) ++ o) ≡ Some (q, o)
+pub each_read : (q : Privilege) (o : List Kind) → grants.privilege (tokens_of (words_of q) ++ o) ≡ Some (q, o)
 unfolding grants.privilege
 each_read p.AlterUser o = refl
 each_read p.AuditSystem o = refl
@@ -66,7 +66,7 @@ each_read p.InsertAnyTable o = refl
 each_read p.SelectAnyTable o = refl
 each_read p.UpdateAnyTable o = refl
 
-each_longer : (q : Privilege) (o : List Kind) → length o < length (tokens_of (words_of q) ++ o)
+pub each_longer : (q : Privilege) (o : List Kind) → length o < length (tokens_of (words_of q) ++ o)
 each_longer p.AlterUser o = omega arith
 each_longer p.AuditSystem o = omega arith
 each_longer p.CreateAnyTable o = omega arith

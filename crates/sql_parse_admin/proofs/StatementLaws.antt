@@ -1,14 +1,12 @@
 -- A statement about users, roles and rights, and what is read.
-use Rattle.std.proofs.Common.{◌≡◌, ℕ, Bool, true, false, cond, List, [], ◌∷◌, Option, Some, None, refl, sym, ap, subst, ◌∙◌, inl, inr}
+use Rattle.std.proofs.Common.{◌≡◌, ℕ, true, List, [], ◌∷◌, Option, Some, None, refl, sym, subst, ◌∙◌, inl, inr}
 use Rattle.std.specs.Prelude.{codes}
-use Rattle.au_base.specs.declared.table.TableReference.{TableReference}
 use Rattle.sql_lex.specs.declared.token.Kind.{Kind}
 use Rattle.sql_lex.specs.declared.token.Kind.TheVariants.{Word}
 use Rattle.sql_ast.specs.declared.statement.Statement.{Statement}
 use Rattle.sql_ast.specs.declared.statement.Statement.TheVariants as statement
 use Rattle.sql_parse.specs.Symbols.{sees, dot, semicolon}
-use Rattle.sql_parse.specs.Rules.{After, after, Maybe, without, written}
-use Rattle.sql_parse.specs.Tables.{Name, Table}
+use Rattle.sql_parse.specs.Rules.{after, Maybe, without, written}
 use Rattle.sql_parse.specs.Reading as read
 use Rattle.sql_parse.specs.Reading.{◌>>=◌, under, behind, expect}
 use Rattle.sql_parse.specs.ReadTables as tables
@@ -18,10 +16,10 @@ use Rattle.sql_parse.proofs.Exact.{bind_some, under_some, some_is, chosen, guard
 use Rattle.sql_parse.proofs.Follow.{OneOf, unseen, LAST}
 use Rattle.sql_parse.proofs.TableLaws.{name_exact, table_exact}
 use Rattle.sql_parse.proofs.RowStatementLaws.{last}
-use Rattle.sql_parse_admin.specs.Grants as grant
+use Rattle.sql_parse.specs.Grants as grant
 use Rattle.sql_parse_admin.specs.ReadGrants as grants
 use Rattle.sql_parse_admin.specs.ReadStatements as statements
-use Rattle.sql_parse_admin.specs.Statements as g
+use Rattle.sql_parse.specs.RightsStatements as g
 use Rattle.sql_parse_admin.proofs.GrantLaws.{grant_sound, grant_complete, grant_object_complete, revoke_sound, revoke_complete, revoke_object_complete}
 
 -- a statement whose first word was seen

@@ -1,7 +1,9 @@
-pub mod Audits
-pub mod Grants
-pub mod Privileges
+pub mod Families
 pub mod ReadAudits
+pub mod ReadCalls
 pub mod ReadGrants
+pub mod ReadPolicies
 pub mod ReadStatements
-pub mod Statements
+pub mod ReadTableDefinitions
+pub mod ReadUsers
+pub mod Unread

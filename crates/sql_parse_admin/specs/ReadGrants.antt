@@ -14,7 +14,7 @@ use Rattle.sql_lex.specs.declared.token.Kind.TheVariants.{Word}
 use Rattle.sql_parse.specs.Symbols.{sees, comma}
 use Rattle.sql_parse.specs.Reading.{Reader, ◌>>=◌, under, behind, expect, parted, name}
 use Rattle.sql_parse.specs.ReadTables.{names, past, table}
-use Rattle.sql_parse_admin.specs.Privileges.{words_of}
+use Rattle.sql_parse.specs.Privileges.{words_of}
 
 -- past all of the words, where they come next
 abbrev pub past_words : List (List ℕ) → List Kind → Option (List Kind)

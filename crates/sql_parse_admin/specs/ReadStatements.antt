@@ -1,5 +1,5 @@
 -- Reading statements about users, roles and rights by descent: what each function of the code answers.
-use Rattle.std.specs.Prelude.{ℕ, if◌then◌else◌, List, Option, Some, None, codes}
+use Rattle.std.specs.Prelude.{if◌then◌else◌, List, Option, None, codes}
 use Rattle.sql_lex.specs.declared.token.Kind.{Kind}
 use Rattle.sql_lex.specs.declared.token.Kind.TheVariants.{Word}
 use Rattle.sql_ast.specs.declared.statement.Statement.{Statement}

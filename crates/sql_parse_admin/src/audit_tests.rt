@@ -1,7 +1,7 @@
 //! AUDIT, NOAUDIT and DROP AUDIT POLICY, and their trees, worked by hand from the grammar. A tree is
 //! written as a text; `+` and `-` stand for WHENEVER SUCCESSFUL and WHENEVER NOT SUCCESSFUL.
 
-use crate::audit_statement;
+use crate::audits::audit_statement;
 use au_base::{List, Name};
 use sql_ast::{Audit, AuditedUsers, Statement, Whenever};
 use sql_lex::tokens;

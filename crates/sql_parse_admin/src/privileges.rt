@@ -2,7 +2,7 @@
 ghost use Rattle.std.specs.Prelude.{◌≡◌, map};
 ghost use Rattle.sql_parse.specs.Symbols.{kinds};
 ghost use Rattle.sql_parse.specs.Reading.{Gives};
-ghost use Rattle.sql_parse_admin.specs.Privileges.{words_of};
+ghost use Rattle.sql_parse.specs.Privileges.{words_of};
 ghost use Rattle.sql_parse_admin.specs.ReadGrants as spec;
 
 use au_base::{ObjectRight, Privilege, Right};
@@ -66,7 +66,7 @@ fn is_action(tokens: &[Token]) -> bool
 }
 
 #[tactic(auto, unfolding(crate::specs::ReadGrants::privilege))]
-fn privilege(tokens: &[Token]) -> Result<(Privilege, &[Token]), Stop>
+pub fn privilege(tokens: &[Token]) -> Result<(Privilege, &[Token]), Stop>
     ensures { Gives (λ x. (x.0, kinds x.1.now)) result (spec.privilege (kinds tokens.now)) }
 {
     first_of(&Privilege::EACH, tokens)
@@ -90,8 +90,11 @@ fn first_of<'t>(
     Err(Stop::Unread)
 }
 
-// The tokens behind all of the words, which come next.
-fn past_words<'t>(mut tokens: &'t [Token], mut words: &[&[u8]]) -> Result<((), &'t [Token]), Stop>
+/// The tokens behind all of the words, which come next.
+pub fn past_words<'t>(
+    mut tokens: &'t [Token],
+    mut words: &[&[u8]],
+) -> Result<((), &'t [Token]), Stop>
     ensures { Gives (λ x. kinds x.1.now) result (spec.past_words (map (λ word. word.now) words.entry.now) (kinds tokens.entry.now)) }
 {
     while let [word, rest @ ..] = words {

@@ -5,7 +5,7 @@ ghost use Rattle.sql_ast.specs.declared.statement.Statement.{Statement as Tree};
 ghost use Rattle.sql_parse.specs.Symbols.{kinds};
 ghost use Rattle.sql_parse.specs.Reading.{Gives};
 ghost use Rattle.sql_parse_admin.specs.ReadStatements as spec;
-ghost use Rattle.sql_parse_admin.specs.Statements.{IsNoRightsStatement, IsRightsStatement};
+ghost use Rattle.sql_parse.specs.RightsStatements.{IsNoRightsStatement, IsRightsStatement};
 
 use crate::grants::{grant, revoke};
 use au_base::Memory;

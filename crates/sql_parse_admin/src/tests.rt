@@ -1,7 +1,7 @@
 //! Statements about users, roles and rights, and their trees, worked by hand from the grammar. A
 //! tree is written as a text.
 
-use crate::rights_statement;
+use crate::rights_statements::rights_statement;
 use au_base::{GrantStatement, List, Name, ObjectRight, Right, TableReference};
 use sql_ast::Statement;
 use sql_lex::tokens;

@@ -1,4 +1,3 @@
-use Rattle.std.proofs.Common.{sym}
 use Rattle.sql_parse.proofs.MomentLaws.{moment_complete, no_moment}
 use Rattle.sql_parse.proofs.atom.moment_of.Goals as goal
 

@@ -11,7 +11,7 @@ use Rattle.sql_lex.specs.declared.token.Kind.TheVariants.{Word}
 use Rattle.sql_parse.specs.Symbols.{comma}
 use Rattle.sql_parse.specs.Rules.{Parted}
 use Rattle.sql_parse.specs.Tables.{Name, Table}
-use Rattle.sql_parse_admin.specs.Privileges.{IsObjectRight, IsRight}
+use Rattle.sql_parse.specs.Privileges.{IsObjectRight, IsRight}
 
 -- [WITH ADMIN OPTION], and whether it stands there
 pub data AdminOption : List Kind → Bool → List Kind → Type 0 where

@@ -1,6 +1,6 @@
 -- What a statement about users, roles and rights is, where it sets no password (SQL Language Reference, "SQL Statements";
 -- the choice of rules is this project's profile).
-use Rattle.std.specs.Prelude.{◌≡◌, ℕ, true, List, [], ◌∷◌, codes}
+use Rattle.std.specs.Prelude.{◌≡◌, ℕ, true, List, [], codes}
 use Rattle.au_base.specs.declared.grant.GrantStatement.{GrantStatement}
 use Rattle.au_base.specs.declared.table.TableReference.{TableReference}
 use Rattle.sql_lex.specs.declared.token.Kind.{Kind}
@@ -11,7 +11,7 @@ use Rattle.sql_parse.specs.Symbols.{semicolon}
 use Rattle.sql_parse.specs.Rules.{After, Maybe}
 use Rattle.sql_parse.specs.Tables.{Name, Table}
 use Rattle.sql_parse.specs.Conditions.{opens_few}
-use Rattle.sql_parse_admin.specs.Grants.{IsGrant}
+use Rattle.sql_parse.specs.Grants.{IsGrant}
 
 -- both words, and then what the rule reads
 abbrev pub Behind : {A : Type 0} → List ℕ → List ℕ → (List Kind → A → List Kind → Type 0) → List Kind → A → List Kind → Type 0

@@ -13,7 +13,7 @@ use Rattle.sql_parse.specs.Symbols.{semicolon}
 use Rattle.sql_parse.specs.Rules.{After, Maybe, Optional}
 use Rattle.sql_parse.specs.Tables.{Name}
 use Rattle.sql_parse.specs.Conditions.{opens_few}
-use Rattle.sql_parse_admin.specs.Grants.{Names}
+use Rattle.sql_parse.specs.Grants.{Names}
 
 -- BY name {, name} | EXCEPT name {, name}
 pub data AreUsers : List Kind → AuditedUsers → List Kind → Type 0 where

@@ -1,0 +1,148 @@
+-- What a call of a package's procedure is (PL/SQL Packages and Types Reference, "DBMS_FGA" and "DBMS_AUDIT_MGMT"; which
+-- procedures and parameters there are is this project's profile).
+use Rattle.std.specs.Prelude.{◌≡◌, ℕ, Bool, true, not, ◌&&◌, ◌==◌, List, [], ◌∷◌, ◌++◌, map, codes}
+use Rattle.std.specs.List.{list_any, list_all}
+use Rattle.sql_lex.specs.declared.token.Kind.{Kind}
+use Rattle.sql_lex.specs.declared.token.Kind.TheVariants.{Word, Number, Text, Mark}
+use Rattle.sql_lex.specs.declared.token.Mark.TheVariants as mark
+use Rattle.sql_ast.specs.declared.call.Argument.{Argument}
+use Rattle.sql_ast.specs.declared.call.Call.{Call}
+use Rattle.sql_ast.specs.declared.call.Parameter.{Parameter}
+use Rattle.sql_ast.specs.declared.call.Parameter.TheVariants as parameter
+use Rattle.sql_ast.specs.declared.call.Procedure.{Procedure}
+use Rattle.sql_ast.specs.declared.call.Procedure.TheVariants as procedure
+use Rattle.sql_ast.specs.declared.call.Value.{Value}
+use Rattle.sql_ast.specs.declared.call.Value.TheVariants as value
+use Rattle.sql_ast.specs.declared.statement.Statement.{Statement}
+use Rattle.sql_ast.specs.declared.statement.Statement.TheVariants as statement
+use Rattle.au_base.specs.Moments.{TellsMoment}
+use Rattle.sql_parse.specs.Symbols.{opening, closing, comma, dot, semicolon}
+use Rattle.sql_parse.specs.Rules.{Maybe, Parted}
+use Rattle.sql_parse.specs.Tables.{Name}
+use Rattle.sql_parse.specs.Conditions.{opens_few}
+
+-- the package and the name of a procedure
+abbrev pub package_of : Procedure → List ℕ
+package_of procedure.AddPolicy = codes "DBMS_FGA"
+package_of procedure.DropPolicy = codes "DBMS_FGA"
+package_of procedure.EnablePolicy = codes "DBMS_FGA"
+package_of procedure.DisablePolicy = codes "DBMS_FGA"
+package_of procedure.SetLastArchiveTimestamp = codes "DBMS_AUDIT_MGMT"
+package_of procedure.ClearLastArchiveTimestamp = codes "DBMS_AUDIT_MGMT"
+package_of procedure.CleanAuditTrail = codes "DBMS_AUDIT_MGMT"
+
+abbrev pub procedure_name : Procedure → List ℕ
+procedure_name procedure.AddPolicy = codes "ADD_POLICY"
+procedure_name procedure.DropPolicy = codes "DROP_POLICY"
+procedure_name procedure.EnablePolicy = codes "ENABLE_POLICY"
+procedure_name procedure.DisablePolicy = codes "DISABLE_POLICY"
+procedure_name procedure.SetLastArchiveTimestamp = codes "SET_LAST_ARCHIVE_TIMESTAMP"
+procedure_name procedure.ClearLastArchiveTimestamp = codes "CLEAR_LAST_ARCHIVE_TIMESTAMP"
+procedure_name procedure.CleanAuditTrail = codes "CLEAN_AUDIT_TRAIL"
+
+abbrev pub parameter_name : Parameter → List ℕ
+parameter_name parameter.ObjectSchema = codes "OBJECT_SCHEMA"
+parameter_name parameter.ObjectName = codes "OBJECT_NAME"
+parameter_name parameter.PolicyName = codes "POLICY_NAME"
+parameter_name parameter.AuditCondition = codes "AUDIT_CONDITION"
+parameter_name parameter.AuditColumn = codes "AUDIT_COLUMN"
+parameter_name parameter.HandlerSchema = codes "HANDLER_SCHEMA"
+parameter_name parameter.HandlerModule = codes "HANDLER_MODULE"
+parameter_name parameter.Enable = codes "ENABLE"
+parameter_name parameter.StatementTypes = codes "STATEMENT_TYPES"
+parameter_name parameter.AuditColumnOpts = codes "AUDIT_COLUMN_OPTS"
+parameter_name parameter.AuditTrailType = codes "AUDIT_TRAIL_TYPE"
+parameter_name parameter.LastArchiveTime = codes "LAST_ARCHIVE_TIME"
+parameter_name parameter.UseLastArchTimestamp = codes "USE_LAST_ARCH_TIMESTAMP"
+
+-- the parameters that have no default, and must be given
+abbrev pub needed_by : Procedure → List Parameter
+needed_by procedure.AddPolicy = parameter.ObjectName ∷ parameter.PolicyName ∷ []
+needed_by procedure.DropPolicy = parameter.ObjectName ∷ parameter.PolicyName ∷ []
+needed_by procedure.EnablePolicy = parameter.ObjectName ∷ parameter.PolicyName ∷ []
+needed_by procedure.DisablePolicy = parameter.ObjectName ∷ parameter.PolicyName ∷ []
+needed_by procedure.SetLastArchiveTimestamp = parameter.AuditTrailType ∷ parameter.LastArchiveTime ∷ []
+needed_by procedure.ClearLastArchiveTimestamp = parameter.AuditTrailType ∷ []
+needed_by procedure.CleanAuditTrail = parameter.AuditTrailType ∷ []
+
+-- the parameters that have a default, and may be given
+abbrev pub optional_of : Procedure → List Parameter
+optional_of procedure.AddPolicy =
+    parameter.ObjectSchema ∷ parameter.AuditCondition ∷ parameter.AuditColumn ∷ parameter.HandlerSchema ∷ parameter.HandlerModule ∷ parameter.Enable ∷ parameter.StatementTypes
+    ∷ parameter.AuditColumnOpts ∷ []
+optional_of procedure.DropPolicy = parameter.ObjectSchema ∷ []
+optional_of procedure.EnablePolicy = parameter.ObjectSchema ∷ parameter.Enable ∷ []
+optional_of procedure.DisablePolicy = parameter.ObjectSchema ∷ []
+optional_of procedure.SetLastArchiveTimestamp = []
+optional_of procedure.ClearLastArchiveTimestamp = []
+optional_of procedure.CleanAuditTrail = parameter.UseLastArchTimestamp ∷ []
+
+-- one number a parameter
+abbrev pub parameter_number : Parameter → ℕ
+parameter_number parameter.ObjectSchema = 0
+parameter_number parameter.ObjectName = 1
+parameter_number parameter.PolicyName = 2
+parameter_number parameter.AuditCondition = 3
+parameter_number parameter.AuditColumn = 4
+parameter_number parameter.HandlerSchema = 5
+parameter_number parameter.HandlerModule = 6
+parameter_number parameter.Enable = 7
+parameter_number parameter.StatementTypes = 8
+parameter_number parameter.AuditColumnOpts = 9
+parameter_number parameter.AuditTrailType = 10
+parameter_number parameter.LastArchiveTime = 11
+parameter_number parameter.UseLastArchTimestamp = 12
+
+-- whether the parameter is among these
+abbrev pub is_given : List Parameter → Parameter → Bool
+is_given ps p = list_any (λ q. parameter_number q == parameter_number p) ps
+
+-- whether no parameter is given twice
+abbrev pub are_different : List Parameter → Bool
+are_different [] = true
+are_different (p ∷ ps) = not (is_given ps p) && are_different ps
+
+-- whether a procedure can be given these: each at most once and each one of its own, and all that are needed among them
+abbrev pub are_taken : Procedure → List Parameter → Bool
+are_taken f ps = are_different ps && (list_all (is_given (needed_by f ++ optional_of f)) ps && list_all (is_given ps) (needed_by f))
+
+-- value = literal | number | NULL | TRUE | FALSE | name . name | SYSTIMESTAMP | TIMESTAMP literal
+pub data IsValue : List Kind → Value → List Kind → Type 0 where
+  literal : {t : List ℕ} {o : List Kind} → IsValue (Text t ∷ o) (value.Literal t) o
+  number : {n : _} {o : List Kind} → IsValue (Number n ∷ o) (value.Number n) o
+  null : {o : List Kind} → IsValue (Word (codes "NULL") ∷ o) value.Null o
+  true_ : {o : List Kind} → IsValue (Word (codes "TRUE") ∷ o) value.True o
+  false_ : {o : List Kind} → IsValue (Word (codes "FALSE") ∷ o) value.False o
+  constant : {i m o : List Kind} {p c : List ℕ} → Name i p (dot ∷ m) → Name m c o → IsValue i (value.Constant p c) o
+  now : {o : List Kind} → IsValue (Word (codes "SYSTIMESTAMP") ∷ o) value.Now o
+  moment : {t : List ℕ} {m : ℕ} {o : List Kind} → TellsMoment t m → IsValue (Word (codes "TIMESTAMP") ∷ Text t ∷ o) (value.Moment m) o
+
+-- arg = name => value, the name of a parameter
+pub data IsArgument : List Kind → Argument → List Kind → Type 0 where
+  argument : {i m o : List Kind} {p : Parameter} {v : Value} → Name i (parameter_name p) (Mark mark.Arrow ∷ m) → IsValue m v o → IsArgument i (record { parameter = p; value = v }) o
+
+-- [SYS .]
+pub data Owner : List Kind → List Kind → Type 0 where
+  unqualified : {o : List Kind} → Owner o o
+  sys : {o : List Kind} → Owner (Word (codes "SYS") ∷ dot ∷ o) o
+
+-- call = [SYS .] name . name ( arg {, arg} ), the names of a package and of its procedure
+pub data IsCall : List Kind → Call → List Kind → Type 0 where
+  calls : {i j m n o : List Kind} {f : Procedure} {given : List Argument} → Owner i j → Name j (package_of f) (dot ∷ m) → Name m (procedure_name f) (opening ∷ n) → Parted comma IsArgument n given (closing ∷ o)
+      → are_taken f (map (λ a. a.parameter) given) ≡ true → IsCall i (record { procedure = f; arguments = given }) o
+
+-- Call = BEGIN call ; END | CALL call
+pub data CallStatement : List Kind → Statement → List Kind → Type 0 where
+  block : {i o : List Kind} {x : Call} → IsCall i x (semicolon ∷ Word (codes "END") ∷ o) → CallStatement (Word (codes "BEGIN") ∷ i) (statement.Call x) o
+  calls : {i o : List Kind} {x : Call} → IsCall i x o → CallStatement (Word (codes "CALL") ∷ i) (statement.Call x) o
+
+-- the tokens are this statement, with `;` behind it or without
+pub record IsCallStatement (ts : List Kind) (x : Statement) : Type 0 where
+  pub few : opens_few 0 ts ≡ true
+  pub behind : List Kind
+  pub derived : CallStatement ts x behind
+  pub ends : Maybe semicolon behind []
+
+-- the tokens are no such statement
+abbrev pub IsNoCallStatement : List Kind → Type 0
+IsNoCallStatement ts = (x : Statement) → ¬ (IsCallStatement ts x)
