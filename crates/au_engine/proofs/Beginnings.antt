@@ -1,17 +1,15 @@
 -- What a new store keeps is lawful, and so is the state in which an instance begins.
-use Rattle.std.proofs.Common.{◌≡◌, ◌≢◌, ℕ, ◌+◌, ◌≤◌, ◌<◌, min, max, Bool, List, [], ◌∷◌, map, length, refl, ap, arith}
+use Rattle.std.proofs.Common.{◌≢◌, ℕ, ◌<◌, List, [], ◌∷◌, map, length, refl, ap, arith}
 use Rattle.std.proofs.lemmas.Str.{IsUtf8-from_ascii}
 use Rattle.sql_lex.proofs.Digits.{word_ascii}
-use Rattle.sha2.specs.Sha256.{sha256}
 use Rattle.sha2.proofs.Facts256.{length-sha256}
 use Rattle.au_base.specs.declared.limits.TheConstants.{INSTANCES}
 use Rattle.au_base.specs.declared.privilege.Privilege.{Privilege}
-use Rattle.au_base.specs.declared.privilege.Privilege.TheVariants.{AuditSystem}
 use Rattle.au_base.specs.BuiltIn.{sys, audit_admin, audit_viewer}
 use Rattle.au_base.specs.Naming.{IsName}
 use Rattle.au_catalog.specs.declared.kept.Kept.{Kept}
 use Rattle.rec_codec.specs.Changes.{IsChangeSpellable, parts, policy, role_grant, system_grant, user, when}
-use Rattle.rec_codec.specs.Parts.{action, name, names, privilege, privileges_in_order, table, truth, verifier}
+use Rattle.rec_codec.specs.Parts.{action, names, privilege, privileges_in_order, table, truth, verifier}
 use Rattle.au_engine.specs.Image.{nothing, policy_change, role_grant_change, system_change, user_change}
 use Rattle.au_engine.specs.Lawful.{CanBeWritten, IsLawful, IsLawfulState, ora_mandatory}
 use Rattle.au_engine.specs.Opening.{each_privilege, granted_to_sys, opening, opening_role_grants, opening_system, opening_users, p_all, policy_of_all}

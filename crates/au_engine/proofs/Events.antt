@@ -1,5 +1,5 @@
 -- The event of a lawful step can be written.
-use Rattle.std.proofs.Common.{◌≡◌, ℕ, ◌+◌, ◌≤◌, ◌<◌, ◌^◌, min, max, Bool, true, false, List, [], ◌∷◌, length, refl, sym, ap, subst, arith}
+use Rattle.std.proofs.Common.{◌≡◌, ℕ, ◌≤◌, ◌<◌, ◌^◌, Bool, true, false, List, length, refl, arith}
 use Rattle.std.specs.List.{AllByRecursion}
 use Rattle.std.specs.Prelude.{Option, Some, None, if◌then◌else◌}
 use Rattle.au_base.specs.declared.ask.Ask.{Ask}
@@ -8,17 +8,16 @@ use Rattle.au_base.specs.declared.limits.TheConstants.{INSTANCES}
 use Rattle.au_base.specs.declared.numbers.ClientNo.{ClientNo}
 use Rattle.au_base.specs.declared.reply.Reply.{Reply}
 use Rattle.au_catalog.specs.declared.kept.Kept.{Kept}
-use Rattle.rec_codec.specs.declared.frame.Frame.{Frame}
 use Rattle.rec_codec.specs.declared.frame.Frame.TheVariants.{Event}
 use Rattle.rec_codec.specs.Changes.{IsChangeSpellable, change}
-use Rattle.rec_codec.specs.Frames.{IsSpellable, body, framed}
+use Rattle.rec_codec.specs.Frames.{IsSpellable, body}
 use Rattle.au_engine.specs.declared.prepared.Prepared.{Prepared}
 use Rattle.au_engine.specs.Framing.{IsText, IsWritable, Writes, event_of, framed_option}
 use Rattle.au_engine.specs.Image.{enablement_change, image_changes, image_of, policy_change, role_change, role_grant_change, system_change, user_change}
 use Rattle.au_engine.specs.Lawful.{IsLawful, IsLawfulState}
 use Rattle.au_engine.specs.Prepared.{after, logged_of}
 use Rattle.au_engine.specs.Returning.{start_frame}
-use Rattle.au_engine.specs.State.{IsStampOf, State, moment_of, stamp_of, start}
+use Rattle.au_engine.specs.State.{IsStampOf, State, start}
 use Rattle.au_engine.specs.Step.{Logged, LoggedStep, is_idle}
 use Rattle.au_engine.proofs.Apart.{all_joined, all_mapped}
 use Rattle.au_engine.proofs.Stepping.{IsLawfulStep, step_lawful}

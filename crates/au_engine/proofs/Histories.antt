@@ -1,5 +1,5 @@
 -- Runs one after another, and histories that go on.
-use Rattle.std.proofs.Common.{◌≡◌, ◌∙◌, ℕ, List, [], ◌∷◌, ◌++◌, refl, sym, ap, subst}
+use Rattle.std.proofs.Common.{◌≡◌, List, [], ◌∷◌, ◌++◌, refl, sym, ap, subst}
 use Rattle.au_base.specs.declared.reply.Reply.{Reply}
 use Rattle.au_engine.specs.State.{State}
 use Rattle.au_engine.specs.Step.{Event, Step}

@@ -1,6 +1,6 @@
 -- An image gives back what it was made of.
 use Rattle.std.proofs.Common.{◌≡◌, ◌≢◌, ◌∙◌, ℕ, ◌≤◌, ◌+◌, Bool, true, false, not, ◌||◌, List, [], ◌∷◌, ◌++◌, map, length, refl, sym, ap, subst, append_assoc, inl, inr, arith}
-use Rattle.std.specs.Prelude.{IsTrue, Option, Some, None}
+use Rattle.std.specs.Prelude.{IsTrue, Option}
 use Rattle.std.specs.List.{AllByRecursion, Contains, list_all, list_any}
 use Rattle.std.specs.Str.{bytes_eq}
 use Rattle.std.proofs.lemmas.Bool.{and_parts, and_from}
@@ -29,7 +29,7 @@ use Rattle.au_engine.specs.Deciding.{has_policy}
 use Rattle.au_engine.specs.Image.{enablement_change, image_changes, image_of, nothing, policy_change, role_change, role_grant_change, system_change, user_change, written_condition}
 use Rattle.au_engine.specs.Lawful.{IsLawful, IsPlain, ora_mandatory}
 use Rattle.au_engine.specs.Opening.{each_privilege, granted_to_sys, opening, opening_role_grants}
-use Rattle.au_engine.specs.Replaying.{AllGoOn, EndsWell, GoesOn, IsReplayable, after_frame, has_grantee, has_role, has_user, named_users}
+use Rattle.au_engine.specs.Replaying.{AllGoOn, EndsWell, IsReplayable, after_frame, has_grantee, has_role, has_user, named_users}
 use Rattle.au_engine.specs.Returning.{IsOrderly}
 use Rattle.au_engine.specs.Step.{unread_condition}
 use Rattle.au_engine.proofs.Apart.{all_unmapped, before_apart}

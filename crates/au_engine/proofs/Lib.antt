@@ -5,7 +5,6 @@ pub mod Events
 pub mod Following
 pub mod Histories
 pub mod Imaged
-pub mod Readings
 pub mod Replays
 pub mod Results
 pub mod Returns
@@ -13,4 +12,5 @@ pub mod Rights
 pub mod Rising
 pub mod Stages
 pub mod Stepping
+pub mod Texts
 pub mod Written

@@ -1,30 +1,28 @@
 -- What is lawful stays so after a frame that goes on from it.
-use Rattle.std.proofs.Common.{◌≡◌, ◌≢◌, ◌∙◌, ℕ, ◌≤◌, Bool, true, false, cond, List, [], ◌∷◌, ◌++◌, map, length, refl, sym, ap, subst}
+use Rattle.std.proofs.Common.{◌≡◌, ◌≢◌, ℕ, ◌≤◌, Bool, true, false, List, [], ◌∷◌, ◌++◌, map, refl, sym, ap, subst}
 use Rattle.std.specs.Prelude.{Option, Some, None, if◌then◌else◌}
-use Rattle.std.specs.List.{AllByRecursion, filter, list_any}
+use Rattle.std.specs.List.{AllByRecursion, list_any}
 use Rattle.std.specs.declared.cmp.Ordering.{Ordering}
 use Rattle.std.proofs.lemmas.Bool.{leb-true}
 use Rattle.au_base.specs.declared.calendar.TheConstants.{LAST_MOMENT}
-use Rattle.au_base.specs.declared.limits.TheConstants.{CATALOG_OBJECTS, INSTANCES}
+use Rattle.au_base.specs.declared.limits.TheConstants.{INSTANCES}
 use Rattle.au_base.specs.declared.numbers.Stamp.{Stamp}
-use Rattle.au_base.specs.declared.privilege.Privilege.{Privilege}
 use Rattle.au_catalog.specs.declared.change.Change.{Change}
 use Rattle.au_catalog.specs.declared.change.Change.TheVariants.{User, Role, SysGrant, RoleGrant, Policy, Enable, Start}
 use Rattle.au_catalog.specs.declared.kept.Kept.{Kept}
 use Rattle.au_catalog.specs.declared.policy.AuditPolicy.{AuditPolicy}
-use Rattle.au_catalog.specs.declared.policy.Condition.{Condition}
 use Rattle.au_catalog.specs.declared.policy.Evaluate.{Evaluate}
 use Rattle.au_catalog.specs.declared.trail_record.Record.{Record}
-use Rattle.au_catalog.specs.Changing.{by_name, changed, changed_all, put_in_order, with_tree}
+use Rattle.au_catalog.specs.Changing.{changed, changed_all, put_in_order, with_tree}
 use Rattle.au_priv.specs.declared.change.GrantChange.TheVariants as grant
-use Rattle.au_priv.specs.Changing.{with_admin, with_grant}
+use Rattle.au_priv.specs.Changing.{with_admin}
 use Rattle.au_priv.specs.Holding.{grants_privilege, grants_role}
 use Rattle.au_priv.specs.Order.{AreInOrder, comes_before, is_in_order, placed, role_before, system_before}
 use Rattle.au_priv.specs.Rights.{RoleEntry, SystemEntry}
 use Rattle.au_priv.proofs.Ordered.{applied_in_order}
 use Rattle.rec_codec.specs.Changes.{IsChangeSpellable, change, role_grant, system_grant}
 use Rattle.rec_codec.specs.Frames.{body}
-use Rattle.rec_codec.specs.Parts.{privilege, stamp, truth}
+use Rattle.rec_codec.specs.Parts.{stamp, truth}
 use Rattle.rec_codec.specs.Records.{trail_record}
 use Rattle.au_engine.specs.Image.{enablement_change, policy_change, role_change, role_grant_change, system_change, user_change, written_condition}
 use Rattle.au_engine.specs.Lawful.{CanBeWritten, IsLawful, IsPlain, ora_mandatory, policy_names}

@@ -23,7 +23,9 @@ use Rattle.au_engine.specs.Deciding as g
 use Rattle.au_engine.specs.Deciding.{Decides, DecidesEnabling, DecidesSelect, Enables, MayAudit, by_right}
 use Rattle.au_engine.specs.History as history
 use Rattle.au_engine.specs.History.{Entry, IsHistory, Run, entries_of}
-use Rattle.au_engine.specs.Reading.{IsUnread, Reads}
+use Rattle.sql_ast.specs.declared.statement.Statement.{Statement}
+use Rattle.sql_parse.specs.Statements.{IsUnread, Reads}
+use Rattle.au_engine.specs.Reading.{IsUnbuilt, ReadsForm, form_of, unread, not_built}
 use Rattle.au_engine.specs.State.{State, stamp_of}
 use Rattle.au_engine.specs.Step.{Event, Logged, LoggedStep, SessionStep, StatementStep, StepAt, after_statement, nothing_logged, session_of, statement_logged}
 
@@ -89,19 +91,45 @@ one_statement m session form text stamp a b l o n k x y =
 
 -- that texts have one reading, as the public law of readings says it
 pub record OneReading : Type 0 where
-  pub form : (text : List ℕ) (a b : BuiltForm) → Reads text a → Reads text b → a ≡ b
+  pub statement : (text : List ℕ) (x y : Statement) → Reads text x → Reads text y → x ≡ y
   pub code : (text : List ℕ) (a b : Code) → IsUnread text a → IsUnread text b → a ≡ b
-  pub apart : (text : List ℕ) (form : BuiltForm) (code : Code) → Reads text form → IsUnread text code → ⊥
+  pub apart : (text : List ℕ) (x : Statement) (code : Code) → Reads text x → IsUnread text code → ⊥
+
+given : BuiltForm → Option BuiltForm
+given form = Some form
+
+same_form : (a b : BuiltForm) → Some a ≡ given b → a ≡ b
+unfolding given
+same_form a b h = cc
+
+no_form : (a : BuiltForm) → Some a ≡ None → ⊥
+no_form a h = cc
+
+-- a text is one built statement at most
+one_form : OneReading → (text : List ℕ) (a b : BuiltForm) → ReadsForm text a → ReadsForm text b → a ≡ b
+unfolding given
+one_form one text a b r s = same_form a b (sym r.built ∙ ap form_of (one.statement text r.statement s.statement r.reads s.reads) ∙ s.built)
+
+-- and none where it is told to be none
+form_apart : OneReading → (text : List ℕ) (form : BuiltForm) (code : Code) → ReadsForm text form → IsUnbuilt text code → ⊥
+form_apart one text form code r (unread u) = one.apart text r.statement code r.reads u
+form_apart one text form code r (not_built {statement = x} reads none) = no_form form (sym r.built ∙ ap form_of (one.statement text r.statement x r.reads reads) ∙ none)
+
+one_unbuilt : OneReading → (text : List ℕ) (a b : Code) → IsUnbuilt text a → IsUnbuilt text b → a ≡ b
+one_unbuilt one text a b (unread u) (unread v) = one.code text a b u v
+one_unbuilt one text a b (unread u) (not_built {statement = x} reads none) = absurd (one.apart text x a reads u)
+one_unbuilt one text a b (not_built {statement = x} reads none) (unread v) = absurd (one.apart text x b reads v)
+one_unbuilt one text a b (not_built reads none) (not_built also nor) = refl
 
 one_text : OneReading → (m : State) (session : Session) (text : List ℕ) (stamp : ℕ) (a b : Reply) (l o : Logged) (n k : State)
     → SessionStep m session text stamp a l n → SessionStep m session text stamp b o k → (a ≡ b) × (l ≡ o) × (n ≡ k)
 one_text one m session text stamp a b l o n k (inl x) (inl y) =
     one_statement m session y.form text stamp a b l o n k
-    (subst (λ (f : BuiltForm). StatementStep m session f text stamp a l n) (one.form text x.form y.form x.reads y.reads) x.step) y.step
-one_text one m session text stamp a b l o n k (inl x) (inr y) = absurd (one.apart text x.form y.code x.reads y.unread)
-one_text one m session text stamp a b l o n k (inr x) (inl y) = absurd (one.apart text y.form x.code y.reads x.unread)
+    (subst (λ (f : BuiltForm). StatementStep m session f text stamp a l n) (one_form one text x.form y.form x.reads y.reads) x.step) y.step
+one_text one m session text stamp a b l o n k (inl x) (inr y) = absurd (form_apart one text x.form y.code x.reads y.unread)
+one_text one m session text stamp a b l o n k (inr x) (inl y) = absurd (form_apart one text y.form x.code y.reads x.unread)
 one_text one m session text stamp a b l o n k (inr x) (inr y) =
-    (x.replies ∙ ap code_reply (one.code text x.code y.code x.unread y.unread) ∙ sym y.replies, x.logs ∙ sym y.logs, x.same ∙ sym y.same)
+    (x.replies ∙ ap code_reply (one_unbuilt one text x.code y.code x.unread y.unread) ∙ sym y.replies, x.logs ∙ sym y.logs, x.same ∙ sym y.same)
 
 one_of_session : OneReading → (m : State) (found : Option Session) (text : List ℕ) (stamp : ℕ) (refusal a b : Reply) (l o : Logged) (n k : State)
     → MatchOption found ((a ≡ refusal) × (l ≡ nothing_logged) × (n ≡ m)) (λ session. SessionStep m session text stamp a l n)

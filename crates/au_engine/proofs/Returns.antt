@@ -1,24 +1,23 @@
 -- The frame of a step gives what is kept after it.
-use Rattle.std.proofs.Common.{◌≡◌, ◌∙◌, ℕ, ◌+◌, ◌<◌, ◌≤◌, inr, max, min, Bool, true, false, List, [], ◌∷◌, ◌++◌, refl, sym, ap, subst, arith}
+use Rattle.std.proofs.Common.{◌≡◌, ◌∙◌, ℕ, ◌+◌, ◌<◌, ◌≤◌, inr, Bool, true, false, List, [], ◌∷◌, ◌++◌, refl, sym, ap, subst, arith}
 use Rattle.std.specs.Prelude.{Option, Some, None, if◌then◌else◌}
 use Rattle.std.proofs.lemmas.List.{append-nil}
 use Rattle.au_base.specs.declared.limits.TheConstants.{INSTANCES}
 use Rattle.au_base.specs.declared.ask.Ask.{Ask}
 use Rattle.au_base.specs.declared.numbers.ClientNo.{ClientNo}
-use Rattle.au_base.specs.declared.numbers.Stamp.{Stamp}
 use Rattle.au_catalog.specs.declared.change.Change.{Change}
 use Rattle.au_catalog.specs.declared.kept.Kept.{Kept}
 use Rattle.au_catalog.specs.declared.trail_record.Record.{Record}
 use Rattle.au_catalog.specs.Changing.{changed_all}
 use Rattle.rec_codec.specs.declared.frame.Frame.{Frame}
 use Rattle.rec_codec.specs.declared.frame.Frame.TheVariants.{Event}
-use Rattle.au_engine.specs.Framing.{IsFrameOf, IsText, event_of}
+use Rattle.au_engine.specs.Framing.{IsFrameOf, IsText}
 use Rattle.au_engine.specs.Lawful.{IsLawfulState}
-use Rattle.au_engine.specs.Replaying.{EndsWell, IsReplayable, after_frame, kept_with}
+use Rattle.au_engine.specs.Replaying.{EndsWell, kept_with}
 use Rattle.au_engine.specs.Returning.{LeadsTo, start_frame}
 use Rattle.au_engine.specs.Staging.{ChangeEnablements}
 use Rattle.au_engine.specs.State.{IsStampOf, State, start}
-use Rattle.au_engine.specs.Step.{Logged, is_idle, kept_after, last_after, unread_condition}
+use Rattle.au_engine.specs.Step.{Logged, is_idle, kept_after, unread_condition}
 use Rattle.au_engine.proofs.Events.{stamp_moment}
 use Rattle.au_engine.proofs.Stages.{staged}
 use Rattle.au_engine.proofs.Stepping.{IsLawfulStep, kept_after_idle, step_lawful}

@@ -1,5 +1,5 @@
 -- Who may change policies, and what is decided then.
-use Rattle.std.proofs.Common.{◌≡◌, ◌↔◌, ◌∙◌, ℕ, List, [], Bool, true, false, sym, ap, subst, inl, inr}
+use Rattle.std.proofs.Common.{◌≡◌, ◌↔◌, ◌∙◌, ℕ, List, [], Bool, true, false, sym, ap, subst, inr}
 use Rattle.std.specs.Prelude.{◌∷◌, ◌≢◌, IsTrue, Result, Ok, Err}
 use Rattle.au_catalog.specs.declared.change.Change.TheVariants.{Enable}
 use Rattle.au_base.specs.declared.code.Code.{Code}

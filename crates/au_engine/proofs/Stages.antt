@@ -1,6 +1,6 @@
 -- Changes of enablements change nothing else of what is kept.
 use Rattle.std.proofs.Common.{◌≡◌, ℕ, List, [], ◌∷◌, length, refl, sym, subst, inl, inr}
-use Rattle.std.specs.Prelude.{Result, Ok, Err, Option, option_to_list, unwrap_or}
+use Rattle.std.specs.Prelude.{Result, Option, option_to_list, unwrap_or}
 use Rattle.au_catalog.specs.declared.change.Change.{Change}
 use Rattle.au_catalog.specs.declared.change.Change.TheVariants.{Enable}
 use Rattle.au_catalog.specs.declared.kept.Kept.{Kept}
@@ -22,7 +22,6 @@ use Rattle.au_engine.specs.Staging.{ChangeEnablements, enabled_after}
 use Rattle.au_base.specs.declared.numbers.Stamp.{Stamp}
 use Rattle.au_base.specs.declared.reply.Reply.{Reply}
 use Rattle.au_catalog.specs.declared.trail_record.Record.{Record}
-use Rattle.au_engine.specs.declared.prepared.Prepared.{Prepared}
 use Rattle.au_engine.specs.declared.prepared.SessionChange.TheVariants.{Counts}
 use Rattle.au_engine.specs.declared.session.Session.{Session}
 use Rattle.au_engine.specs.Prepared.{after}

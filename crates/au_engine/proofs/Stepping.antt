@@ -1,5 +1,5 @@
 -- A step from a lawful state leads to a lawful one, and what it leaves to be kept can be written.
-use Rattle.std.proofs.Common.{◌≡◌, ◌≢◌, ◌∙◌, ℕ, ◌+◌, ◌*◌, ◌≤◌, ◌<◌, ◌^◌, min, max, Bool, true, false, not, cond, ◌||◌, ◌==◌, List, [], ◌∷◌, ◌++◌, map, length, refl, sym, ap, subst, arith, inl, inr}
+use Rattle.std.proofs.Common.{◌≡◌, ◌∙◌, ℕ, ◌≤◌, ◌<◌, ◌^◌, Bool, true, false, not, cond, ◌||◌, ◌==◌, List, [], ◌∷◌, ◌++◌, map, length, refl, sym, ap, subst, arith, inl, inr}
 use Rattle.std.specs.Prelude.{Option, Some, None, MatchOption, Result, Ok, Err, IsUtf8, find, is_some, nat_le, if◌then◌else◌}
 use Rattle.std.specs.List.{AllByRecursion, list_all}
 use Rattle.std.specs.declared.cmp.Ordering.{Ordering}
@@ -11,7 +11,7 @@ use Rattle.au_base.specs.declared.ask.Ask.TheVariants.{Local, Logon, Sql, Logoff
 use Rattle.au_base.specs.declared.calendar.TheConstants.{LAST_MOMENT}
 use Rattle.au_base.specs.declared.code.Code.{Code}
 use Rattle.au_base.specs.declared.code.TheConstants.Code.{DONE, NO_SUCH_TABLE, NO_SUCH_POLICY, NOT_ENABLED_SO, OTHER_MODE, PRIVILEGE_MISSING, TOO_MANY_SESSIONS}
-use Rattle.au_base.specs.declared.limits.TheConstants.{INSTANCE_SESSIONS, OPEN_SESSIONS, SESSION_COUNT, STATEMENT_BYTES}
+use Rattle.au_base.specs.declared.limits.TheConstants.{INSTANCE_SESSIONS, OPEN_SESSIONS}
 use Rattle.au_base.specs.declared.numbers.ClientNo.{ClientNo}
 use Rattle.au_base.specs.declared.numbers.SessionNo.{SessionNo}
 use Rattle.au_base.specs.declared.numbers.Stamp.{Stamp}
@@ -30,18 +30,18 @@ use Rattle.au_catalog.specs.declared.policy.Enabled.{Enabled}
 use Rattle.au_catalog.specs.declared.policy.Enabled.TheVariants.{Off, By, Except}
 use Rattle.au_catalog.specs.declared.policy.Outcomes.{Outcomes}
 use Rattle.au_catalog.specs.declared.trail_record.Record.{Record}
-use Rattle.au_catalog.specs.Changing.{by_name, changed_all, put_in_order, with_enablement}
+use Rattle.au_catalog.specs.Changing.{put_in_order, with_enablement}
 use Rattle.au_catalog.specs.Demand.{demanded}
 use Rattle.au_catalog.specs.Enabling.{audited, both_outcomes, noaudited, with_outcomes}
 use Rattle.au_priv.specs.declared.allowed.Allowed.{Allowed}
 use Rattle.au_priv.specs.declared.allowed.Allowed.TheVariants.{Owner, Object, System, Refused}
 use Rattle.au_priv.specs.declared.grants.Grants.{Grants}
-use Rattle.au_priv.specs.Allowing.{AllowedIs, AllowedOnTrail}
+use Rattle.au_priv.specs.Allowing.{AllowedOnTrail}
 use Rattle.rec_codec.specs.Changes.{IsChangeSpellable, IsEnabledSpellable, enabled, enablement}
-use Rattle.rec_codec.specs.Parts.{name, names, outcomes, privilege, privileges_in_order}
+use Rattle.rec_codec.specs.Parts.{names, outcomes, privilege, privileges_in_order}
 use Rattle.rec_codec.specs.Records.{trail_record}
 use Rattle.sql_lex.specs.declared.token.Token.{Token}
-use Rattle.sql_lex.specs.Tokens.{AreTokens, StandInOrder}
+use Rattle.sql_lex.specs.Tokens.{StandInOrder}
 use Rattle.sql_lex.proofs.Leading.{in_order}
 use Rattle.au_engine.specs.declared.decision.Decision.{Decision}
 use Rattle.au_engine.specs.declared.form.BuiltForm.{BuiltForm}
@@ -56,32 +56,29 @@ use Rattle.au_engine.specs.Framing.{IsText}
 use Rattle.au_engine.specs.Image.{enablement_change}
 use Rattle.au_engine.specs.Lawful.{CanBeWritten, IsLawful, IsLawfulSession, IsLawfulState}
 use Rattle.au_engine.specs.Opening.{p_all}
-use Rattle.au_engine.specs.Reading.{Derives, Reads, kinds}
+use Rattle.sql_ast.specs.declared.statement.Statement.{Statement}
+use Rattle.sql_parse.specs.Statements.{IsStatement}
+use Rattle.au_engine.specs.Reading.{ReadsForm}
 use Rattle.au_engine.specs.Replaying.{AllGoOn, has_user, named_users}
 use Rattle.au_engine.specs.Staging.{ChangeEnablements, enabled_after}
 use Rattle.au_engine.specs.State.{State}
-use Rattle.au_engine.specs.Step.{Logged, LoggedStep, LocalStep, ReadStep, SessionStep, SqlStep, StatementStep, UnreadStep, after_local, after_logon, after_refused_logon, after_statement, concluded, counted, facts_of, is_crowded, is_idle, kept_after, last_after, local_logged, logon_facts, logon_place, logon_records, new_session, next_number, no_session, nothing_logged, recorded, session_of, statement_logged, statement_place, statement_records, with_counts, with_more}
+use Rattle.au_engine.specs.Step.{Logged, LoggedStep, LocalStep, SessionStep, StatementStep, after_logon, after_refused_logon, after_statement, facts_of, is_crowded, is_idle, kept_after, last_after, logon_facts, logon_place, logon_records, next_number, no_session, nothing_logged, recorded, session_of, statement_logged, statement_place, with_counts}
+use Rattle.au_engine.proofs.Texts.{no_statement}
 use Rattle.au_engine.proofs.Apart.{all_joined, all_kept}
 use Rattle.au_engine.proofs.Stages.{decided_changes, staged}
-use Rattle.au_engine.proofs.Written.{CanBeRecorded, IsObject, IsSql, audsys_name, dual_name, name_written, p_all_name, records_written, sys_name, trail_name}
+use Rattle.au_engine.proofs.Written.{CanBeRecorded, IsObject, audsys_name, dual_name, name_written, p_all_name, records_written, sys_name, trail_name}
 
 -- a text that is some form has a byte at least
 behind_tokens : (start : ℕ) (ts : List Token) (end : ℕ) → StandInOrder start ts end → start ≤ end
 behind_tokens start [] end h = h
 behind_tokens start (t ∷ ts) end h = let more = behind_tokens t.to ts end h.2 in omega (arith, h.0, h.1)
 
-no_tokens : (form : BuiltForm) → Derives [] form → ⊥
-no_tokens (SelectNumber number) (rest, is, end) = cc
-no_tokens CountTrail (rest, is, end) = cc
-no_tokens AuditAll (rest, is, end) = cc
-no_tokens NoauditAll (rest, is, end) = cc
+some_bytes : (text : List ℕ) (ts : List Token) (x : Statement) (n : ℕ) → IsStatement text ts x → StandInOrder 0 ts n → 1 ≤ n
+some_bytes text [] x n s h = absurd (no_statement text x s)
+some_bytes text (t ∷ ts) x n s h = let more = behind_tokens t.to ts n h.2 in omega (arith, h.0, h.1)
 
-some_bytes : (form : BuiltForm) (ts : List Token) (n : ℕ) → Derives (kinds ts) form → StandInOrder 0 ts n → 1 ≤ n
-some_bytes form [] n derives h = absurd (no_tokens form derives)
-some_bytes form (t ∷ ts) n derives h = let more = behind_tokens t.to ts n h.2 in omega (arith, h.0, h.1)
-
-read_some : (text : List ℕ) (form : BuiltForm) → Reads text form → 1 ≤ length text
-read_some text form r = some_bytes form r.tokens (length text) r.derives (in_order 0 text r.tokens (length text) [] r.cut)
+read_some : (text : List ℕ) (form : BuiltForm) → ReadsForm text form → 1 ≤ length text
+read_some text form r = let s = r.reads in some_bytes text s.tokens r.statement (length text) s.statement (in_order 0 text s.tokens (length text) [] s.cut)
 
 -- what a decision must be so that it can be written
 pub record CanBeLogged (decision : Decision) : Type 0 where
@@ -236,7 +233,7 @@ is_done AuditAll = omega arith
 is_done NoauditAll = omega arith
 
 statement_recorded : (session : Session) (stamp : ℕ) (form : BuiltForm) (text : List ℕ) (decision : Decision) → IsLawfulSession session → stamp ≤ LAST_MOMENT
-    → Reads text form → IsUtf8 text → CanBeLogged decision → CanBeRecorded (facts_of session form decision) (statement_place session stamp form text)
+    → ReadsForm text form → IsUtf8 text → CanBeLogged decision → CanBeRecorded (facts_of session form decision) (statement_place session stamp form text)
 statement_recorded session stamp form text decision lawful moment reads utf8 can = record {
   session = lawful.number;
   entry = omega arith;
@@ -245,7 +242,7 @@ statement_recorded session stamp form text decision lawful moment reads utf8 can
   user = lawful.user;
   action = is_done form;
   object = object_is form;
-  sql = record { some = read_some text form reads; capped = reads.short; utf8 = utf8 };
+  sql = record { some = read_some text form reads; capped = reads.reads.short; utf8 = utf8 };
   used = can.used;
   code = can.code;
 }
@@ -419,7 +416,7 @@ local_lawful m client stamp reply logged n step lawful moment =
     at_outcome m stamp logged _ n _ step.1 step.2 (local_lawful_at m client stamp (is_some (session_of m.sessions client)) (is_crowded m) refl lawful moment)
 
 statement_lawful : (m : State) (session : Session) (form : BuiltForm) (text : List ℕ) (stamp : ℕ) (reply : Reply) (logged : Logged) (n : State) → StatementStep m session form text stamp reply logged n
-    → Reads text form → IsUtf8 text → IsLawfulSession session → IsLawfulState m → stamp ≤ LAST_MOMENT → IsLawfulStep m stamp logged n
+    → ReadsForm text form → IsUtf8 text → IsLawfulSession session → IsLawfulState m → stamp ≤ LAST_MOMENT → IsLawfulStep m stamp logged n
 statement_lawful m session form text stamp reply logged n step reads utf8 own lawful moment =
     let can = decided_logged m.kept.grants m.kept.policies m.kept.enabled session.user form step.decision step.decides in
     let only = decided_changes m.kept.grants m.kept.policies m.kept.enabled session.user form step.decision step.decides in

@@ -1,12 +1,10 @@
 -- Which records can be written.
-use Rattle.std.proofs.Common.{◌≡◌, ◌≢◌, ℕ, ◌+◌, ◌≤◌, ◌<◌, ◌^◌, Bool, true, false, List, [], ◌∷◌, map, length, refl, sym, ap, subst, arith}
-use Rattle.std.specs.Prelude.{Option, Some, None, codes, IsUtf8, if◌then◌else◌}
+use Rattle.std.proofs.Common.{◌≡◌, ◌≢◌, ℕ, ◌≤◌, ◌<◌, ◌^◌, Bool, true, false, List, [], ◌∷◌, length, refl, arith}
+use Rattle.std.specs.Prelude.{Option, Some, None, IsUtf8, if◌then◌else◌}
 use Rattle.std.specs.List.{AllByRecursion, filter}
-use Rattle.std.specs.Str.{bytes_eq}
 use Rattle.std.proofs.lemmas.Bool.{le-leb, and_from}
 use Rattle.std.proofs.lemmas.Str.{IsUtf8-from_ascii}
 use Rattle.sql_lex.proofs.Digits.{word_ascii}
-use Rattle.au_base.specs.declared.action.Action.{Action}
 use Rattle.au_base.specs.declared.calendar.TheConstants.{LAST_MOMENT}
 use Rattle.au_base.specs.declared.limits.TheConstants.{CATALOG_OBJECTS}
 use Rattle.au_base.specs.declared.numbers.Stamp.{Stamp}
@@ -17,10 +15,7 @@ use Rattle.au_base.specs.Naming.{IsName}
 use Rattle.au_catalog.specs.declared.facts.Facts.{Facts}
 use Rattle.au_catalog.specs.declared.kept.Kept.{Kept}
 use Rattle.au_catalog.specs.declared.policy.AuditPolicy.{AuditPolicy}
-use Rattle.au_catalog.specs.declared.policy.Enabled.{Enabled}
-use Rattle.au_catalog.specs.declared.trail_record.Record.{Record}
-use Rattle.au_catalog.specs.Demand.{demanded, demanding, demands, is_mandatory, placed}
-use Rattle.au_priv.specs.declared.grants.Grants.{Grants}
+use Rattle.au_catalog.specs.Demand.{demanded, demands, is_mandatory, placed}
 use Rattle.rec_codec.specs.Changes.{IsChangeSpellable, policy}
 use Rattle.rec_codec.specs.Parts.{name, text, stamp, session, action, return_code, names, privileges_in_order}
 use Rattle.rec_codec.specs.Records as records
@@ -29,7 +24,7 @@ use Rattle.rec_codec.specs.Spelling.{IsOptionSpellable}
 use Rattle.au_engine.specs.declared.place.Place.{Place}
 use Rattle.au_engine.specs.Auditing.{holds_always, object_name, record_of, records_naming, records_of, schema_of}
 use Rattle.au_engine.specs.Image.{policy_change}
-use Rattle.au_engine.specs.Lawful.{CanBeWritten, IsLawful, ora_mandatory, policy_names}
+use Rattle.au_engine.specs.Lawful.{IsLawful, ora_mandatory, policy_names}
 use Rattle.au_engine.specs.Opening.{p_all}
 use Rattle.au_engine.proofs.Apart.{AreApart, all_kept, all_mapped, all_placed, all_unmapped, all_weaker, apart_in_order, kept_apart, length_kept, length_placed, no_repeats, placed_apart}
 

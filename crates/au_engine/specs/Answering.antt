@@ -1,6 +1,5 @@
 -- The replies.
-use Rattle.std.specs.Prelude.{ℕ, ℤ, pos, Bool, ◌==◌, List, [], ◌∷◌, codes, if◌then◌else◌}
-use Rattle.au_base.specs.declared.cell.Cell.{Cell}
+use Rattle.std.specs.Prelude.{ℕ, ℤ, pos, ◌==◌, List, [], ◌∷◌, codes, if◌then◌else◌}
 use Rattle.au_base.specs.declared.cell.Cell.TheVariants.{Num}
 use Rattle.au_base.specs.declared.code.Code.{Code}
 use Rattle.au_base.specs.declared.code.TheConstants.Code.{DONE}

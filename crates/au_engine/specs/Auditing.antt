@@ -1,5 +1,5 @@
 -- What is recorded of an event (Database Reference, "UNIFIED_AUDIT_TRAIL").
-use Rattle.std.specs.Prelude.{ℕ, Bool, List, [], ◌∷◌, Option, Some, None, is_none, option_map}
+use Rattle.std.specs.Prelude.{ℕ, Bool, List, [], ◌∷◌, Option, Some, None, is_none}
 use Rattle.au_catalog.specs.declared.facts.Facts.{Facts}
 use Rattle.au_catalog.specs.declared.policy.AuditPolicy.{AuditPolicy}
 use Rattle.au_catalog.specs.declared.policy.Enabled.{Enabled}

@@ -1,5 +1,5 @@
 -- What changes make of the parts of what is kept that they set.
-use Rattle.std.specs.Prelude.{◌≡◌, ℕ, None, List}
+use Rattle.std.specs.Prelude.{◌≡◌, None}
 use Rattle.au_catalog.specs.declared.change.Change.{Change}
 use Rattle.au_catalog.specs.declared.change.Change.TheVariants.{Policy}
 use Rattle.au_catalog.specs.declared.kept.Kept.{Kept}

@@ -1,5 +1,5 @@
 -- Which frame a step writes to the journal.
-use Rattle.std.specs.Prelude.{◌≡◌, ⊤, ℕ, IsUtf8, List, [], ◌∷◌, if◌then◌else◌, Option, Some, None, MatchOption, option_map}
+use Rattle.std.specs.Prelude.{◌≡◌, ⊤, ℕ, IsUtf8, List, if◌then◌else◌, Option, Some, None, option_map}
 use Rattle.au_base.specs.declared.ask.Ask.{Ask}
 use Rattle.au_base.specs.declared.ask.Ask.TheVariants.{Sql}
 use Rattle.au_base.specs.declared.numbers.ClientNo.{ClientNo}

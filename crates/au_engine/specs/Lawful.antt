@@ -1,5 +1,5 @@
 -- What is so of all that is kept, in every state.
-use Rattle.std.specs.Prelude.{◌≡◌, ◌≢◌, ◌≤◌, ℕ, Bool, IsTrue, List, [], map, length, codes, None}
+use Rattle.std.specs.Prelude.{◌≡◌, ◌≢◌, ◌≤◌, ℕ, IsTrue, List, map, length, codes, None}
 use Rattle.std.specs.List.{AllByRecursion}
 use Rattle.au_base.specs.declared.calendar.TheConstants.{LAST_MOMENT}
 use Rattle.au_base.specs.declared.limits.TheConstants.{CATALOG_OBJECTS, INSTANCES}

@@ -1,55 +1,102 @@
 -- Which built statement a text is (SQL Language Reference, "SELECT", "AUDIT (Unified Auditing)" and "NOAUDIT (Unified
--- Auditing)"; the length of a text and the codes are this project's profile).
-use Rattle.std.specs.Prelude.{◌≡◌, ◌<◌, ◌≤◌, ℕ, List, [], ◌∷◌, ◌++◌, length, map, codes, ◌⊎◌}
+-- Auditing)"; which statements are built is this project's profile).
+use Rattle.std.specs.Prelude.{◌≡◌, ℕ, ℤ, Bool, true, false, not, ◌&&◌, if◌then◌else◌, List, [], ◌∷◌, Option, Some, None, is_some, Result, MatchResult, codes}
+use Rattle.std.specs.Str.{bytes_eq}
+use Rattle.au_base.specs.declared.ask.Ask.{Ask}
+use Rattle.au_base.specs.declared.ask.Ask.TheVariants.{Local, Logon, Sql, Logoff}
 use Rattle.au_base.specs.declared.code.Code.{Code}
-use Rattle.au_base.specs.declared.code.TheConstants.Code.{NOT_READ, STATEMENT_TOO_LONG}
-use Rattle.au_base.specs.declared.limits.TheConstants.{STATEMENT_BYTES}
-use Rattle.sql_lex.specs.declared.token.Kind.{Kind}
-use Rattle.sql_lex.specs.declared.token.Kind.TheVariants.{Word, Number, Mark}
-use Rattle.sql_lex.specs.declared.token.Mark.TheVariants.{OpenParenthesis, CloseParenthesis, Semicolon, Asterisk}
-use Rattle.sql_lex.specs.declared.token.Token.{Token}
-use Rattle.sql_lex.specs.Tokens.{AreTokens}
+use Rattle.au_base.specs.declared.code.TheConstants.Code.{NOT_READ}
+use Rattle.au_base.specs.declared.table.TableName.{TableName}
+use Rattle.au_base.specs.declared.table.TableReference.{TableReference}
+use Rattle.au_base.specs.BuiltIn.{dual, trail}
+use Rattle.sql_ast.specs.declared.administration.Audit.{Audit as AuditTree}
+use Rattle.sql_ast.specs.declared.expression.Expr.{Expr}
+use Rattle.sql_ast.specs.declared.expression.Expr.TheVariants.{Number}
+use Rattle.sql_ast.specs.declared.query.Count.{Count as CountTree}
+use Rattle.sql_ast.specs.declared.query.FromClause.{FromClause}
+use Rattle.sql_ast.specs.declared.query.Items.{Items}
+use Rattle.sql_ast.specs.declared.query.Items.TheVariants.{Listed}
+use Rattle.sql_ast.specs.declared.query.Join.{Join}
+use Rattle.sql_ast.specs.declared.query.Select.{Select as SelectTree}
+use Rattle.sql_ast.specs.declared.statement.Statement.{Statement}
+use Rattle.sql_ast.specs.declared.statement.Statement.TheVariants.{Select, Count, Audit, Noaudit}
+use Rattle.sql_parse.specs.Statements.{IsUnread, Reads}
 use Rattle.au_engine.specs.declared.form.BuiltForm.{BuiltForm}
 use Rattle.au_engine.specs.declared.form.BuiltForm.TheVariants.{SelectNumber, CountTrail, AuditAll, NoauditAll}
 
-abbrev pub kinds : List Token → List Kind
-kinds tokens = map (λ token. token.kind) tokens
+-- whether the owner is this one, or isn't written
+abbrev pub is_owner : List ℕ → Option (List ℕ) → Bool
+is_owner owner None = true
+is_owner owner (Some written) = bytes_eq written owner
 
--- the tokens of a form
-abbrev pub tokens_of : BuiltForm → List Kind
-tokens_of (SelectNumber number) = Word (codes "SELECT") ∷ Number number ∷ Word (codes "FROM") ∷ Word (codes "DUAL") ∷ []
-tokens_of CountTrail =
-    Word (codes "SELECT") ∷ Word (codes "COUNT") ∷ Mark OpenParenthesis ∷ Mark Asterisk ∷ Mark CloseParenthesis
-    ∷ Word (codes "FROM") ∷ Word (codes "UNIFIED_AUDIT_TRAIL") ∷ []
-tokens_of AuditAll = Word (codes "AUDIT") ∷ Word (codes "POLICY") ∷ Word (codes "P_ALL") ∷ []
-tokens_of NoauditAll = Word (codes "NOAUDIT") ∷ Word (codes "POLICY") ∷ Word (codes "P_ALL") ∷ []
+-- whether the built-in table is meant
+abbrev pub means : TableName → TableReference → Bool
+means table written = bytes_eq written.name table.name && is_owner table.owner written.owner
 
--- the end, or a semicolon and the end
-abbrev pub IsEnd : List Kind → Type 0
-IsEnd [] = Unit {0}
-IsEnd (kind ∷ rest) = (kind ≡ Mark Semicolon) × (rest ≡ [])
+abbrev pub is_alone : List Join → Bool
+is_alone [] = true
+is_alone (join ∷ joins) = false
 
--- the kinds are those of the form, with a semicolon behind them or without
-abbrev pub Derives : List Kind → BuiltForm → Type 0
-Derives found form = (rest : List Kind) × (found ≡ tokens_of form ++ rest) × IsEnd rest
+-- whether FROM has the built-in table alone, under any alias
+abbrev pub is_only : TableName → FromClause → Bool
+is_only table from = is_alone from.joins && means table from.first.table
 
--- two words and the end
-abbrev pub DerivesPair : List Kind → List ℕ → List ℕ → Type 0
-DerivesPair found first second = (rest : List Kind) × (found ≡ Word first ∷ Word second ∷ rest) × IsEnd rest
+-- a number without an alias
+abbrev pub lone_number : Expr → Option (List ℕ) → Option ℤ
+lone_number (Number number) None = Some number
+lone_number _ _ = None
 
--- a statement of this verb about the policy
-abbrev pub DerivesPolicy : List Kind → List ℕ → Type 0
-DerivesPolicy found verb = (rest : List Kind) × (found ≡ Word verb ∷ Word (codes "POLICY") ∷ Word (codes "P_ALL") ∷ rest) × IsEnd rest
+-- the one item, where it is a number without an alias
+abbrev pub number_of : Items → Option ℤ
+number_of (Listed (item ∷ [])) = lone_number item.value item.alias
+number_of _ = None
 
--- the text isn't too long, and its tokens are those of the form
-pub record Reads (text : List ℕ) (form : BuiltForm) : Type 0 where
-  pub short : length text ≤ STATEMENT_BYTES
-  pub tokens : List Token
-  pub cut : AreTokens text tokens
-  pub derives : Derives (kinds tokens) form
+abbrev pub select_number : Option ℤ → Option BuiltForm
+select_number None = None
+select_number (Some number) = Some (SelectNumber number)
 
--- the text is no built statement, with the code of this: it is too long, or else it has no reading
-abbrev pub IsUnread : List ℕ → Code → Type 0
-IsUnread text code =
-    ((STATEMENT_BYTES < length text) × (code ≡ STATEMENT_TOO_LONG))
-    ⊎ ((length text ≤ STATEMENT_BYTES) × ((form : BuiltForm) → ¬ Reads text form) × (code ≡ NOT_READ))
+-- SELECT number FROM DUAL
+abbrev pub select_form : SelectTree → Option BuiltForm
+select_form select = if is_only dual select.from && (not (is_some select.condition) && not (is_some select.order)) then select_number (number_of select.items) else None
+
+-- SELECT COUNT(*) FROM UNIFIED_AUDIT_TRAIL
+abbrev pub count_form : CountTree → Option BuiltForm
+count_form count = if means trail count.table.table && not (is_some count.condition) then Some CountTrail else None
+
+-- AUDIT POLICY P_ALL
+abbrev pub audit_form : AuditTree → Option BuiltForm
+audit_form audit = if bytes_eq audit.policy (codes "P_ALL") && (not (is_some audit.users) && not (is_some audit.whenever)) then Some AuditAll else None
+
+-- NOAUDIT POLICY P_ALL
+abbrev pub noaudit_form : List ℕ → Option (List (List ℕ)) → Option BuiltForm
+noaudit_form policy users = if bytes_eq policy (codes "P_ALL") && not (is_some users) then Some NoauditAll else None
+
+-- the built form that a statement is, if it is one
+abbrev pub form_of : Statement → Option BuiltForm
+form_of (Select select) = select_form select
+form_of (Count count) = count_form count
+form_of (Audit audit) = audit_form audit
+form_of (Noaudit policy users) = noaudit_form policy users
+form_of _ = None
+
+-- the text is a statement of this form
+pub record ReadsForm (text : List ℕ) (form : BuiltForm) : Type 0 where
+  pub statement : Statement
+  pub reads : Reads text statement
+  pub built : form_of statement ≡ Some form
+
+-- the text is no built statement, with its code: it is no statement, or one that isn't built, as if it had no reading
+pub data IsUnbuilt (text : List ℕ) : Code → Type 0 where
+  unread : {code : Code} → IsUnread text code → IsUnbuilt text code
+  not_built : {statement : Statement} → Reads text statement → form_of statement ≡ None → IsUnbuilt text NOT_READ
+
+-- this is what the text is read as
+abbrev pub IsReadAs : List ℕ → Result Statement Code → Type 0
+IsReadAs text read = MatchResult read (Reads text) (IsUnread text)
+
+-- this is what the text of the ask is read as, where it has one
+abbrev pub IsReadOf : Ask → Result Statement Code → Type 0
+IsReadOf (Sql text) read = IsReadAs text read
+IsReadOf Local read = Unit {0}
+IsReadOf (Logon user password) read = Unit {0}
+IsReadOf Logoff read = Unit {0}

@@ -1,6 +1,6 @@
 -- When a frame of the journal goes on from what is kept, and what it makes of it (which changes go on is this project's
 -- profile).
-use Rattle.std.specs.Prelude.{◌≡◌, ◌≢◌, ◌≤◌, ◌<◌, ℕ, Bool, true, false, not, ◌||◌, IsTrue, List, [], ◌∷◌, ◌++◌, map, length, Option, None, ◌⊎◌}
+use Rattle.std.specs.Prelude.{◌≡◌, ◌≢◌, ◌≤◌, ◌<◌, ℕ, Bool, true, false, not, ◌||◌, IsTrue, List, [], ◌∷◌, ◌++◌, map, length, None, ◌⊎◌}
 use Rattle.std.specs.List.{list_all, list_any}
 use Rattle.std.specs.Str.{bytes_eq}
 use Rattle.au_base.specs.declared.limits.TheConstants.{CATALOG_OBJECTS, GRANTS, INSTANCES}

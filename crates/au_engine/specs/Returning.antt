@@ -1,5 +1,5 @@
 -- Frames that give back what they were written of.
-use Rattle.std.specs.Prelude.{◌≡◌, ◌≢◌, ℕ, ◌+◌, IsTrue, List, [], ◌∷◌, map, Option, Some, None}
+use Rattle.std.specs.Prelude.{◌≡◌, ◌≢◌, ℕ, ◌+◌, IsTrue, [], ◌∷◌, map, Option, Some, None}
 use Rattle.std.specs.List.{AllByRecursion, list_all}
 use Rattle.au_catalog.specs.declared.change.Change.TheVariants.{Start}
 use Rattle.au_catalog.specs.declared.kept.Kept.{Kept}

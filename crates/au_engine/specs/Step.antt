@@ -1,5 +1,5 @@
 -- One step: what an ask is answered, and what becomes of the state.
-use Rattle.std.specs.Prelude.{◌≡◌, ◌⊎◌, ℕ, ◌+◌, ◌*◌, min, Bool, true, false, ◌&&◌, ◌||◌, ◌==◌, nat_le, List, [], ◌∷◌, ◌++◌, length, map, find, is_some, if◌then◌else◌, Option, Some, None, MatchOption}
+use Rattle.std.specs.Prelude.{◌≡◌, ◌⊎◌, ℕ, ◌+◌, ◌*◌, min, Bool, true, false, ◌||◌, ◌==◌, nat_le, List, [], ◌∷◌, ◌++◌, length, map, find, is_some, if◌then◌else◌, Option, Some, None, MatchOption}
 use Rattle.au_base.specs.declared.action.Action.TheVariants.{Logon as LogonAction}
 use Rattle.au_base.specs.declared.ask.Ask.{Ask}
 use Rattle.au_base.specs.declared.ask.Ask.TheVariants.{Local, Logon, Sql, Logoff}
@@ -26,7 +26,7 @@ use Rattle.au_engine.specs.Answering.{code_reply, reply_of}
 use Rattle.au_engine.specs.Auditing.{records_of}
 use Rattle.au_engine.specs.Deciding.{Decides}
 use Rattle.au_engine.specs.Forms.{action_of, tables_of, object_of}
-use Rattle.au_engine.specs.Reading.{Reads, IsUnread}
+use Rattle.au_engine.specs.Reading.{ReadsForm, IsUnbuilt}
 use Rattle.au_engine.specs.State.{State, stamp_of}
 
 -- what a step leaves to be kept: its changes in the order in which they happen, and its records
@@ -119,16 +119,16 @@ pub record StatementStep (m : State) (session : Session) (form : BuiltForm) (tex
   pub logs : logged ≡ statement_logged m session stamp form text decision
   pub next : n ≡ after_statement m session stamp form text decision
 
--- a text that is read, as its one statement
+-- a text that is a built statement
 pub record ReadStep (m : State) (session : Session) (text : List ℕ) (stamp : ℕ) (reply : Reply) (logged : Logged) (n : State) : Type 0 where
   pub form : BuiltForm
-  pub reads : Reads text form
+  pub reads : ReadsForm text form
   pub step : StatementStep m session form text stamp reply logged n
 
--- a text that isn't read: its code is the reply, and nothing is changed or recorded
+-- a text that is no built statement: its code is the reply, and nothing is changed or recorded
 pub record UnreadStep (m : State) (text : List ℕ) (reply : Reply) (logged : Logged) (n : State) : Type 0 where
   pub code : Code
-  pub unread : IsUnread text code
+  pub unread : IsUnbuilt text code
   pub replies : reply ≡ code_reply code
   pub logs : logged ≡ nothing_logged
   pub same : n ≡ m

@@ -11,6 +11,7 @@ ghost use Rattle.au_engine.specs.Image.{image_of, nothing};
 ghost use Rattle.au_engine.specs.Lawful.{IsLawful, IsLawfulState};
 ghost use Rattle.au_engine.specs.Opening.{opening};
 ghost use Rattle.au_engine.specs.Prepared.{Fits, after, drawn_after, logged_of};
+ghost use Rattle.au_engine.specs.Reading.{IsReadAs, IsReadOf};
 ghost use Rattle.au_engine.specs.Replaying.{EndsWell, IsReplayable, PartsGoOn, after_frame, kept_with, with_records};
 ghost use Rattle.au_engine.specs.Returning.{start_frame};
 ghost use Rattle.au_engine.specs.Staging.{ChangeEnablements};
@@ -29,7 +30,7 @@ use crate::framing::{asks_are_text, with_frame};
 use crate::imaging::image;
 use crate::opening_state::{kept_nothing, opening};
 use crate::prepared::{Prepared, SessionChange};
-use crate::reading::read;
+use crate::reading::built;
 use crate::replaying::{ended, ends_well, follow};
 use crate::session::Session;
 use crate::sessions::{counted, drawn_after, end_session, entries_after, session_of, settle};
@@ -43,6 +44,7 @@ use au_base::{
 use au_catalog::{Catalog, Change, Kept, Record};
 use au_priv::Grants;
 use rec_codec::Frame;
+use sql_ast::Statement;
 use std::alloc::Global;
 use std::marker::Model;
 
@@ -196,15 +198,18 @@ impl Engine {
         })
     }
 
-    /// Works out the step of a client's ask at this stamp, and leaves the state as it is.
+    /// Works out the step of a client's ask at this stamp, and leaves the state as it is. A text
+    /// that is asked comes with what it is read as; with another ask any value comes.
     pub fn prepare(
         &mut self,
         alloc: Global,
         client: ClientNo,
         ask: &Ask,
+        read: &Result<Statement, Code>,
         stamp: Stamp,
     ) -> Result<Prepared, Memory>
         requires asked { IsAsked ask.now }
+        requires read { IsReadOf ask.now read.now }
         requires stamp { IsStampOf self.old.state stamp.0 }
         ensures step { IfOk result (λ prepared. StepAt self.old.state client ask.now stamp.0 prepared.reply (after prepared self.old.state)) }
         ensures writes { IfOk result (λ prepared. Writes self.old.state client ask.now stamp.0 (after prepared self.old.state) prepared.framed) }
@@ -212,7 +217,7 @@ impl Engine {
         ensures fits { IfOk result (λ prepared. Fits prepared self.new) }
     {
         self.reserve()?;
-        let prepared = self.step(alloc, client, ask, stamp)?;
+        let prepared = self.step(alloc, client, ask, read, stamp)?;
         let prepared = self.framed(alloc, client, ask, stamp, prepared)?;
         Ok(prepared)
     }
@@ -477,15 +482,17 @@ impl Engine {
         alloc: Global,
         client: ClientNo,
         ask: &Ask,
+        read: &Result<Statement, Code>,
         stamp: Stamp,
     ) -> Result<Prepared, Memory>
-        requires { IsAsked ask.now }
+        requires asked { IsAsked ask.now }
+        requires read { IsReadOf ask.now read.now }
         ensures step { IfOk result (λ prepared. LoggedStep self.now.state client ask.now stamp.0 prepared.reply (logged_of prepared) (after prepared self.now.state)) }
         ensures drawn { IfOk result (λ prepared. drawn_after prepared.sessions self.now.state.drawn ≤ INSTANCE_SESSIONS) }
     {
         match ask {
             Ask::Local => self.local(alloc, client, stamp),
-            Ask::Sql(text) => self.sql(alloc, client, text, stamp),
+            Ask::Sql(text) => self.sql(alloc, client, text, read, stamp),
             Ask::Logon { .. } | Ask::Logoff => unreachable!(),
         }
     }
@@ -600,14 +607,16 @@ impl Engine {
         alloc: Global,
         client: ClientNo,
         text: &Text,
+        read: &Result<Statement, Code>,
         stamp: Stamp,
     ) -> Result<Prepared, Memory>
+        requires { IsReadAs text.now read.now }
         ensures step { IfOk result (λ prepared. SqlStep self.now.state client text.now stamp.0 prepared.reply (logged_of prepared) (after prepared self.now.state)) }
         ensures drawn { IfOk result (λ prepared. drawn_after prepared.sessions self.now.state.drawn ≤ INSTANCE_SESSIONS) }
     {
         match session_of(&self.sessions, client) {
             None => Ok(self.unchanged(alloc, code_reply(alloc, Code::NOT_LOGGED_ON))),
-            Some(session) => self.text(alloc, session, text, stamp),
+            Some(session) => self.text(alloc, session, text, read, stamp),
         }
     }
 
@@ -617,12 +626,14 @@ impl Engine {
         alloc: Global,
         session: &Session,
         text: &Text,
+        read: &Result<Statement, Code>,
         stamp: Stamp,
     ) -> Result<Prepared, Memory>
+        requires { IsReadAs text.now read.now }
         ensures step { IfOk result (λ prepared. SessionStep self.now.state session.now text.now stamp.0 prepared.reply (logged_of prepared) (after prepared self.now.state)) }
         ensures drawn { IfOk result (λ prepared. drawn_after prepared.sessions self.now.state.drawn ≤ INSTANCE_SESSIONS) }
     {
-        match read(alloc, text)? {
+        match built(text, read) {
             Ok(form) => {
                 let prepared = self.statement(alloc, session, form, text, stamp)?;
                 Ok(prepared)
@@ -631,7 +642,7 @@ impl Engine {
         }
     }
 
-    // A text that was read.
+    // A text that was read as a built statement.
     fn statement(
         &self,
         alloc: Global,

@@ -7,7 +7,7 @@ ghost use Rattle.au_engine.specs.History.{Entry, IsHistory, Opened, Run, stepped
 ghost use Rattle.au_engine.specs.State.{State};
 ghost use Rattle.au_engine.specs.Step.{Event, Logged, LoggedStep, Step, StepAt};
 
-use crate::reading::one_reading;
+use sql_parse_admin::one_reading;
 
 /// A store that was just opened has a history, which goes on by each step from where it ends. Two
 /// runs, the second from where the first ends, are one.

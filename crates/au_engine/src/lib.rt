@@ -33,7 +33,7 @@ pub use laws::{histories_go_on, one_result};
 pub use opening_state::{opening, verifier};
 pub use place::Place;
 pub use prepared::{Prepared, SessionChange};
-pub use reading::{one_reading, read};
+pub use reading::reading_of;
 pub use session::Session;
 
 #[cfg(test)]

@@ -15,7 +15,7 @@ mod worlds;
 
 use super::*;
 use au_base::built_in::SYS;
-use au_base::{Ask, ClientNo, Code, Memory, Reply, Text};
+use au_base::{Ask, ClientNo, Memory, Reply, Text};
 use std::alloc::Global;
 use std::process::Abort;
 use std::test::Fail;
@@ -73,8 +73,9 @@ fn step(
     reading: u64,
 ) -> Result<Reply, Memory> {
     let ask = ask_of(alloc, asked)?;
+    let read = reading_of(alloc, &ask)?;
     let stamp = engine.stamp(reading);
-    let prepared = engine.prepare(alloc, ClientNo(client), &ask, stamp)?;
+    let prepared = engine.prepare(alloc, ClientNo(client), &ask, &read, stamp)?;
     Ok(engine.apply(prepared))
 }
 
@@ -118,24 +119,6 @@ fn each_ask_has_its_code_and_leaves_its_records(rt: HostRuntime) -> Result<(), F
         assert_eq!(rt; entry.stamp.0, stamp);
         assert_eq!(rt; entry.policies.len(), policies, "at {stamp}");
         assert_eq!(rt; entry.code.0, code, "at {stamp}");
-    }
-    Ok(())
-}
-
-// the bytes of a text of spaces behind a statement, and whether it is read
-const LENGTHS: [(usize, Result<BuiltForm, Code>); 2] = [
-    (32_767, Ok(BuiltForm::SelectNumber(1))),
-    (32_768, Err(Code(99007))),
-];
-
-#[test]
-fn a_text_has_at_most_32767_bytes(rt: HostRuntime) -> Result<(), Fail> {
-    let alloc = rt.alloc();
-    for (length, wanted) in LENGTHS {
-        let mut bytes = b"SELECT 1 FROM DUAL".as_slice().to_vec(alloc)?;
-        bytes.resize(length, b' ')?;
-        let text = Text::make(alloc, &bytes)?.ok_or(Memory)?;
-        assert_eq!(rt; read(alloc, &text)?, wanted, "{length} bytes");
     }
     Ok(())
 }

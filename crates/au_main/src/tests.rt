@@ -56,6 +56,25 @@ const REFUSED: &str = "{\"code\":1012,\"columns\":[],\"count\":0,\"rows\":[]}
 {\"code\":0,\"columns\":[\"COUNT(*)\"],\"count\":1,\"rows\":[[1]]}
 ";
 
+// texts that are built statements in other words, statements that aren't built, and no statements
+const READINGS: &str =
+    "s1 local\ns1 sql SELECT 7 FROM SYS.\"DUAL\" D\ns1 sql SELECT COUNT(*) FROM AUDSYS.UNIFIED_AUDIT_TRAIL T;\ns1 sql SELECT 1 ONE FROM DUAL\ns1 sql SELECT \"dual\" FROM \"DUAL\"\ns1 sql CREATE ROLE R\ns1 sql SELECT 'a\ns1 sql SELECT 1 FROM DUAL;;\ns1 sql SELECT (((((((((((((((((((((((((((((((((((((((((((((((((((((((((((((((((((((((((((((((((((((((((((((((((((((\ns1 sql SELECT ((((((((((((((((((((((((((((((((((((((((((((((((((((((((((((((((((((((((((((((((((((((((((((((((((((\ns1 sql SELECT ((((((((((((((((((((((((((((((((((((((((((((((((((((((((((((((((((((((((((((((((((((((((((((((((((((( '\ns1 sql NOAUDIT POLICY \"P_ALL\"\ns1 sql NOAUDIT POLICY P_ALL BY SYS\n";
+
+const READ: &str = "{\"code\":0,\"columns\":[],\"count\":0,\"rows\":[]}
+{\"code\":0,\"columns\":[\"C1\"],\"count\":1,\"rows\":[[7]]}
+{\"code\":0,\"columns\":[\"COUNT(*)\"],\"count\":1,\"rows\":[[0]]}
+{\"code\":900,\"columns\":[],\"count\":0,\"rows\":[]}
+{\"code\":900,\"columns\":[],\"count\":0,\"rows\":[]}
+{\"code\":900,\"columns\":[],\"count\":0,\"rows\":[]}
+{\"code\":900,\"columns\":[],\"count\":0,\"rows\":[]}
+{\"code\":900,\"columns\":[],\"count\":0,\"rows\":[]}
+{\"code\":99006,\"columns\":[],\"count\":0,\"rows\":[]}
+{\"code\":900,\"columns\":[],\"count\":0,\"rows\":[]}
+{\"code\":900,\"columns\":[],\"count\":0,\"rows\":[]}
+{\"code\":46351,\"columns\":[],\"count\":0,\"rows\":[]}
+{\"code\":900,\"columns\":[],\"count\":0,\"rows\":[]}
+";
+
 const OK: &str = "{\"code\":0,\"columns\":[],\"count\":0,\"rows\":[]}\n";
 
 const ONE: &str = "{\"code\":0,\"columns\":[\"C1\"],\"count\":1,\"rows\":[[1]]}\n";
@@ -67,9 +86,10 @@ const COUNT_2: &str = "{\"code\":0,\"columns\":[\"COUNT(*)\"],\"count\":1,\"rows
 const COUNT_4: &str = "{\"code\":0,\"columns\":[\"COUNT(*)\"],\"count\":1,\"rows\":[[4]]}\n";
 
 // a script, how it ends, and what it gives
-const SCRIPTS: [(&str, Status, &str); 22] = [
+const SCRIPTS: [(&str, Status, &str); 23] = [
     ("", Status::Done, ""),
     (REFUSALS, Status::BadLine(7), REFUSED),
+    (READINGS, Status::Done, READ),
     ("s1 local\r\n", Status::Done, OK),
     ("s1 local\n# x\r\n\r\n   \n\n", Status::Done, OK),
     ("# s1 loca\n#\ns1 local\n", Status::Done, OK),

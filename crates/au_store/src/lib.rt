@@ -6,6 +6,7 @@ mod creating;
 mod ends;
 mod laws;
 mod open_fault;
+mod preparing;
 mod replaying;
 mod starting;
 mod stepping;

@@ -14,6 +14,7 @@ ghost use Rattle.au_engine.specs.State.{stamp_of};
 ghost use Rattle.au_engine.specs.Step.{IsAsked, Step};
 
 use crate::Store;
+use crate::preparing::prepare;
 use crate::writing::write;
 use au_base::{Ask, ClientNo, Memory, Said};
 use au_engine::{Prepared, frames_lead_on};
@@ -90,7 +91,7 @@ impl<D: Disk, C: Clock> Store<D, C> {
         text_of(ask);
         self.engine.lawful();
         frames_lead_on();
-        self.engine.prepare(alloc, client, ask, stamp)
+        prepare(&mut self.engine, alloc, client, ask, stamp)
     }
 
     // Writes what the prepared step leaves to be kept, and makes the step.

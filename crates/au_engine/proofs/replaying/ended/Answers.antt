@@ -1,4 +1,3 @@
-use Rattle.std.proofs.Common.{◌≡◌}
 use Rattle.au_engine.proofs.replaying.ended.Goals as goal
 
 pub returns-then-draft_ends_well : goal.returns-then-draft_ends_well

@@ -1,4 +1,3 @@
-use Rattle.std.proofs.Common.{sym}
 use Rattle.au_engine.specs.Drafting.{drafted}
 use Rattle.au_engine.specs.Image.{nothing}
 use Rattle.au_engine.proofs.Following.{follows_all, follows_here, follows_more, plain_change}
