@@ -2,6 +2,7 @@ pub mod Actions
 pub mod BuiltIn
 pub mod Calendar
 pub mod Cells
+pub mod Elements
 pub mod formers
 pub mod Found
 pub mod Fronts
@@ -9,5 +10,8 @@ pub mod Likes
 pub mod Moments
 pub mod Naming
 pub mod Numbers
+pub mod Order
+pub mod OrderLaws
 pub mod Privileges
+pub mod Sameness
 pub mod Truths

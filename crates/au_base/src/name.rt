@@ -1,7 +1,9 @@
 //! Names.
-ghost use Rattle.std.specs.Prelude.{◌≡◌, ◌≤◌, ◌<◌, IsUtf8, IfOk, length};
+ghost use Rattle.std.specs.Prelude.{◌≡◌, ◌≤◌, ◌<◌, IsUtf8, IfOk, List, ℕ, length};
+ghost use Rattle.std.specs.Ordering.{is_lt};
 ghost use Rattle.au_base.specs.Found.{MakesExactly};
 ghost use Rattle.au_base.specs.Naming.{IsName, IsNameLong, identifier_of};
+ghost use Rattle.au_base.specs.Order.{name_before};
 
 use crate::limits::NAME_BYTES;
 use crate::{Memory, Text};
@@ -118,3 +120,8 @@ impl Clone for Name {
         })
     }
 }
+
+/// Names compare by their bytes. It does nothing, and states the law for its callers.
+pub fn names_compare_by_bytes()
+    ensures { (a b : List ℕ) → is_lt (⟦<Name as Ord>⟧.cmp a b) ≡ name_before a b }
+{}

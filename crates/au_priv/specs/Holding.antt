@@ -1,11 +1,10 @@
 -- The search for who holds a right.
-use Rattle.std.specs.Prelude.{◌==◌, ◌&&◌, Bool, true, false, IsTrue}
+use Rattle.std.specs.Prelude.{◌&&◌, Bool, true, false, IsTrue}
 use Rattle.std.specs.List.{Contains}
 use Rattle.std.specs.Str.{bytes_eq}
 use Rattle.au_base.specs.declared.action.Action.{Action}
 use Rattle.au_base.specs.declared.table.TableName.{TableName}
-use Rattle.au_base.specs.Privileges as privileges
-use Rattle.au_base.specs.Actions as actions
+pub use Rattle.au_base.specs.Sameness.{same_action, same_privilege, same_table}
 use Rattle.au_base.specs.declared.privilege.Privilege.{Privilege}
 use Rattle.au_base.specs.declared.privilege.Privilege.TheVariants.{SelectAnyTable, InsertAnyTable, UpdateAnyTable, DeleteAnyTable}
 use Rattle.au_priv.specs.declared.grants.Grants.{Grants}
@@ -34,18 +33,6 @@ IsGranted grants holder (SomeObject table) = (action : Action) × Contains grant
 -- the right is granted to the user or to a held role
 abbrev pub HasRight : Grants → Name → Sought → Type 0
 HasRight grants user right = (holder : Name) × IsHolder grants.role user holder × IsGranted grants holder right
-
--- two names of tables are the same
-abbrev pub same_table : TableName → TableName → Bool
-same_table a b = bytes_eq a.owner b.owner && bytes_eq a.name b.name
-
--- two system privileges are the same
-abbrev pub same_privilege : Privilege → Privilege → Bool
-same_privilege a b = privileges.code_of a == privileges.code_of b
-
--- two actions are the same
-abbrev pub same_action : Action → Action → Bool
-same_action a b = actions.code_of a == actions.code_of b
 
 -- the entry grants this role to this grantee
 abbrev pub grants_role : Name → Name → RoleEntry → Bool

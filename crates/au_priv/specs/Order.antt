@@ -1,20 +1,10 @@
--- The byte order of names and of grants, in which lists of them stand (the order is this project's profile).
-use Rattle.std.specs.Prelude.{ℕ, List, [], ◌∷◌, ◌++◌, Bool, true, not, ◌&&◌, IsTrue}
-use Rattle.std.specs.List.{filter, list_all}
-use Rattle.std.specs.Ordering.{nat_cmp, is_lt}
-use Rattle.std.specs.Cmp.Lexicographic.{slice_cmp}
+-- The byte order of grants, in which lists of them stand (the order is this project's profile).
+use Rattle.std.specs.Prelude.{ℕ, List, [], ◌∷◌, Bool, IsTrue}
+pub use Rattle.au_base.specs.Order.{fields_before, is_in_order, name_before as comes_before, placed}
 use Rattle.au_base.specs.Actions as actions
 use Rattle.au_base.specs.Privileges as privileges
 use Rattle.au_priv.specs.declared.grants.Grants.{Grants}
 use Rattle.au_priv.specs.Rights.{SystemEntry, RoleEntry, ObjectEntry}
-
--- the first name comes before the second in byte order
-abbrev pub comes_before : List ℕ → List ℕ → Bool
-comes_before a b = is_lt (slice_cmp nat_cmp a b)
-
--- the first fields come before the second: the first field in which they differ decides, in byte order
-abbrev pub fields_before : List (List ℕ) → List (List ℕ) → Bool
-fields_before a b = is_lt (slice_cmp (slice_cmp nat_cmp) a b)
 
 -- the fields of a grant of a system privilege that order it: the grantee, and the privilege's code
 abbrev pub system_fields : SystemEntry → List (List ℕ)
@@ -39,15 +29,6 @@ role_before a b = fields_before (role_fields a) (role_fields b)
 -- the same of grants of object privileges
 abbrev pub object_before : ObjectEntry → ObjectEntry → Bool
 object_before a b = fields_before (object_fields a) (object_fields b)
-
--- a new entry among entries, behind those that come before it and before the others
-abbrev pub placed : {X : Type 0} → (X → X → Bool) → X → List X → List X
-placed before entry entries = filter (λ other. before other entry) entries ++ entry ∷ filter (λ other. not (before other entry)) entries
-
--- each entry comes before each later one, so that none stands twice
-abbrev pub is_in_order : {X : Type 0} → (X → X → Bool) → List X → Bool
-is_in_order before [] = true
-is_in_order before (entry ∷ entries) = list_all (before entry) entries && is_in_order before entries
 
 -- the grants of each kind stand in order
 abbrev pub AreInOrder : Grants → Type 0
