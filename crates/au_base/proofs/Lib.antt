@@ -3,6 +3,7 @@ mod CalendarCounts
 mod CalendarDays
 pub mod Elements
 mod FindLemmas
+mod FirstRule
 mod LikeLemmas
 pub mod Members
 mod MomentBack
