@@ -1,5 +1,5 @@
 -- What a pass is after each call.
-use Rattle.std.proofs.Common.{◌≡◌, ℕ, true, false, List, [], ◌∷◌, ◌++◌, Some, None, refl, sym, ap, ◌∙◌, subst}
+use Rattle.std.proofs.Common.{◌≡◌, ℕ, suc, ◌+◌, true, false, List, [], ◌∷◌, ◌++◌, Some, None, refl, sym, ap, ◌∙◌, subst}
 use Rattle.std.proofs.Math.Seq.{drop-append_seam}
 use Rattle.std.specs.declared.option.Option.{Option}
 use mathlib.Core.List.{IsPrefix}
@@ -18,11 +18,11 @@ Mind T E = Me (Option T) (View E)
 
 -- the view after the entries were made
 abbrev pub handed : {E : Type 0} → View E → List E → View E
-handed v more = record { seen = v.seen ++ more; mine = v.mine ++ more; next = v.seen ++ more; earlier = v.earlier; held = false; emptied = false; spent = false }
+handed v more = record { seen = v.seen ++ more; mine = v.mine ++ more; next = v.seen ++ more; earlier = v.earlier; turns = suc v.turns; held = false; emptied = false; spent = false }
 
 -- the view after a join
 abbrev pub mixed : {E : Type 0} → View E → View E → View E
-mixed v w = record { seen = longer v.seen w.seen; mine = v.mine; next = []; earlier = []; held = false; emptied = false; spent = false }
+mixed v w = record { seen = longer v.seen w.seen; mine = v.mine; next = []; earlier = []; turns = v.turns + w.turns; held = false; emptied = false; spent = false }
 
 module _ {T E : Type 0} where
   -- equal minds have equal views
@@ -45,7 +45,7 @@ module _ {T E : Type 0} where
   pub handed_over : (v : View E) (m2 m3 : Mind T E) (more : List E) (y : T) → m2 ≡ (announcing v more, (0, Some y) ∷ []) → m3 ≡ (after m2.0, []) → m3 ≡ (handed v more, [])
   handed_over v m2 m3 more y is done =
       let go : Mind T E → Mind T E = λ k. (after k.0, []) in
-      let say : List E → Mind T E = λ l. (record { seen = v.seen ++ more; mine = v.mine ++ l; next = v.seen ++ more; earlier = v.earlier; held = false; emptied = false; spent = false }, []) in
+      let say : List E → Mind T E = λ l. (record { seen = v.seen ++ more; mine = v.mine ++ l; next = v.seen ++ more; earlier = v.earlier; turns = suc v.turns; held = false; emptied = false; spent = false }, []) in
       done ∙ (ap go is ∙ ap say (drop-append_seam v.seen more))
 
   -- what a pass is, from what it knows

@@ -5,8 +5,6 @@ mod held;
 mod made;
 mod pass;
 mod rule;
-#[cfg(test)]
-mod tests;
 mod turn;
 mod view;
 

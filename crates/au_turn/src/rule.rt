@@ -42,19 +42,19 @@ pub(crate) struct Announce<B> {
     marker: PhantomData<B>,
 }
 
-impl<S, E, B: Telling<E>> Play<S, View<E>> for Announce<B> {
+impl<T: Held, B: Telling<T::Entry>> Play<Option<T>, View<T::Entry>> for Announce<B> {
     ghost use Rattle.au_turn.specs.Rule.{Announced};
 
-    ghost then = { Announced B.told };
+    ghost then = { Announced T.stands B.told };
 }
 
 /// The word goes from held to free, one turn later, and the value goes back into the slot.
 pub(crate) struct Release;
 
-impl<S, E> Play<S, View<E>> for Release {
+impl<T: Held> Play<Option<T>, View<T::Entry>> for Release {
     ghost use Rattle.au_turn.specs.Rule.{Released};
 
-    ghost then = { Released };
+    ghost then = { Released T.stands };
 }
 
 /// The second half of a join: both lists that were seen are known to begin the one that is seen.
@@ -69,7 +69,7 @@ impl<S, E> Play<S, View<E>> for Meet {
 /// The holder puts back the slot with nothing in it, and keeps the value for good.
 pub(crate) struct Empty;
 
-impl<S, E> Play<S, View<E>> for Empty {
+impl<T, E> Play<Option<T>, View<E>> for Empty {
     ghost use Rattle.au_turn.specs.Rule.{Emptied};
 
     ghost then = { Emptied };

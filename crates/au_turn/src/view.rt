@@ -11,6 +11,8 @@ pub struct View<E> {
     pub next: LinkedList<E>,
     /// Within a join: what its two passes had seen.
     pub earlier: LinkedList<LinkedList<E>>,
+    /// How often it, and the passes that were joined to it, gave the value back.
+    pub turns: u64,
     /// It holds the value.
     pub held: bool,
     /// It holds the value for good, and has put back the slot with nothing in it.

@@ -3,7 +3,7 @@ ghost use Rattle.std.specs.Prelude.{◌≡◌, ◌+◌, ◌%◌, ◌^◌, ◌<�
 ghost use mathlib.Core.List.{IsPrefix};
 ghost use Rattle.au_turn.specs.Entries.{StandsIn, longer};
 ghost use Rattle.au_turn.specs.View.{announcing};
-ghost use Rattle.au_turn.specs.Rule.{Got};
+ghost use Rattle.au_turn.specs.Rule.{Got, IsLegal};
 ghost use Rattle.au_turn.specs.Pass.{IsPassOf, IsHeld, IsIdle, SameSeat, GrewBy, seen, mine};
 
 use super::Turn;
@@ -54,7 +54,7 @@ impl<T: Held> Turn<T> {
     fn grab(&self, pass: &mut Pass<T>, word: u64) -> bool
         requires own { IsPassOf self.now pass.old }
         requires idle { IsIdle pass.old }
-        requires free { (word % 2 ≡ 0) × (word + 1 < 2 ^ 64) }
+        requires free { (word % 2 ≡ 0) × (word < 2 ^ 63) }
         ensures same { SameSeat pass.old pass.new }
         ensures got { MatchBool result
             (Got T.stands pass.old.seat.me pass.new.seat.me)
@@ -96,7 +96,7 @@ impl<T: Held> Turn<T> {
     fn announce<N: Made<T>, B: Telling<T::Entry>>(&self, pass: &mut Pass<T>, value: &T, made: &N)
         requires own { IsPassOf self.now pass.old }
         requires held { IsHeld pass.old }
-        requires told { (more : List T.Entry) × B.told more }
+        requires told { (more : List T.Entry) × B.told more × IsLegal T.stands (seen pass.old ++ more) }
         ensures same { SameSeat pass.old pass.new }
         ensures told { (more : List T.Entry) × B.told more
             × (pass.new.seat.me ≡ (announcing pass.old.seat.me.0 more, pass.old.seat.me.1)) }

@@ -19,7 +19,7 @@ returns-clause-own g c =
     let own = c.requires.own in
     let t = c.announce.ensures.told in
     let m = filled c.args.pass.now.seat.me c.announce.new.pass.seat.me c.exchange-rest.new.seat.me t.0 c.args.value own.slots c.requires.held t.2 c.exchange-rest.ensures.3 in
-    let f = handed_over c.args.pass.now.seat.me.0 c.exchange-rest.new.seat.me c.fetch_add.new.seat.me t.0 c.args.value m c.fetch_add.ensures.2 in
+    let f = handed_over c.args.pass.now.seat.me.0 c.exchange-rest.new.seat.me c.fetch_add.new.seat.me t.0 c.args.value m c.fetch_add.ensures.2.2 in
     let v = same_view _ _ f in
     pass_handed _ c.args.pass.now.seat _ t.0 own (search rules) f
 
@@ -28,7 +28,7 @@ returns-clause-value g c =
     let own = c.requires.own in
     let t = c.announce.ensures.told in
     let m = filled c.args.pass.now.seat.me c.announce.new.pass.seat.me c.exchange-rest.new.seat.me t.0 c.args.value own.slots c.requires.held t.2 c.exchange-rest.ensures.3 in
-    let f = handed_over c.args.pass.now.seat.me.0 c.exchange-rest.new.seat.me c.fetch_add.new.seat.me t.0 c.args.value m c.fetch_add.ensures.2 in
+    let f = handed_over c.args.pass.now.seat.me.0 c.exchange-rest.new.seat.me c.fetch_add.new.seat.me t.0 c.args.value m c.fetch_add.ensures.2.2 in
     let v = same_view _ _ f in
     subst (λ u. g.T.Held.stands c.args.value u.seen) (sym v) t.1.1
 
@@ -37,6 +37,6 @@ returns-clause-entries g c =
     let own = c.requires.own in
     let t = c.announce.ensures.told in
     let m = filled c.args.pass.now.seat.me c.announce.new.pass.seat.me c.exchange-rest.new.seat.me t.0 c.args.value own.slots c.requires.held t.2 c.exchange-rest.ensures.3 in
-    let f = handed_over c.args.pass.now.seat.me.0 c.exchange-rest.new.seat.me c.fetch_add.new.seat.me t.0 c.args.value m c.fetch_add.ensures.2 in
+    let f = handed_over c.args.pass.now.seat.me.0 c.exchange-rest.new.seat.me c.fetch_add.new.seat.me t.0 c.args.value m c.fetch_add.ensures.2.2 in
     let v = same_view _ _ f in
     (t.0, t.1.0, (ap (λ u. u.seen) v, ap (λ u. u.mine) v))

@@ -4,7 +4,7 @@ ghost use Rattle.au_turn.specs.Pass.{IsPassOf, IsIdle};
 
 use super::counter::Counter;
 use super::workers::ask;
-use crate::{Pass, Turn};
+use au_turn::{Pass, Turn};
 use std::sync::Wait;
 use std::sync::atomic::AtomicU64;
 use std::sync::atomic::Ordering::SeqCst;

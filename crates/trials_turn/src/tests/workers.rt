@@ -2,11 +2,11 @@
 ghost use Rattle.std.specs.Prelude.{◌≡◌, ℕ, ◌<◌, List, All, length, slice_index_or};
 ghost use mathlib.Core.List.{IsPrefix};
 ghost use Rattle.au_turn.specs.Pass.{IsPassOf, IsIdle, WentOn, seen};
-ghost use Rattle.au_turn.specs.declared.tests.counter.Entry.{Entry};
-ghost use Rattle.au_turn.specs.declared.tests.workers.Worker.{Worker};
+ghost use Rattle.trials_turn.specs.declared.tests.counter.Entry.{Entry};
+ghost use Rattle.trials_turn.specs.declared.tests.workers.Worker.{Worker};
 
 use super::counter::Counter;
-use crate::{Held, Pass, Turn};
+use au_turn::{Held, Pass, Turn};
 use std::alloc::Global;
 use std::sync::Wait;
 use std::thread;

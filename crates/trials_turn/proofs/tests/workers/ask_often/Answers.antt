@@ -1,6 +1,6 @@
 use Rattle.std.proofs.Common.{rules}
 use Rattle.au_turn.proofs.PassLaws.{went_none, went_on}
-use Rattle.au_turn.proofs.tests.workers.ask_often.Goals as goal
+use Rattle.trials_turn.proofs.tests.workers.ask_often.Goals as goal
 
 pub loop-number-init : goal.loop-number-init
 loop-number-init g c = (search rules, search rules, went_none _)

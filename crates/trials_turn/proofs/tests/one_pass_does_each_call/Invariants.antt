@@ -1,5 +1,5 @@
 use Rattle.au_turn.specs.Pass.{IsPassOf, IsIdle}
-use Rattle.au_turn.proofs.tests.one_pass_does_each_call.Given as goal
+use Rattle.trials_turn.proofs.tests.one_pass_does_each_call.Given as goal
 
 abbrev pub invariant-loop-by : goal.invariant-loop-by
 invariant-loop-by g l = IsPassOf l.turn l.pass × IsIdle l.pass

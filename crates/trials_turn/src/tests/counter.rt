@@ -1,7 +1,7 @@
 //! A small held value: a counter with a limit, and the entries for which it stands.
 ghost use Rattle.std.specs.Prelude.{◌≡◌, List, [], ◌∷◌, ◌++◌, sum_by, MatchOption};
 
-use crate::{Held, Made};
+use au_turn::{Held, Made};
 
 /// What one deed left: what it added, and the faults that it met.
 #[derive(Clone, Copy)]

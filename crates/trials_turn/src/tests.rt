@@ -3,7 +3,7 @@ mod counter;
 mod waiter;
 mod workers;
 
-use crate::{Held, Turn};
+use au_turn::{Held, Turn};
 use counter::Counter;
 use std::test::*;
 use waiter::meet;
