@@ -1,5 +1,5 @@
 -- What changes make of what is kept. Each list stays in the byte order of its names; an entry that is there is replaced.
-use Rattle.std.specs.Prelude.{ℕ, Bool, not, List, [], ◌∷◌, ◌++◌, filter, Option, Some, None}
+use Rattle.std.specs.Prelude.{ℕ, not, List, [], ◌∷◌, ◌++◌, filter, Option, Some, None}
 use Rattle.std.specs.declared.cmp.Ordering.{Ordering}
 use Rattle.std.specs.Ordering.{nat_cmp, is_gt, is_lt}
 use Rattle.std.specs.Str.{bytes_eq}
@@ -7,10 +7,9 @@ use Rattle.std.specs.Cmp.Lexicographic.{slice_cmp}
 use Rattle.au_catalog.specs.declared.change.Change.{Change}
 use Rattle.au_catalog.specs.declared.change.Change.TheVariants.{User, Role, SysGrant, RoleGrant, Policy, Enable, Start}
 use Rattle.au_catalog.specs.declared.kept.Kept.{Kept}
-use Rattle.au_catalog.specs.declared.policy.AuditPolicy.{AuditPolicy}
 use Rattle.au_catalog.specs.declared.policy.Condition.{Condition}
 use Rattle.au_catalog.specs.declared.policy.Enabled.{Enabled}
-use Rattle.au_catalog.specs.declared.policy.Enabled.TheVariants.{Off, By, Except}
+use Rattle.au_catalog.specs.declared.policy.Enabled.TheVariants.{Off}
 use Rattle.au_catalog.specs.declared.policy.Evaluate.{Evaluate}
 use Rattle.au_priv.specs.declared.change.GrantChange.TheVariants.{SystemGrant, RoleGrant as GrantRole}
 use Rattle.au_priv.specs.Changing.{applied}

@@ -1,11 +1,11 @@
 -- Which policies demand a record of a statement (Database Security Guide, "Auditing Activities with Unified Audit
 -- Policies" and "Mandatorily Audited Activities"; which actions are mandatory is this project's profile).
-use Rattle.std.specs.Prelude.{ℕ, Bool, true, false, not, ◌&&◌, nat_le, if◌then◌else◌, List, ◌∷◌, ◌++◌, map, filter, find, codes, Option, Some, None}
+use Rattle.std.specs.Prelude.{ℕ, Bool, ◌&&◌, nat_le, if◌then◌else◌, List, map, filter, find, codes, Option, Some, None}
 use Rattle.std.specs.Str.{bytes_eq}
-use Rattle.std.specs.Ordering.{nat_cmp, is_lt}
-use Rattle.std.specs.Cmp.Lexicographic.{slice_cmp}
 use Rattle.au_base.specs.declared.action.Action.{Action}
 use Rattle.au_base.specs.Actions.{code_of}
+use Rattle.au_base.specs.Order as order
+pub use Rattle.au_base.specs.Order.{name_before as comes_before}
 use Rattle.au_catalog.specs.declared.policy.AuditPolicy.{AuditPolicy}
 use Rattle.au_catalog.specs.declared.policy.Enabled.{Enabled}
 use Rattle.au_catalog.specs.declared.policy.Enabled.TheVariants.{Off}
@@ -38,13 +38,9 @@ demanding when grants enabled policies facts = map (λ policy. policy.name) (fil
 abbrev pub is_mandatory : Action → Bool
 is_mandatory action = nat_le 16 (code_of action) && nat_le (code_of action) 20
 
--- the first name comes before the second in byte order
-abbrev pub comes_before : List ℕ → List ℕ → Bool
-comes_before a b = is_lt (slice_cmp nat_cmp a b)
-
 -- a name among names, behind those that come before it
 abbrev pub placed : List ℕ → List (List ℕ) → List (List ℕ)
-placed name names = filter (λ other. comes_before other name) names ++ name ∷ filter (λ other. not (comes_before other name)) names
+placed name names = order.placed comes_before name names
 
 -- the names of all policies that demand a record, in byte order where the policies stand so
 abbrev pub demanded : (AuditPolicy → Bool) → Grants → List (List ℕ × Enabled) → List AuditPolicy → Facts → List (List ℕ)

@@ -1,6 +1,6 @@
 -- What AUDIT and NOAUDIT make of an enablement (SQL Language Reference, "AUDIT (Unified Auditing)" and "NOAUDIT (Unified
 -- Auditing)"; what a repeated statement adds or replaces, and what is refused, is this project's profile).
-use Rattle.std.specs.Prelude.{ℕ, Bool, true, ◌||◌, List, [], Result, Ok, Err}
+use Rattle.std.specs.Prelude.{ℕ, true, ◌||◌, List, [], Result, Ok, Err}
 use Rattle.au_base.specs.declared.code.Code.{Code}
 use Rattle.au_base.specs.declared.code.TheConstants.Code.{OTHER_MODE, NOT_ENABLED_SO}
 use Rattle.au_catalog.specs.declared.policy.Enabled.{Enabled}

@@ -3,11 +3,14 @@ ghost use Rattle.std.specs.Prelude.{◌≡◌};
 ghost use Rattle.std.specs.List.{list_any};
 ghost use Rattle.std.specs.Str.{bytes_eq};
 ghost use Rattle.au_catalog.specs.Matching.{covers_action, covers_privilege, covers_role, has_outcome, is_enabled_for, lists_outcome, names_action, names_table, parts_match};
-ghost use Rattle.au_priv.specs.Holding.{same_action, same_privilege, same_table, grants_privilege};
+ghost use Rattle.au_base.specs.Sameness.{same_privilege, same_table};
+ghost use Rattle.au_priv.specs.Holding.{grants_privilege};
 
 use crate::facts::Facts;
 use crate::policy::{AuditPolicy, Enabled, Outcomes};
-use au_base::{Action, Code, Name, Privilege, TableName};
+use au_base::{
+    Action, Code, Name, Privilege, TableName, is_same_action, is_same_privilege, is_same_table,
+};
 use au_priv::Grants;
 
 /// Whether some part of the policy meets the statement.
@@ -122,22 +125,4 @@ fn has_outcome(outcomes: Outcomes, code: Code) -> bool
     } else {
         outcomes.failure
     }
-}
-
-fn is_same_table(a: &TableName, b: &TableName) -> bool
-    ensures { result ≡ same_table a.now b.now }
-{
-    a.owner == b.owner && a.name == b.name
-}
-
-fn is_same_privilege(a: Privilege, b: Privilege) -> bool
-    ensures { result ≡ same_privilege a b }
-{
-    a.code() == b.code()
-}
-
-fn is_same_action(a: Action, b: Action) -> bool
-    ensures { result ≡ same_action a b }
-{
-    a.code() == b.code()
 }
