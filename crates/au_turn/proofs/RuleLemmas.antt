@@ -60,15 +60,15 @@ held_at : (n turns : ℕ) → n ≡ free_after turns + n % 2 → n ≤ free_afte
 held_at n turns count few odd = (turns, omega arith, omega arith)
 
 -- a word that is one more than one that was found even becomes held
-grips_at : (n m turns : ℕ) → n ≡ free_after turns + n % 2 → n < free_after (2 ^ 62) → n % 2 ≡ 0 → m ≡ n + 1 → BecomesHeld n m
-grips_at n m turns count few even more = (turns, omega arith, omega arith, omega arith)
+to_held : (n m turns : ℕ) → n ≡ free_after turns + n % 2 → n < free_after (2 ^ 62) → n % 2 ≡ 0 → m ≡ n + 1 → BecomesHeld n m
+to_held n m turns count few even more = (turns, omega arith, omega arith, omega arith)
 
 -- a word that is one more than one that was found odd becomes free
-frees_at : (n turns : ℕ) → n ≡ free_after turns + n % 2 → n ≤ free_after (2 ^ 62) → n % 2 ≡ 1 → BecomesFree n (n + 1)
-frees_at n turns count few odd = (turns, omega arith, omega arith, omega arith)
+to_free : (n turns : ℕ) → n ≡ free_after turns + n % 2 → n ≤ free_after (2 ^ 62) → n % 2 ≡ 1 → BecomesFree n (n + 1)
+to_free n turns count few odd = (turns, omega arith, omega arith, omega arith)
 
 module _ {T E : Type 0} (stands : T → List E → Type 0) where
-  -- a view, a state, the rule and the word, by short names
+  -- a view, a state, the one history, the rule and the word, by short names
   abbrev V : Type 0
   V = View E
 
@@ -266,7 +266,7 @@ module _ {T E : Type 0} (stands : T → List E → Type 0) where
         (
           (λ _.
               let put : List (ℕ × Option T) → Me (Option T) V = λ cs. (w, (0, Some f.value) ∷ cs) in
-              (grips_at (word s) (n + 1) (turns_of s.views) count (omega arith) (omega arith) (omega arith), (f.value, k.history, ap put holds, f.stands_for, fits.seen))),
+              (to_held (word s) (n + 1) (turns_of s.views) count (omega arith) (omega arith) (omega arith), (f.value, k.history, ap put holds, f.stands_for, fits.seen))),
           (λ ne. absurd (ne hit)),
         ),
       ))
@@ -345,7 +345,7 @@ module _ {T E : Type 0} (stands : T → List E → Type 0) where
           };
           counted = counted_at s.words new (set s.homes 0 (some (Some x))) (set s.views id w) one (omega arith) (omega arith);
         },
-        (frees_at (word s) (turns_of s.views) count few odd, (x, holds, is), let cut : List (ℕ × Option T) → Me (Option T) V = λ cs. (w, rest cs) in ap cut holds),
+        (to_free (word s) (turns_of s.views) count few odd, (x, holds, is), let cut : List (ℕ × Option T) → Me (Option T) V = λ cs. (w, rest cs) in ap cut holds),
       )
 
   -- a pass is cut in two

@@ -1,5 +1,5 @@
 //! The calls of a turn.
-ghost use Rattle.std.specs.Prelude.{◌≡◌, ◌+◌, ◌%◌, ◌^◌, ◌<◌, List, [], ◌++◌, IfOk, IsOkAnd, IfErr, MatchBool};
+ghost use Rattle.std.specs.Prelude.{◌≡◌, ◌+◌, ◌%◌, ◌^◌, ◌<◌, ◌≤◌, List, [], ◌++◌, IfOk, IsOkAnd, IfErr, MatchBool};
 ghost use mathlib.Core.List.{IsPrefix};
 ghost use Rattle.au_turn.specs.Entries.{StandsIn, longer};
 ghost use Rattle.au_turn.specs.View.{announcing};
@@ -66,6 +66,13 @@ impl<T: Held> Turn<T> {
             == word
     }
 
+    // Sleeps where the value isn't to be had: a pass holds it, or the turn was given back 2^62 times.
+    fn sleep_at<R: Wait>(&self, rt: &R, word: u64)
+        requires apart { word % 2 ≡ 0 → 2 ^ 63 ≤ word }
+    {
+        self.table.shared.park(rt, 0, (word % (1 << 32)) as u32);
+    }
+
     /// Waits for the value, and takes it. A turn that was given back 2^62 times isn't got again.
     pub fn take<R: Wait>(&self, rt: &R, pass: &mut Pass<T>) -> T
         requires own { IsPassOf self.now pass.old }
@@ -86,7 +93,7 @@ impl<T: Held> Turn<T> {
                     return value;
                 }
             } else {
-                self.table.shared.park(rt, 0, (word % (1 << 32)) as u32);
+                self.sleep_at(rt, word);
             }
         }
         unreachable!()
