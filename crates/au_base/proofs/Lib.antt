@@ -2,6 +2,7 @@ mod ActionLemmas
 mod CalendarCounts
 mod CalendarDays
 mod FindLemmas
+mod FirstRule
 mod LikeLemmas
 mod MomentBack
 mod MomentDigits

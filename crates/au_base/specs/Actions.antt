@@ -1,5 +1,5 @@
 -- The numbers and names of actions (Database Security Guide, "Auditing Commonly Used SQL Statements").
-use Rattle.std.specs.Prelude.{ℕ, List, codes}
+use Rattle.std.specs.Prelude.{ℕ, List, [], ◌∷◌, codes}
 use Rattle.au_base.specs.declared.action.Action.{Action}
 use Rattle.au_base.specs.declared.action.Action.TheVariants.{All, Select, Insert, Update, Delete, Commit, Rollback, CreateTable, DropTable, CreateUser, AlterUser, DropUser, CreateRole, DropRole, Grant, Revoke, CreateAuditPolicy, DropAuditPolicy, Audit, Noaudit, Execute, Logon, Logoff}
 
@@ -28,6 +28,14 @@ code_of Noaudit = 19
 code_of Execute = 20
 code_of Logon = 21
 code_of Logoff = 22
+
+-- all actions, in the order of their numbers
+abbrev pub each_action : List Action
+each_action =
+    All ∷ Select ∷ Insert ∷ Update ∷ Delete ∷ Commit ∷
+    Rollback ∷ CreateTable ∷ DropTable ∷ CreateUser ∷ AlterUser ∷ DropUser ∷
+    CreateRole ∷ DropRole ∷ Grant ∷ Revoke ∷ CreateAuditPolicy ∷ DropAuditPolicy ∷
+    Audit ∷ Noaudit ∷ Execute ∷ Logon ∷ Logoff ∷ []
 
 -- the name that the trail prints
 abbrev pub name_of : Action → List ℕ

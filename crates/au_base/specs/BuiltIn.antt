@@ -6,25 +6,47 @@ use Rattle.std.specs.Str.{bytes_eq}
 use Rattle.au_base.specs.declared.table.TableName.{TableName}
 use Rattle.au_base.specs.declared.table.TableReference.{TableReference}
 
+-- the user who owns the store, and DUAL
 abbrev pub sys : List ℕ
 sys = codes "SYS"
 
+-- the owner of the audit trail, who is no user
 abbrev pub audsys : List ℕ
 audsys = codes "AUDSYS"
 
+-- no user or role can have this name
+abbrev pub public_name : List ℕ
+public_name = codes "PUBLIC"
+
+-- the role that may administer auditing
 abbrev pub audit_admin : List ℕ
 audit_admin = codes "AUDIT_ADMIN"
 
+-- the role that may read the audit trail
 abbrev pub audit_viewer : List ℕ
 audit_viewer = codes "AUDIT_VIEWER"
 
+-- the policy that is always on, and is in no catalogue
+abbrev pub ora_mandatory : List ℕ
+ora_mandatory = codes "ORA$MANDATORY"
+
+-- the audit policy that every store begins with
+abbrev pub p_all : List ℕ
+p_all = codes "P_ALL"
+
+abbrev pub dual_name : List ℕ
+dual_name = codes "DUAL"
+
+abbrev pub trail_name : List ℕ
+trail_name = codes "UNIFIED_AUDIT_TRAIL"
+
 -- the table with one row
 abbrev pub dual : TableName
-dual = record { owner = sys; name = codes "DUAL" }
+dual = record { owner = sys; name = dual_name }
 
 -- the table whose rows are the trail's records
 abbrev pub trail : TableName
-trail = record { owner = audsys; name = codes "UNIFIED_AUDIT_TRAIL" }
+trail = record { owner = audsys; name = trail_name }
 
 -- whose table an unqualified name means: the built-in ones come before the user's own
 abbrev pub owner_of : List ℕ → List ℕ → List ℕ

@@ -2,10 +2,14 @@ pub mod Actions
 pub mod BuiltIn
 pub mod Calendar
 pub mod Cells
+pub mod Codes
+pub mod FirstCode
 pub mod formers
 pub mod Found
 pub mod Fronts
 pub mod Likes
+pub mod Limits
+pub mod Listed
 pub mod Moments
 pub mod Naming
 pub mod Numbers

@@ -1,5 +1,5 @@
 -- The numbers and names of system privileges (SQL Language Reference, "GRANT", "System Privileges").
-use Rattle.std.specs.Prelude.{ℕ, List, codes}
+use Rattle.std.specs.Prelude.{ℕ, List, [], ◌∷◌, codes}
 use Rattle.au_base.specs.declared.privilege.Privilege.{Privilege}
 use Rattle.au_base.specs.declared.privilege.Privilege.TheVariants.{AlterUser, AuditSystem, CreateAnyTable, CreateRole, CreateSession, CreateTable, CreateUser, DeleteAnyTable, DropAnyRole, DropAnyTable, DropUser, GrantAnyObjectPrivilege, GrantAnyPrivilege, GrantAnyRole, InsertAnyTable, SelectAnyTable, UpdateAnyTable}
 
@@ -22,6 +22,13 @@ code_of GrantAnyRole = 14
 code_of InsertAnyTable = 15
 code_of SelectAnyTable = 16
 code_of UpdateAnyTable = 17
+
+-- all system privileges, in the order of their numbers
+abbrev pub each_privilege : List Privilege
+each_privilege =
+    AlterUser ∷ AuditSystem ∷ CreateAnyTable ∷ CreateRole ∷ CreateSession ∷ CreateTable ∷
+    CreateUser ∷ DeleteAnyTable ∷ DropAnyRole ∷ DropAnyTable ∷ DropUser ∷ GrantAnyObjectPrivilege ∷
+    GrantAnyPrivilege ∷ GrantAnyRole ∷ InsertAnyTable ∷ SelectAnyTable ∷ UpdateAnyTable ∷ []
 
 -- the name that the trail prints
 abbrev pub name_of : Privilege → List ℕ

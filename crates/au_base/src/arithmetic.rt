@@ -1,5 +1,5 @@
 //! Arithmetic of numbers with up to 18 digits.
-ghost use Rattle.std.specs.Prelude.{◌+ℤ◌, ◌-ℤ◌, ◌*ℤ◌};
+ghost use Rattle.std.specs.Prelude.{◌+ℤ◌, ◌-ℤ◌, ◌*ℤ◌, ◌↔◌, IsTrue};
 ghost use Rattle.au_base.specs.Found.{MakesExactly};
 ghost use Rattle.au_base.specs.Numbers.{FitsDigits};
 
@@ -30,8 +30,12 @@ pub fn multiply(a: i64, b: i64) -> Option<i64>
 fn within_digits(number: i64) -> Option<i64>
     ensures { MakesExactly (FitsDigits number) number result }
 {
-    if number < -LARGEST || LARGEST < number {
-        return None;
-    }
-    Some(number)
+    fits_digits(number).then_some(number)
+}
+
+/// Whether the number has at most 18 digits.
+pub fn fits_digits(number: i64) -> bool
+    ensures { IsTrue result ↔ FitsDigits number }
+{
+    -LARGEST <= number && number <= LARGEST
 }

@@ -1,6 +1,7 @@
 //! Moments as dates and times of the civil calendar.
 ghost use Rattle.std.specs.Prelude.{◌≡◌, ◌≤◌, IfSome, MatchOption};
 ghost use Rattle.au_base.specs.Calendar.{IsCivil, IsDay, days_to, moment_of};
+ghost use Rattle.au_base.specs.Limits.{LAST_MOMENT};
 
 use jiff_core::civil::Date;
 

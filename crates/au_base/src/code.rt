@@ -1,4 +1,8 @@
 //! Return codes.
+ghost use Rattle.std.specs.Prelude.{◌≡◌, Bool};
+ghost use Rattle.std.specs.List.{find};
+ghost use Rattle.au_base.specs.declared.code.Code.{Code};
+ghost use Rattle.au_base.specs.FirstCode.{first_code};
 
 /// The return code of a statement: 0, or the number of the first rule that it breaks.
 ///
@@ -114,4 +118,31 @@ impl Code {
     pub const SESSION_PRESENT: Code = Code(99008);
     /// Too many changes in a transaction.
     pub const TOO_MANY_CHANGES: Code = Code(99009);
+    /// The audit policy would have no part. It comes with ALTER AUDIT POLICY, which isn't built
+    /// yet.
+    pub const NO_PART_LEFT: Code = Code(99010);
+    /// The purge job is there already. It comes with DBMS_AUDIT_MGMT.CREATE_PURGE_JOB, which isn't
+    /// built yet.
+    pub const JOB_PRESENT: Code = Code(99011);
+    /// No such purge job. It comes with the other procedures of DBMS_AUDIT_MGMT that name a job,
+    /// which aren't built yet.
+    pub const NO_SUCH_JOB: Code = Code(99012);
+
+    /// The code of the first rule that is broken, where each rule is whether it is broken and its
+    /// code; `DONE` where none is.
+    #[tactic(auto, using(crate::proofs::FirstRule::found, crate::proofs::FirstRule::missed))]
+    pub fn first(rules: &[(bool, Code)]) -> Code
+        ensures { result ≡ first_code rules.now }
+    {
+        match first_broken(rules) {
+            Some((_, code)) => code,
+            None => Code::DONE,
+        }
+    }
+}
+
+fn first_broken(rules: &[(bool, Code)]) -> Option<(bool, Code)>
+    ensures { result ≡ find (λ (rule : Bool × Code). rule.0) rules.now }
+{
+    rules.iter().copied().find(|rule| rule.0)
 }

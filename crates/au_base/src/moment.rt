@@ -1,6 +1,7 @@
 //! Moments as texts.
 ghost use Rattle.std.specs.Prelude.{◌≡◌, ◌+◌, ◌/◌, ◌%◌, ◌<◌, min, ◌≤◌};
 ghost use Rattle.au_base.specs.Calendar.{IsCivil};
+ghost use Rattle.au_base.specs.Limits.{LAST_MOMENT};
 ghost use Rattle.au_base.specs.Moments.{IsMomentText, civil_text, text_of_moment};
 
 use crate::calendar::{Civil, LAST_MOMENT, civil_of};

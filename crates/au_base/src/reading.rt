@@ -3,6 +3,7 @@ ghost use Rattle.std.specs.Prelude.{◌≡◌, ◌<◌, ℕ, ◌^◌, IfSome, Ma
 ghost use Rattle.std.specs.Char.{is_ascii_digit};
 ghost use Rattle.std.specs.List.{list_all};
 ghost use Rattle.std.specs.Str.Parse.{digits_value};
+ghost use Rattle.au_base.specs.Limits.{LAST_MOMENT};
 ghost use Rattle.au_base.specs.Moments.{IsPair, TellsMoment, TellsNoMoment, fraction_of};
 
 use crate::calendar::{LAST_MOMENT, day_number};

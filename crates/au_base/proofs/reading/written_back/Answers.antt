@@ -1,5 +1,5 @@
 use Rattle.std.proofs.Common.{◌≡◌, ◌∙◌, ap, arith, min, sym}
-use Rattle.au_base.specs.declared.calendar.TheConstants.{LAST_MOMENT}
+use Rattle.au_base.specs.Limits.{LAST_MOMENT}
 use Rattle.au_base.specs.Moments.{text_of_moment}
 use Rattle.au_base.proofs.MomentWritten.{written}
 use Rattle.au_base.proofs.reading.written_back.Goals as goal
