@@ -55,6 +55,3 @@ pub use steps::Steps;
 pub use table::{Column, ColumnKind, TableName, TableReference};
 pub use text::Text;
 pub use truth::Truth;
-
-#[cfg(test)]
-mod tests;

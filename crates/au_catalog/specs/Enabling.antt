@@ -2,7 +2,7 @@
 -- Auditing)"; what a repeated statement adds or replaces, and what is refused, is this project's profile).
 use Rattle.std.specs.Prelude.{ℕ, true, ◌||◌, List, [], Result, Ok, Err}
 use Rattle.au_base.specs.declared.code.Code.{Code}
-use Rattle.au_base.specs.declared.code.TheConstants.Code.{OTHER_MODE, NOT_ENABLED_SO}
+use Rattle.au_base.specs.Codes.{OTHER_MODE, NOT_ENABLED_SO}
 use Rattle.au_catalog.specs.declared.policy.Enabled.{Enabled}
 use Rattle.au_catalog.specs.declared.policy.Enabled.TheVariants.{Off, By, Except}
 use Rattle.au_catalog.specs.declared.policy.Outcomes.{Outcomes}

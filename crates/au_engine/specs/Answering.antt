@@ -2,7 +2,7 @@
 use Rattle.std.specs.Prelude.{ℕ, ℤ, pos, ◌==◌, List, [], ◌∷◌, codes, if◌then◌else◌}
 use Rattle.au_base.specs.declared.cell.Cell.TheVariants.{Num}
 use Rattle.au_base.specs.declared.code.Code.{Code}
-use Rattle.au_base.specs.declared.code.TheConstants.Code.{DONE}
+use Rattle.au_base.specs.Codes.{DONE}
 use Rattle.au_base.specs.declared.reply.Reply.{Reply}
 use Rattle.au_engine.specs.declared.form.BuiltForm.{BuiltForm}
 use Rattle.au_engine.specs.declared.form.BuiltForm.TheVariants.{SelectNumber, CountTrail, AuditAll, NoauditAll}

@@ -6,7 +6,7 @@ use Rattle.std.specs.List.{list_any}
 use Rattle.std.specs.Str.{bytes_eq}
 use Rattle.au_base.specs.declared.action.Action.TheVariants.{Select}
 use Rattle.au_base.specs.declared.code.Code.{Code}
-use Rattle.au_base.specs.declared.code.TheConstants.Code.{DONE, NO_SUCH_POLICY, PRIVILEGE_MISSING}
+use Rattle.au_base.specs.Codes.{DONE, NO_SUCH_POLICY, PRIVILEGE_MISSING}
 use Rattle.au_base.specs.declared.privilege.Privilege.{Privilege}
 use Rattle.au_base.specs.declared.privilege.Privilege.TheVariants.{AuditSystem}
 use Rattle.au_base.specs.declared.table.TableName.{TableName}

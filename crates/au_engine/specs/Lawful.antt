@@ -1,8 +1,8 @@
 -- What is so of all that is kept, in every state.
 use Rattle.std.specs.Prelude.{◌≡◌, ◌≢◌, ◌≤◌, ℕ, IsTrue, List, map, length, codes, None}
 use Rattle.std.specs.List.{AllByRecursion}
-use Rattle.au_base.specs.declared.calendar.TheConstants.{LAST_MOMENT}
-use Rattle.au_base.specs.declared.limits.TheConstants.{CATALOG_OBJECTS, INSTANCES}
+use Rattle.au_base.specs.Limits.{LAST_MOMENT}
+use Rattle.au_base.specs.Limits.{CATALOG_OBJECTS, INSTANCES}
 use Rattle.au_base.specs.Naming.{IsName}
 use Rattle.au_catalog.specs.declared.change.Change.{Change}
 use Rattle.au_catalog.specs.declared.kept.Kept.{Kept}

@@ -1,6 +1,6 @@
 -- What a prepared step makes of a state.
 use Rattle.std.specs.Prelude.{◌<◌, ◌≤◌, ◌+◌, ℕ, List, [], ◌∷◌, ◌++◌, map, unwrap_or, option_to_list}
-use Rattle.au_base.specs.declared.limits.TheConstants.{INSTANCE_SESSIONS}
+use Rattle.au_base.specs.Limits.{INSTANCE_SESSIONS}
 use Rattle.au_engine.specs.declared.prepared.Prepared.{Prepared}
 use Rattle.au_engine.specs.declared.prepared.SessionChange.{SessionChange}
 use Rattle.au_engine.specs.declared.prepared.SessionChange.TheVariants.{Nothing, Begins, Counts}

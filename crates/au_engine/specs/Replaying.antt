@@ -3,7 +3,7 @@
 use Rattle.std.specs.Prelude.{◌≡◌, ◌≢◌, ◌≤◌, ◌<◌, ℕ, Bool, true, false, not, ◌||◌, IsTrue, List, [], ◌∷◌, ◌++◌, map, length, None, ◌⊎◌}
 use Rattle.std.specs.List.{list_all, list_any}
 use Rattle.std.specs.Str.{bytes_eq}
-use Rattle.au_base.specs.declared.limits.TheConstants.{CATALOG_OBJECTS, GRANTS, INSTANCES}
+use Rattle.au_base.specs.Limits.{CATALOG_OBJECTS, GRANTS, INSTANCES}
 use Rattle.au_base.specs.declared.numbers.Stamp.{Stamp}
 use Rattle.au_base.specs.BuiltIn.{sys}
 use Rattle.au_catalog.specs.declared.change.Change.{Change}

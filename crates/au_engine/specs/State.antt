@@ -1,6 +1,6 @@
 -- The whole state, and the stamps of its events.
 use Rattle.std.specs.Prelude.{◌≡◌, ℕ, ◌+◌, min, max, Bool, List, []}
-use Rattle.au_base.specs.declared.calendar.TheConstants.{LAST_MOMENT}
+use Rattle.au_base.specs.Limits.{LAST_MOMENT}
 use Rattle.au_base.specs.declared.cell.Cell.{Cell}
 use Rattle.au_base.specs.declared.numbers.RowNo.{RowNo}
 use Rattle.au_base.specs.declared.numbers.Stamp.{Stamp}

@@ -4,8 +4,8 @@ use Rattle.au_base.specs.declared.action.Action.TheVariants.{Logon as LogonActio
 use Rattle.au_base.specs.declared.ask.Ask.{Ask}
 use Rattle.au_base.specs.declared.ask.Ask.TheVariants.{Local, Logon, Sql, Logoff}
 use Rattle.au_base.specs.declared.code.Code.{Code}
-use Rattle.au_base.specs.declared.code.TheConstants.Code.{DONE, NOT_LOGGED_ON, SESSION_PRESENT, TOO_MANY_SESSIONS}
-use Rattle.au_base.specs.declared.limits.TheConstants.{INSTANCE_SESSIONS, OPEN_SESSIONS, SESSION_COUNT}
+use Rattle.au_base.specs.Codes.{DONE, NOT_LOGGED_ON, SESSION_PRESENT, TOO_MANY_SESSIONS}
+use Rattle.au_base.specs.Limits.{INSTANCE_SESSIONS, OPEN_SESSIONS, SESSION_COUNT}
 use Rattle.au_base.specs.declared.numbers.ClientNo.{ClientNo}
 use Rattle.au_base.specs.declared.numbers.SessionNo.{SessionNo}
 use Rattle.au_base.specs.declared.numbers.Stamp.{Stamp}

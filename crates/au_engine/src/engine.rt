@@ -1,6 +1,6 @@
 //! The engine: the whole state, and its steps.
 ghost use Rattle.std.specs.Prelude.{◌≡◌, ◌↔◌, ◌≤◌, ◌<◌, [], codes, IfOk, IsTrue, MatchOption, OnErr, OnOk, if◌then◌else◌, is_some, option_to_list};
-ghost use Rattle.au_base.specs.declared.limits.TheConstants.{INSTANCES, INSTANCE_SESSIONS};
+ghost use Rattle.au_base.specs.Limits.{INSTANCES, INSTANCE_SESSIONS};
 ghost use Rattle.au_catalog.specs.Changing.{changed_all};
 ghost use Rattle.rec_codec.specs.Frames.{IsSpellable, body, framed};
 ghost use Rattle.au_engine.specs.Abandoning.{abandoned};
@@ -71,7 +71,7 @@ pub struct Engine {
 
 impl Model for Engine {
     ghost use Rattle.std.specs.Prelude.{◌+◌, ◌≤◌, vec_len, vec_capacity};
-    ghost use Rattle.au_base.specs.declared.limits.TheConstants.{INSTANCE_SESSIONS};
+    ghost use Rattle.au_base.specs.Limits.{INSTANCE_SESSIONS};
     ghost use Rattle.std.specs.Coded.{codes as value_codes};
     ghost use Rattle.sql_ast.specs.contracts.expression.Expr as expression;
     ghost use Rattle.au_engine.specs.Image.{image_of, nothing};

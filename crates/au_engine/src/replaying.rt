@@ -2,7 +2,7 @@
 ghost use Rattle.std.specs.Prelude.{◌≡◌, ◌≢◌, ◌↔◌, ◌≤◌, ◌<◌, ◌+◌, ◌⊎◌, ◌||◌, IfOk, IsTrue, MatchOption, Option, map, not};
 ghost use Rattle.std.specs.List.{list_all, list_any};
 ghost use Rattle.std.specs.Str.{bytes_eq};
-ghost use Rattle.au_base.specs.declared.limits.TheConstants.{GRANTS, INSTANCES};
+ghost use Rattle.au_base.specs.Limits.{GRANTS, INSTANCES};
 ghost use Rattle.au_base.specs.BuiltIn.{sys};
 ghost use Rattle.au_catalog.specs.declared.kept.Kept.{Kept as AnyKept};
 ghost use Rattle.au_catalog.specs.Changing.{changed_all};

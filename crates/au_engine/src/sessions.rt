@@ -1,7 +1,7 @@
 //! The list of sessions.
 ghost use Rattle.std.specs.Prelude.{◌≡◌, ◌≤◌, ◌<◌, ◌+◌, length, map, option_to_list, vec_len, vec_capacity};
 ghost use Rattle.std.specs.Option.{option_copied};
-ghost use Rattle.au_base.specs.declared.limits.TheConstants.{INSTANCE_SESSIONS};
+ghost use Rattle.au_base.specs.Limits.{INSTANCE_SESSIONS};
 ghost use Rattle.au_engine.specs.Abandoning.{sessions_without};
 ghost use Rattle.au_engine.specs.Prepared.{drawn_after, sessions_after};
 ghost use Rattle.au_engine.specs.Step.{counted, session_of, with_counts, with_more};

@@ -1,7 +1,7 @@
 -- The words after the program's name.
 use Rattle.std.specs.Prelude.{◌≡◌, ◌≢◌, ◌⊎◌, ◌<◌, ◌≤◌, ℕ, ◌^◌, List, [], ◌∷◌, ◌++◌, length, codes}
 use Rattle.std.specs.Str.Parse.{IsNumeral, digits_value, without_leading_plus}
-use Rattle.au_base.specs.declared.limits.TheConstants.{JOURNAL_LIMIT_DEFAULT, JOURNAL_LIMIT_MAX, JOURNAL_LIMIT_MIN, PASSWORD_BYTES}
+use Rattle.au_base.specs.Limits.{JOURNAL_LIMIT_DEFAULT, JOURNAL_LIMIT_MAX, JOURNAL_LIMIT_MIN, PASSWORD_BYTES}
 
 -- the one word `run`
 abbrev pub IsRun : List (List ℕ) → Type 0

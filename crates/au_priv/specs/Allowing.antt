@@ -4,7 +4,7 @@ use Rattle.std.specs.Prelude.{◌≡◌, ◌≢◌, Option, Some, None, ◌⊎�
 use Rattle.au_base.specs.declared.action.Action.{Action}
 use Rattle.au_base.specs.declared.action.Action.TheVariants.{Select, Insert, Update, Delete}
 use Rattle.au_base.specs.declared.code.Code.{Code}
-use Rattle.au_base.specs.declared.code.TheConstants.Code.{PRIVILEGE_MISSING, NO_SUCH_TABLE, TRAIL_READ_ONLY}
+use Rattle.au_base.specs.Codes.{PRIVILEGE_MISSING, NO_SUCH_TABLE, TRAIL_READ_ONLY}
 use Rattle.au_base.specs.declared.privilege.Privilege.{Privilege}
 use Rattle.au_base.specs.declared.privilege.Privilege.TheVariants.{SelectAnyTable, InsertAnyTable, UpdateAnyTable, DeleteAnyTable}
 use Rattle.au_base.specs.declared.table.TableName.{TableName}

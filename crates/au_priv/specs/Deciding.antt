@@ -3,7 +3,7 @@
 use Rattle.std.specs.Prelude.{◌≡◌, ◌≢◌, ◌<◌, ◌↔◌, ℕ, List, [], ◌∷◌, ◌++◌, Bool, false, IsTrue, Some, ◌⊎◌, if◌then◌else◌}
 use Rattle.std.specs.List.{Contains, slice_get}
 use Rattle.au_base.specs.declared.code.Code.{Code}
-use Rattle.au_base.specs.declared.code.TheConstants.Code.{DONE, NO_SUCH_ROLE, NO_SUCH_GRANTEE, NO_SUCH_TABLE, PRIVILEGE_MISSING}
+use Rattle.au_base.specs.Codes.{DONE, NO_SUCH_ROLE, NO_SUCH_GRANTEE, NO_SUCH_TABLE, PRIVILEGE_MISSING}
 use Rattle.au_base.specs.declared.grant.GrantStatement.{GrantStatement}
 use Rattle.au_base.specs.declared.grant.GrantStatement.TheVariants as S
 use Rattle.au_base.specs.declared.grant.ObjectRight.{ObjectRight}

@@ -3,8 +3,8 @@
 use Rattle.std.specs.Prelude.{◌≡◌, ◌<◌, ◌+◌, ℕ, List, [], ◌∷◌, ◌++◌, length, Bool, true, false, not, ◌&&◌, ◌||◌, Option, Some, None, Result, Ok, Err, ◌⊎◌}
 use Rattle.std.specs.List.{filter, list_any, slice_get}
 use Rattle.au_base.specs.declared.code.Code.{Code}
-use Rattle.au_base.specs.declared.code.TheConstants.Code.{CIRCULAR_ROLE_GRANT, TOO_MANY_OBJECTS, PRIVILEGE_NOT_GRANTED, ROLE_NOT_GRANTED, OBJECT_PRIVILEGE_NOT_GRANTED}
-use Rattle.au_base.specs.declared.limits.TheConstants.{GRANTS}
+use Rattle.au_base.specs.Codes.{CIRCULAR_ROLE_GRANT, TOO_MANY_OBJECTS, PRIVILEGE_NOT_GRANTED, ROLE_NOT_GRANTED, OBJECT_PRIVILEGE_NOT_GRANTED}
+use Rattle.au_base.specs.Limits.{GRANTS}
 use Rattle.au_base.specs.declared.privilege.Privilege.{Privilege}
 use Rattle.au_priv.specs.declared.change.GrantChange.{GrantChange}
 use Rattle.au_priv.specs.declared.change.GrantChange.TheVariants.{SystemGrant, SystemRevoke, RoleGrant, RoleRevoke, ObjectGrant, ObjectRevoke}

@@ -1,6 +1,6 @@
 //! Opening a store.
 ghost use Rattle.std.specs.Prelude.{◌≡◌, ◌⊎◌, ◌≤◌, ◌<◌, ◌+◌, ℕ, List, Some, true, false, length, IfOk, IfErr, OnOk, MatchResult};
-ghost use Rattle.au_base.specs.declared.limits.TheConstants.{INSTANCES as last_instance};
+ghost use Rattle.au_base.specs.Limits.{INSTANCES as last_instance};
 ghost use Rattle.au_catalog.specs.declared.kept.Kept.{Kept};
 ghost use Rattle.au_io.specs.Disk.{HasCause, Passes};
 ghost use Rattle.au_io.specs.Moments.{LeavesSince};

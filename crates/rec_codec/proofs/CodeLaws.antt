@@ -9,8 +9,6 @@ use Rattle.au_base.specs.declared.action.Action.{Action}
 use Rattle.au_base.specs.declared.action.Action.TheVariants.{All, Select, Insert, Update, Delete, Commit, Rollback, CreateTable, DropTable, CreateUser, AlterUser, DropUser, CreateRole, DropRole, Grant, Revoke, CreateAuditPolicy, DropAuditPolicy, Audit, Noaudit, Execute, Logon, Logoff}
 use Rattle.au_base.specs.declared.privilege.Privilege.{Privilege}
 use Rattle.au_base.specs.declared.privilege.Privilege.TheVariants as p
-use Rattle.au_base.specs.declared.action.TheConstants.Action as action_constants
-use Rattle.au_base.specs.declared.privilege.TheConstants.Privilege as privilege_constants
 use Rattle.rec_codec.specs.Parts.{action_with, privilege_with}
 
 find-passes : {X : Type 0} (test : X → Bool) (xs : List X) (x : X) → find test xs ≡ Some x → test x ≡ true
@@ -28,11 +26,11 @@ nat_eq-is m n is = grind (arith, nat_tests)
 
 pub privilege_back : (code : ℕ) (privilege : Privilege) → privilege_with code ≡ Some privilege → privileges.code_of privilege ≡ code
 unfolding privilege_with
-privilege_back code privilege e = nat_eq-is _ _ (find-passes (λ other. privileges.code_of other == code) privilege_constants.EACH privilege e)
+privilege_back code privilege e = nat_eq-is _ _ (find-passes (λ other. privileges.code_of other == code) privileges.each_privilege privilege e)
 
 pub action_back : (code : ℕ) (action : Action) → action_with code ≡ Some action → actions.code_of action ≡ code
 unfolding action_with
-action_back code action e = nat_eq-is _ _ (find-passes (λ other. actions.code_of other == code) action_constants.EACH action e)
+action_back code action e = nat_eq-is _ _ (find-passes (λ other. actions.code_of other == code) actions.each_action action e)
 
 pub privilege_forth : (privilege : Privilege) → privilege_with (privileges.code_of privilege) ≡ Some privilege
 unfolding privilege_with

@@ -7,12 +7,10 @@ use Rattle.au_base.specs.Actions as actions
 use Rattle.au_base.specs.Naming.{IsName}
 use Rattle.au_base.specs.Privileges as privileges
 use Rattle.au_base.specs.declared.action.Action.{Action}
-use Rattle.au_base.specs.declared.action.TheConstants.Action as action_constants
 use Rattle.au_base.specs.declared.code.Code.{Code}
 use Rattle.au_base.specs.declared.numbers.SessionNo.{SessionNo}
 use Rattle.au_base.specs.declared.numbers.Stamp.{Stamp}
 use Rattle.au_base.specs.declared.privilege.Privilege.{Privilege}
-use Rattle.au_base.specs.declared.privilege.TheConstants.Privilege as privilege_constants
 use Rattle.au_base.specs.declared.table.TableName.{TableName}
 use Rattle.au_catalog.specs.declared.policy.Outcomes.{Outcomes}
 use Rattle.rec_codec.specs.Spelling.{Spelling, byte, coded, coded_first, counted, is_without_repeats, long, made_of, number, only, pair, run, such_that}
@@ -58,14 +56,14 @@ verifier = run 32
 
 -- a privilege by its number
 unfoldable pub privilege_with : ℕ → Option Privilege
-privilege_with code = find (λ privilege. privileges.code_of privilege == code) privilege_constants.EACH
+privilege_with code = find (λ privilege. privileges.code_of privilege == code) privileges.each_privilege
 
 unfoldable pub privilege : Spelling Privilege
 privilege = coded privileges.code_of privilege_with
 
 -- an action by its number, 0 for any action
 unfoldable pub action_with : ℕ → Option Action
-action_with code = find (λ action. actions.code_of action == code) action_constants.EACH
+action_with code = find (λ action. actions.code_of action == code) actions.each_action
 
 unfoldable pub action : Spelling Action
 action = coded actions.code_of action_with

@@ -2,8 +2,8 @@
 -- depth and the codes are this project's profile).
 use Rattle.std.specs.Prelude.{◌≡◌, ◌<◌, ◌≤◌, ℕ, true, false, List, length}
 use Rattle.au_base.specs.declared.code.Code.{Code}
-use Rattle.au_base.specs.declared.code.TheConstants.Code.{NOT_READ, STATEMENT_TOO_LONG, TOO_DEEP}
-use Rattle.au_base.specs.declared.limits.TheConstants.{STATEMENT_BYTES}
+use Rattle.au_base.specs.Codes.{NOT_READ, STATEMENT_TOO_LONG, TOO_DEEP}
+use Rattle.au_base.specs.Limits.{STATEMENT_BYTES}
 use Rattle.sql_lex.specs.declared.token.Token.{Token}
 use Rattle.sql_lex.specs.Tokens.{AreTokens}
 use Rattle.sql_ast.specs.declared.statement.Statement.{Statement}

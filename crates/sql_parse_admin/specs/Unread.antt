@@ -1,7 +1,7 @@
 -- The code of tokens that are no statement.
 use Rattle.std.specs.Prelude.{◌≡◌, ℕ, true, false, List}
 use Rattle.au_base.specs.declared.code.Code.{Code}
-use Rattle.au_base.specs.declared.code.TheConstants.Code.{NOT_READ, TOO_DEEP}
+use Rattle.au_base.specs.Codes.{NOT_READ, TOO_DEEP}
 use Rattle.sql_lex.specs.declared.token.Token.{Token}
 use Rattle.sql_ast.specs.declared.statement.Statement.{Statement}
 use Rattle.sql_parse.specs.Symbols.{kinds}

@@ -1,4 +1,4 @@
-use Rattle.au_base.proofs.tests.steps_are_counted.Given as goal
+use Rattle.trials_base.proofs.moments.counted.Given as goal
 
 abbrev pub ghosts-count_to_three : goal.ghosts-count_to_three
 ghosts-count_to_three a = record { name = a.blank.name; parts = a.blank.parts }
