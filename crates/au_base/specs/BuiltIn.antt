@@ -34,9 +34,11 @@ ora_mandatory = codes "ORA$MANDATORY"
 abbrev pub p_all : List ℕ
 p_all = codes "P_ALL"
 
+-- the name of the table with one row
 abbrev pub dual_name : List ℕ
 dual_name = codes "DUAL"
 
+-- the name of the table whose rows are the trail's records
 abbrev pub trail_name : List ℕ
 trail_name = codes "UNIFIED_AUDIT_TRAIL"
 

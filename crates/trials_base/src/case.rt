@@ -6,7 +6,9 @@ use std::alloc::Global;
 /// A call, and what it is given.
 #[derive(Drop)]
 pub struct Case<'a> {
+    /// The call, by its name.
     pub call: &'a str,
+    /// What it is given, in order.
     pub given: Vec<&'a str>,
 }
 
