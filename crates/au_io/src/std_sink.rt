@@ -1,12 +1,13 @@
 //! A writer of the system as a sink.
 ghost use Rattle.std.specs.Prelude.{◌≡◌, None};
 
-use crate::{Gave, Sink};
+use crate::tries::write_some;
+use crate::{Gave, Sink, Stream};
 use std::io::Write;
 
 /// A writer of the system, as standard output. It tells nothing of its bytes: that they arrive is
-/// trusted. A call is one write; one that was interrupted, or took no byte, is a fault. Nothing is
-/// flushed, so the writer is to be one that keeps nothing back.
+/// trusted. A call is one write, made again where a signal interrupts it; one that takes no byte is
+/// a fault. Nothing is flushed, so the writer is to be one that keeps nothing back.
 #[derive(Drop)]
 pub struct StdSink<W> {
     writer: W,
@@ -23,19 +24,25 @@ impl<W> StdSink<W> {
     }
 }
 
-impl<W: Write> Sink for StdSink<W> {
+impl<W> Stream for StdSink<W> {
+    ghost left = { λ _. None };
+
+    ghost taken = { λ _. None };
+
     ghost given = { λ _. None };
 
     ghost faults = { λ sink. sink.faults };
+}
 
+impl<W: Write> Sink for StdSink<W> {
     ghost short = { λ _. 0 };
 
     ghost plan = { λ _. None };
 
     fn give(&mut self, bytes: &[u8]) -> Gave {
-        match self.writer.write(bytes) {
-            Ok(count) if count > 0 => Gave::Bytes(count),
-            _ => {
+        match write_some(&mut self.writer, bytes) {
+            Some(count) => Gave::Bytes(count),
+            None => {
                 self.faults = self.faults.saturating_add(1);
                 Gave::Failed
             }

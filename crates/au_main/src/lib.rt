@@ -7,7 +7,6 @@ mod give;
 mod init;
 mod line;
 mod next_line;
-mod no_lobby;
 mod refill;
 mod run;
 mod serve;
@@ -17,7 +16,6 @@ mod stretch;
 mod words;
 
 pub use command::top;
-pub use no_lobby::{NoLink, NoLobby};
 pub use status::Status;
 
 #[cfg(test)]

@@ -4,7 +4,7 @@ mod disks;
 
 use super::*;
 use au_base::Text;
-use au_io::{Area, MemClock, MemDisk, MemSink, MemSource};
+use au_io::{Area, MemClock, MemDisk, MemSink, MemSource, NoLobby};
 use std::alloc::Global;
 use std::test::Fail;
 

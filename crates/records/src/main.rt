@@ -2,9 +2,10 @@
 #![tactic(auto)]
 
 use au_base::{Memory, Text};
-use au_io::{FileDisk, RealClock, StdSink, StdSource};
-use au_main::{NoLobby, Status, top};
+use au_io::{FileDisk, NoLobby, RealClock, StdSink, StdSource};
+use au_main::{Status, top};
 use std::env;
+use std::io::{Error, ErrorKind};
 use std::process::ExitCode;
 use std::rt::Env;
 
@@ -25,13 +26,20 @@ impl From<Memory> for NoWords {
 // The words after the program's name.
 fn words(rt: &(impl Env + AllocGlobal)) -> Result<Vec<Text>, NoWords> {
     let mut words = Vec::new(rt.alloc());
-    let arguments = env::args(rt).map_err(|_| NoWords::Unread)?;
+    let arguments = env::args(rt).map_err(|error| why_none(&error))?;
     for argument in arguments.skip(1) {
         words
             .push(Text::from_string(argument))
             .map_err(|_| NoWords::Memory)?;
     }
     Ok(words)
+}
+
+fn why_none(error: &Error) -> NoWords {
+    match error.kind() {
+        ErrorKind::OutOfMemory => NoWords::Memory,
+        _ => NoWords::Unread,
+    }
 }
 
 // Does what the words say, on the system's outside: the standard streams, the files of the working

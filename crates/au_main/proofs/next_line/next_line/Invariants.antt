@@ -5,7 +5,7 @@ use Rattle.au_main.proofs.next_line.next_line.Given as goal
 
 abbrev pub invariant-loop-line : goal.invariant-loop-line
 invariant-loop-line g l =
-    let source = g.S.Source in
+    let source = g.S.Stream in
     record {
       gathers : Gathers l.fn.pending l.pending (source.left l.fn.source) (source.left l.source) l.line.items;
       well : source.faults l.source ≡ source.faults l.fn.source;

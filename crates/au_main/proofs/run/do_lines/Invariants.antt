@@ -6,8 +6,8 @@ use Rattle.au_main.proofs.run.do_lines.Given as goal
 
 abbrev pub invariant-loop-line : goal.invariant-loop-line
 invariant-loop-line g l =
-    let source = g.S.Source in
-    let sink = g.W.Sink in
+    let source = g.S.Stream in
+    let sink = g.W.Stream in
     record {
       ran : RanSoFar (means_of g.D.Disk.told g.D.Disk.meaning g.D.Disk.faults g.C.Clock.ticking) (l.number - 1) l.fn.store l.store l.pending (source.left l.fn.source) (source.left l.source) (sink.given l.fn.sink) (sink.given l.sink);
       counts : 1 ≤ l.number;

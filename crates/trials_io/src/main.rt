@@ -1,0 +1,37 @@
+//! Makes calls of the outside in memory. The cases are lines of standard input; each is written
+//! again, and behind it what was answered. Lines that are empty or begin with `#` are written and
+//! ask nothing.
+//!
+//! A case is the name of an object, what it is made of, `:` and its calls, with `;` between them. The
+//! numbers of the calls that are to fail stand in the place FAIL, with commas between them, or `-`:
+//!
+//! - `source TEXT PIECE FAIL: ..`: each call is `take`
+//! - `sink PIECE FAIL: ..`: each call is `give TEXT`
+//! - `link TEXT PIECE FAIL FAIL: ..`: calls of both, with the failing ones of each
+//! - `lobby NUMBER FAIL: ..`: so many links of `ab`; `open`, or `visit`, which asks for the next link,
+//!   takes of it once, gives it `x` and finishes it
+//! - `disk FAIL: ..`: `write PLACE TEXT`, `cut SIZE`, `sync`, `read PLACE`, all of the area A; a write
+//!   and a cut ask for the size first, which is a call too
+//! - `clock NEXT STEP: ..`: each call is `now`
+#![tactic(auto)]
+
+mod answer;
+mod disk;
+mod fault;
+mod links;
+#[cfg(test)]
+mod tests;
+mod words;
+
+use std::io;
+
+fn main(rt: HostRuntime) -> io::Result<()> {
+    for line in rt.lines(rt.alloc()) {
+        let line = line?;
+        println!(rt; "{line}")?;
+        if !line.is_empty() && !line.starts_with('#') {
+            print!(rt; "{}", answer::answer(rt.alloc(), &line)?)?;
+        }
+    }
+    Ok(())
+}
