@@ -1,12 +1,11 @@
 -- The byte order of names and of grants, in which lists of them stand (the order is this project's profile).
-use Rattle.std.specs.Prelude.{ℕ, List, [], ◌∷◌, ◌++◌, Bool, true, not, ◌&&◌, IsTrue}
+use Rattle.std.specs.Prelude.{ℕ, ◌≤◌, List, [], ◌∷◌, ◌++◌, Bool, true, not, ◌&&◌, IsTrue}
 use Rattle.std.specs.List.{filter, list_all}
 use Rattle.std.specs.Ordering.{nat_cmp, is_lt}
 use Rattle.std.specs.Cmp.Lexicographic.{slice_cmp}
 use Rattle.au_base.specs.Actions as actions
 use Rattle.au_base.specs.Privileges as privileges
-use Rattle.au_priv.specs.declared.grants.Grants.{Grants}
-use Rattle.au_priv.specs.Rights.{SystemEntry, RoleEntry, ObjectEntry}
+use Rattle.au_priv.specs.Rights.{Grants, SystemEntry, RoleEntry, ObjectEntry, grant_count}
 
 -- the first name comes before the second in byte order
 abbrev pub comes_before : List ℕ → List ℕ → Bool
@@ -53,3 +52,8 @@ is_in_order before (entry ∷ entries) = list_all (before entry) entries && is_i
 abbrev pub AreInOrder : Grants → Type 0
 AreInOrder grants =
     IsTrue (is_in_order system_before grants.system) × IsTrue (is_in_order role_before grants.role) × IsTrue (is_in_order object_before grants.object)
+
+-- grants as they are kept: the grants of each kind stand in order, and there are 100,000 at most of all kinds
+pub record AreKept (grants : Grants) : Type 0 where
+  pub in_order : AreInOrder grants
+  pub few : grant_count grants ≤ 100000
