@@ -94,7 +94,7 @@ fn has_role(roles: &[Name], facts: &Facts, grants: &Grants) -> bool
 fn covers_role(grants: &Grants, used: &[Privilege], role: &Name) -> bool
     ensures { result ≡ list_any (λ privilege. list_any (grants_privilege role.now privilege) grants.now.system) used.now }
 {
-    used.iter().any(|privilege| is_granted(grants.system.as_slice(), role, *privilege))
+    used.iter().any(|privilege| is_granted(grants.system_grants(), role, *privilege))
 }
 
 fn is_granted(system: &[(Name, Privilege, bool)], role: &Name, privilege: Privilege) -> bool

@@ -15,8 +15,7 @@ use Rattle.au_catalog.specs.declared.policy.Enabled.TheVariants.{Off, By, Except
 use Rattle.au_catalog.specs.declared.trail_record.Record.{Record}
 use Rattle.au_catalog.specs.Changing.{changed, changed_all}
 use Rattle.au_priv.specs.declared.grants.Grants.{Grants}
-use Rattle.au_priv.specs.Rights.{IsHolder}
-use Rattle.au_priv.specs.Walking.{grant_count}
+use Rattle.au_priv.specs.Rights.{IsHolder, grant_count}
 use Rattle.rec_codec.specs.declared.frame.Frame.{Frame}
 use Rattle.rec_codec.specs.declared.frame.Frame.TheVariants.{Image, Event}
 use Rattle.au_engine.specs.Deciding.{has_policy}

@@ -11,7 +11,7 @@ ghost use Rattle.au_engine.specs.Step.{unread_condition};
 use crate::enablement::with_enablement;
 use au_base::{Action, List, Memory, Name, Privilege, TableName};
 use au_catalog::{AuditPolicy, Catalog, Change, Enabled};
-use au_priv::{GrantChange, Grants};
+use au_priv::{GrantChange, GrantDraft, Grants};
 use std::alloc::Global;
 
 /// The parts of what is kept that changes set, while a frame is replayed.
@@ -19,7 +19,7 @@ use std::alloc::Global;
 pub struct Draft {
     pub users: List<(Name, [u8; 32])>,
     pub roles: List<Name>,
-    pub grants: Grants,
+    pub grants: GrantDraft,
     pub policies: List<AuditPolicy>,
     pub enabled: List<(Name, Enabled)>,
     pub instance: u32,
@@ -92,7 +92,7 @@ pub fn draft_of(
     Ok(Draft {
         users: copy_users(alloc, catalog.users.as_slice())?,
         roles: catalog.roles.clone()?,
-        grants: grants.clone()?,
+        grants: GrantDraft::of(grants.clone()?),
         policies: copies(alloc, catalog.policies.as_slice())?,
         enabled: catalog.enabled.clone()?,
         instance,
@@ -191,9 +191,7 @@ fn with_role(alloc: Global, draft: Draft, name: &Name) -> Result<Draft, Memory>
 fn with_grant(draft: Draft, change: GrantChange) -> Result<Draft, Memory>
     ensures { IfOk result (λ next. next ≡ record draft { grants = applied change draft.grants }) }
 {
-    let mut grants = draft.grants;
-    let staged = grants.stage(&[change])?;
-    grants.settle(staged);
+    let grants = draft.grants.after(&[change])?;
     Ok(Draft { grants, ..draft })
 }
 

@@ -1,8 +1,9 @@
 //! The engine: the whole state, and its steps.
 ghost use Rattle.std.specs.Prelude.{◌≡◌, ◌↔◌, ◌≤◌, ◌<◌, [], codes, IfOk, IsTrue, MatchOption, OnErr, OnOk, if◌then◌else◌, is_some, option_to_list};
-ghost use Rattle.au_base.specs.Limits.{INSTANCES, INSTANCE_SESSIONS};
+ghost use Rattle.au_base.specs.Limits.{GRANTS, INSTANCES, INSTANCE_SESSIONS};
 ghost use Rattle.au_catalog.specs.Changing.{changed_all};
 ghost use Rattle.rec_codec.specs.Frames.{IsSpellable, body, framed};
+ghost use Rattle.au_priv.specs.Rights.{grant_count};
 ghost use Rattle.au_engine.specs.Abandoning.{abandoned};
 ghost use Rattle.au_engine.specs.Answering.{code_reply};
 ghost use Rattle.au_engine.specs.Drafting.{drafted};
@@ -423,7 +424,8 @@ impl Engine {
 
     // Takes what was drafted, with the records at the trail's end, as what is kept from this stamp on.
     fn take(&mut self, stamp: Stamp, draft: Draft, records: List<Record>) -> Result<(), Memory>
-        requires { IsLawful (with_records (drafted draft self.old.state.kept) stamp records) }
+        requires lawful { IsLawful (with_records (drafted draft self.old.state.kept) stamp records) }
+        requires few { grant_count draft.grants ≤ GRANTS }
         ensures ok { OnOk result (self.new.state ≡ record self.old.state { kept = with_records (drafted draft self.old.state.kept) stamp records }) }
         ensures err { OnErr result (self.new.state ≡ self.old.state) }
     {
@@ -440,7 +442,7 @@ impl Engine {
         self.room = 0;
         self.last = stamp;
         self.instance = instance;
-        self.grants = grants;
+        self.grants = grants.into_grants();
         self.catalog.users = users;
         self.catalog.roles = roles;
         self.catalog.policies = policies;

@@ -59,8 +59,8 @@ fn image_changes(
     let mut changes = List::new(alloc);
     push_users(&mut changes, catalog.users.as_slice())?;
     push_roles(&mut changes, catalog.roles.as_slice())?;
-    push_system(&mut changes, grants.system.as_slice())?;
-    push_role_grants(&mut changes, grants.role.as_slice())?;
+    push_system(&mut changes, grants.system_grants())?;
+    push_role_grants(&mut changes, grants.role_grants())?;
     push_policies(&mut changes, catalog.policies.as_slice())?;
     push_enablements(&mut changes, catalog.enabled.as_slice())?;
     changes.push(Change::Start(instance))?;

@@ -63,11 +63,25 @@ fn roles(alloc: Global) -> Result<List<Name>, Memory>
 fn grants(alloc: Global) -> Result<Grants, Memory>
     ensures { IfOk result (λ grants. grants ≡ opening_grants) }
 {
-    Ok(Grants {
-        system: system(alloc)?,
-        role: role_grants(alloc)?,
+    let system = system(alloc)?;
+    let role = role_grants(alloc)?;
+    Ok(kept_grants(alloc, system, role))
+}
+
+fn kept_grants(
+    alloc: Global,
+    system: List<(Name, Privilege, bool)>,
+    role: List<(Name, Name, bool)>,
+) -> Grants
+    requires system { system ≡ opening_system }
+    requires role { role ≡ opening_role_grants }
+    ensures { result ≡ opening_grants }
+{
+    Grants {
+        system,
+        role,
         object: List::new(alloc),
-    })
+    }
 }
 
 fn system(alloc: Global) -> Result<List<(Name, Privilege, bool)>, Memory>
@@ -131,11 +145,7 @@ pub fn kept_nothing(alloc: Global) -> Kept
     Kept {
         users: List::new(alloc),
         roles: List::new(alloc),
-        grants: Grants {
-            system: List::new(alloc),
-            role: List::new(alloc),
-            object: List::new(alloc),
-        },
+        grants: Grants::new(alloc),
         tables: List::new(alloc),
         rows: List::new(alloc),
         policies: List::new(alloc),

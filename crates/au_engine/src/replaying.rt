@@ -1,8 +1,8 @@
 //! Whether changes go on from what is kept, by the rule of replay.
-ghost use Rattle.std.specs.Prelude.{◌≡◌, ◌≢◌, ◌↔◌, ◌≤◌, ◌<◌, ◌+◌, ◌⊎◌, ◌||◌, IfOk, IsTrue, MatchOption, Option, map, not};
+ghost use Rattle.std.specs.Prelude.{◌≡◌, ◌≢◌, ◌↔◌, ◌≤◌, ◌<◌, ◌+◌, ◌⊎◌, ◌||◌, IfOk, IsTrue, MatchOption, Option, length, map, not};
 ghost use Rattle.std.specs.List.{list_all, list_any};
 ghost use Rattle.std.specs.Str.{bytes_eq};
-ghost use Rattle.au_base.specs.Limits.{GRANTS, INSTANCES};
+ghost use Rattle.au_base.specs.Limits.{CATALOG_OBJECTS, GRANTS, INSTANCES};
 ghost use Rattle.au_base.specs.BuiltIn.{sys};
 ghost use Rattle.au_catalog.specs.declared.kept.Kept.{Kept as AnyKept};
 ghost use Rattle.au_catalog.specs.Changing.{changed_all};
@@ -34,7 +34,8 @@ pub fn follow(
 {
     let mut next = draft;
     for change in changes {
-        if !goes_on(image, &next, change) {
+        let goes = goes_on(alloc, image, &next, change)?;
+        if !goes {
             return Ok(None);
         }
         next = after(alloc, next, change)?;
@@ -62,13 +63,16 @@ pub fn ended(found: Option<Draft>) -> Option<Draft>
 fn draft_ends_well(draft: &Draft) -> bool
     ensures { (base : AnyKept) → IsTrue result ↔ EndsWell (drafted draft.now base) }
 {
-    let policies = draft.policies.as_slice();
     has_sys(draft.users.as_slice())
         && are_within_limits(
             draft.users.as_slice(),
             draft.roles.as_slice(),
-            policies,
-            &draft.grants,
+            draft.policies.as_slice(),
+        )
+        && are_few(
+            draft.grants.system_grants().len(),
+            draft.grants.role_grants().len(),
+            draft.grants.object_grants().len(),
         )
 }
 
@@ -76,13 +80,16 @@ fn draft_ends_well(draft: &Draft) -> bool
 pub fn ends_well(catalog: &Catalog, grants: &Grants) -> bool
     ensures { IsTrue result ↔ (IsTrue (list_any (λ user. bytes_eq user.0 sys) catalog.now.users) × AreWithinLimits catalog.now.users catalog.now.roles catalog.now.policies grants.now) }
 {
-    let policies = catalog.policies.as_slice();
     has_sys(catalog.users.as_slice())
         && are_within_limits(
             catalog.users.as_slice(),
             catalog.roles.as_slice(),
-            policies,
-            grants,
+            catalog.policies.as_slice(),
+        )
+        && are_few(
+            grants.system_grants().len(),
+            grants.role_grants().len(),
+            grants.object_grants().len(),
         )
 }
 
@@ -96,14 +103,12 @@ fn are_within_limits(
     users: &[(Name, [u8; 32])],
     roles: &[Name],
     policies: &[AuditPolicy],
-    grants: &Grants,
 ) -> bool
-    ensures { IsTrue result ↔ AreWithinLimits users.now roles.now policies.now grants.now }
+    ensures { IsTrue result ↔ ((length users.now ≤ CATALOG_OBJECTS) × (length roles.now ≤ CATALOG_OBJECTS) × (length policies.now ≤ CATALOG_OBJECTS)) }
 {
     users.len() <= CATALOG_OBJECTS
         && roles.len() <= CATALOG_OBJECTS
         && policies.len() <= CATALOG_OBJECTS
-        && are_few(grants.system.len(), grants.role.len(), grants.object.len())
 }
 
 // Whether there are no more grants of all kinds together than there may be.
@@ -114,17 +119,17 @@ fn are_few(system: usize, role: usize, object: usize) -> bool
 }
 
 // Whether the change goes on from the draft.
-fn goes_on(image: bool, draft: &Draft, change: &Change) -> bool
-    ensures { (base : AnyKept) → IsTrue result ↔ GoesOn image (drafted draft.now base) change.now }
+fn goes_on(alloc: Global, image: bool, draft: &Draft, change: &Change) -> Result<bool, Memory>
+    ensures { IfOk result (λ goes. (base : AnyKept) → IsTrue goes ↔ GoesOn image (drafted draft.now base) change.now) }
 {
     match change {
-        Change::User(_, _) => true,
-        Change::Role(name) => role_is_new(draft, name),
-        Change::SysGrant(grantee, _, _) => grantee_is_there(draft, grantee),
-        Change::RoleGrant(grantee, role, _) => role_goes_on(draft, grantee, role),
-        Change::Policy { name, when, .. } => is_unreserved(name) && when.is_none(),
-        Change::Enable(policy, enabled) => enablement_goes_on(draft, policy, enabled),
-        Change::Start(instance) => instance_goes_on(image, draft.instance, *instance),
+        Change::User(_, _) => Ok(true),
+        Change::Role(name) => Ok(role_is_new(draft, name)),
+        Change::SysGrant(grantee, _, _) => Ok(grantee_is_there(draft, grantee)),
+        Change::RoleGrant(grantee, role, _) => role_goes_on(alloc, draft, grantee, role),
+        Change::Policy { name, when, .. } => Ok(is_unreserved(name) && when.is_none()),
+        Change::Enable(policy, enabled) => Ok(enablement_goes_on(draft, policy, enabled)),
+        Change::Start(instance) => Ok(instance_goes_on(image, draft.instance, *instance)),
     }
 }
 
@@ -159,18 +164,22 @@ fn grantee_is_there(draft: &Draft, name: &Name) -> bool
 }
 
 // What a role grant stands on is there, and it closes no circle.
-fn role_goes_on(draft: &Draft, grantee: &Name, role: &Name) -> bool
-    ensures { (base : AnyKept) → IsTrue result ↔ (IsTrue (has_grantee (drafted draft.now base) grantee.now) × IsTrue (has_role (drafted draft.now base) role.now) × (¬ IsHolder draft.now.grants.role role.now grantee.now)) }
+fn role_goes_on(
+    alloc: Global,
+    draft: &Draft,
+    grantee: &Name,
+    role: &Name,
+) -> Result<bool, Memory>
+    ensures { IfOk result (λ goes. (base : AnyKept) → IsTrue goes ↔ (IsTrue (has_grantee (drafted draft.now base) grantee.now) × IsTrue (has_role (drafted draft.now base) role.now) × (¬ IsHolder draft.now.grants.role role.now grantee.now))) }
 {
-    has_grantee(draft, grantee)
-        && has_role(draft.roles.as_slice(), role)
-        && !closes_circle(&draft.grants, grantee, role)
-}
-
-fn closes_circle(grants: &Grants, grantee: &Name, role: &Name) -> bool
-    ensures { IsTrue result ↔ IsHolder grants.now.role role.now grantee.now }
-{
-    *grantee == *role || grants.holds_role(role, grantee)
+    if !has_grantee(draft, grantee) {
+        return Ok(false);
+    }
+    if !has_role(draft.roles.as_slice(), role) {
+        return Ok(false);
+    }
+    let closes = draft.grants.closes_circle(alloc, grantee, role)?;
+    Ok(!closes)
 }
 
 fn is_unreserved(name: &Name) -> bool

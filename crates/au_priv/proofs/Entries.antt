@@ -1,5 +1,5 @@
 -- The tests on grants say what the lists of grants have.
-use Rattle.std.proofs.Common.{◌≡◌, ◌==◌, ℕ, Bool, true, ◌&&◌, ◌↔◌, List, Some, refl, ap, sym, subst, ◌∙◌, arith}
+use Rattle.std.proofs.Common.{◌≡◌, ◌==◌, ℕ, Bool, true, false, ◌&&◌, ◌||◌, ◌↔◌, List, Some, refl, ap, sym, subst, ◌∙◌, arith}
 use Rattle.std.specs.List.{Contains, list_any, find}
 use Rattle.std.specs.Str.{bytes_eq}
 use Rattle.std.proofs.lemmas.Bool.{and_parts, and_from}
@@ -17,9 +17,10 @@ use Rattle.au_base.specs.Privileges as privileges
 use Rattle.au_base.specs.Actions as actions
 use Rattle.au_priv.specs.Holding.{same_table, same_privilege, same_action, grants_role, grants_privilege, grants_any_table, grants_object, grants_some_object, is_any_table}
 use Rattle.au_priv.specs.Rights.{Name, SystemEntry, RoleEntry, ObjectEntry, IsRoleGranted}
+use Rattle.au_priv.specs.Walking.{grants_privilege_as, grants_role_as}
 use Rattle.au_priv.proofs.Members.{any_from, any_to}
 
-nat_eq-is : (m n : ℕ) → (m == n) ≡ true → m ≡ n
+pub nat_eq-is : (m n : ℕ) → (m == n) ≡ true → m ≡ n
 nat_eq-is m n is = grind (arith, nat_tests)
 
 pub nat_eq-to : (m n : ℕ) → m ≡ n → (m == n) ≡ true
@@ -150,6 +151,10 @@ grants_some_object-is grantee table (to, on, which) is =
 pub grants_object-refl : (grantee : Name) (table : TableName) (action : Action) → grants_object grantee table action (grantee, table, action) ≡ true
 grants_object-refl grantee table action = and_from _ _ (and_from _ _ (same_name-refl grantee) (same_table-refl table)) (same_action-refl action)
 
+or_false : (b : Bool) → (b || false) ≡ true → b ≡ true
+or_false true is = refl
+or_false false is = is
+
 -- the tests on whole lists
 pub role_granted : (roles : List RoleEntry) (grantee role : Name) → (list_any (grants_role grantee role) roles ≡ true) ↔ IsRoleGranted roles grantee role
 role_granted roles grantee role = (
@@ -158,14 +163,14 @@ role_granted roles grantee role = (
   λ is. any_to (grants_role grantee role) roles (grantee, role, is.0) is.1 (grants_role-refl grantee role is.0),
 )
 
-pub role_administered : (roles : List RoleEntry) (grantee role : Name) → (list_any (λ (entry : RoleEntry). grants_role grantee role entry && entry.2) roles ≡ true) ↔ Contains roles (grantee, role, true)
+pub role_administered : (roles : List RoleEntry) (grantee role : Name) → (list_any (grants_role_as grantee role true) roles ≡ true) ↔ Contains roles (grantee, role, true)
 role_administered roles grantee role = (
-  λ is. (let found = any_from (λ (entry : RoleEntry). grants_role grantee role entry && entry.2) roles is in
-      let parts = and_parts (grants_role grantee role found.0) found.0.2 found.2 in
+  λ is. (let found = any_from (grants_role_as grantee role true) roles is in
+      let parts = and_parts (grants_role grantee role found.0) (found.0.2 || false) found.2 in
       let same : found.0 ≡ (grantee, role, found.0.2) = grants_role-is grantee role found.0 parts.0 in
-      let admin : found.0.2 ≡ true = parts.1 in
+      let admin : found.0.2 ≡ true = or_false found.0.2 parts.1 in
       subst (λ (entry : RoleEntry). Contains roles entry) (same ∙ ap (λ (b : Bool). (grantee, role, b)) admin) found.1),
-  λ is. any_to (λ (entry : RoleEntry). grants_role grantee role entry && entry.2) roles (grantee, role, true) is (and_from _ _ (grants_role-refl grantee role true) refl),
+  λ is. any_to (grants_role_as grantee role true) roles (grantee, role, true) is (and_from _ _ (grants_role-refl grantee role true) refl),
 )
 
 pub privilege_granted : (system : List SystemEntry) (grantee : Name) (privilege : Privilege) → (list_any (grants_privilege grantee privilege) system ≡ true) ↔ ((admin : Bool) × Contains system (grantee, privilege, admin))
@@ -175,14 +180,14 @@ privilege_granted system grantee privilege = (
   λ is. any_to (grants_privilege grantee privilege) system (grantee, privilege, is.0) is.1 (grants_privilege-refl grantee privilege is.0),
 )
 
-pub privilege_administered : (system : List SystemEntry) (grantee : Name) (privilege : Privilege) → (list_any (λ (entry : SystemEntry). grants_privilege grantee privilege entry && entry.2) system ≡ true) ↔ Contains system (grantee, privilege, true)
+pub privilege_administered : (system : List SystemEntry) (grantee : Name) (privilege : Privilege) → (list_any (grants_privilege_as grantee privilege true) system ≡ true) ↔ Contains system (grantee, privilege, true)
 privilege_administered system grantee privilege = (
-  λ is. (let found = any_from (λ (entry : SystemEntry). grants_privilege grantee privilege entry && entry.2) system is in
-      let parts = and_parts (grants_privilege grantee privilege found.0) found.0.2 found.2 in
+  λ is. (let found = any_from (grants_privilege_as grantee privilege true) system is in
+      let parts = and_parts (grants_privilege grantee privilege found.0) (found.0.2 || false) found.2 in
       let same : found.0 ≡ (grantee, privilege, found.0.2) = grants_privilege-is grantee privilege found.0 parts.0 in
-      let admin : found.0.2 ≡ true = parts.1 in
+      let admin : found.0.2 ≡ true = or_false found.0.2 parts.1 in
       subst (λ (entry : SystemEntry). Contains system entry) (same ∙ ap (λ (b : Bool). (grantee, privilege, b)) admin) found.1),
-  λ is. any_to (λ (entry : SystemEntry). grants_privilege grantee privilege entry && entry.2) system (grantee, privilege, true) is (and_from _ _ (grants_privilege-refl grantee privilege true) refl),
+  λ is. any_to (grants_privilege_as grantee privilege true) system (grantee, privilege, true) is (and_from _ _ (grants_privilege-refl grantee privilege true) refl),
 )
 
 pub any_table_granted : (system : List SystemEntry) (grantee : Name) → (list_any (grants_any_table grantee) system ≡ true) ↔ ((privilege : Privilege) × (admin : Bool) × (is_any_table privilege ≡ true) × Contains system (grantee, privilege, admin))

@@ -1,12 +1,15 @@
 pub mod Answers
+pub mod Applied
+pub mod AtPlaces
 pub mod Chains
 pub mod Circles
 pub mod Entries
+pub mod Halving
+pub mod Holders
 pub mod Mapped
 pub mod Members
 pub mod Ordered
+pub mod Reached
 pub mod Refusals
 pub mod Regranted
-pub mod Search
-pub mod Unfound
 pub mod Walks

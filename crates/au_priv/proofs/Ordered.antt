@@ -132,6 +132,10 @@ placed_in_order fields entry xs new ordered =
       | inr last ↦ before_joined fields x entry y first (behind y last)
     ]))
 
+-- texts that the order doesn't tell apart are the same
+pub same_texts : (a b : List ℕ) → is_eq (slice_cmp nat_cmp a b) ≡ true → a ≡ b
+same_texts a b is = (bytes_decides a b).0 (texts_ties a b ∙ is)
+
 -- fields that the order doesn't tell apart are the same
 same_fields : (a b : List (List ℕ)) → is_eq (slice_cmp (slice_cmp nat_cmp) a b) ≡ true → a ≡ b
 same_fields a b is = (pointwise_decides bytes_decides a b).0 (lists_ties (slice_cmp nat_cmp) texts_ties a b ∙ is)

@@ -1,19 +1,15 @@
 -- Grants in order, granted in turn, are the same grants.
-use Rattle.std.proofs.Common.{◌≡◌, ℕ, Bool, true, false, not, cond, ◌||◌, inl, inr, List, [], ◌∷◌, ◌++◌, map, refl, sym, ap, subst, ◌∙◌, append_assoc, arith}
+use Rattle.std.proofs.Common.{◌≡◌, ℕ, Bool, true, false, not, cond, ◌||◌, inl, inr, List, [], ◌∷◌, ◌++◌, map, refl, sym, ap, subst, ◌∙◌, append_assoc}
 use Rattle.std.specs.List.{Contains, filter, list_all, list_any}
-use Rattle.std.specs.Ordering.{is_lt, nat_cmp}
-use Rattle.std.specs.Cmp.Lexicographic.{slice_cmp}
+use Rattle.std.specs.Ordering.{is_lt}
 use Rattle.std.proofs.lemmas.Bool.{and_parts}
 use Rattle.std.proofs.lemmas.Cmp.{lists_total, nat_cmp_total, tied_itself}
 use Rattle.std.proofs.lemmas.List.{append-nil}
-use Rattle.au_base.specs.declared.action.Action.{Action}
-use Rattle.au_base.specs.declared.privilege.Privilege.{Privilege}
-use Rattle.au_base.specs.declared.table.TableName.{TableName}
 use Rattle.au_priv.specs.declared.grants.Grants.{Grants}
 use Rattle.au_priv.specs.Changing.{applied_all, object_grant, role_grant, system_grant, with_admin, with_grant, with_object}
 use Rattle.au_priv.specs.Holding.{grants_object, grants_privilege, grants_role}
 use Rattle.au_priv.specs.Order.{fields_before, is_in_order, object_before, object_fields, placed, role_before, role_fields, system_before, system_fields}
-use Rattle.au_priv.specs.Rights.{Name, ObjectEntry, RoleEntry, SystemEntry}
+use Rattle.au_priv.specs.Rights.{ObjectEntry, RoleEntry, SystemEntry}
 use Rattle.au_priv.proofs.Entries.{grants_object-is, grants_privilege-is, grants_role-is}
 use Rattle.au_priv.proofs.Members.{append_right, here, none, split, there}
 use Rattle.au_priv.proofs.Ordered.{all_from}

@@ -1,9 +1,10 @@
 pub mod Allowing
 pub mod Changing
 pub mod Deciding
-pub mod Found
+pub mod Halving
 pub mod Holding
 pub mod Order
 pub mod Pairs
 pub mod Rights
+pub mod Search
 pub mod Walking

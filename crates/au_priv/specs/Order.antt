@@ -1,10 +1,9 @@
 -- The byte order of grants, in which lists of them stand (the order is this project's profile).
-use Rattle.std.specs.Prelude.{ℕ, List, [], ◌∷◌, Bool, IsTrue}
+use Rattle.std.specs.Prelude.{ℕ, ◌≤◌, List, [], ◌∷◌, Bool, IsTrue}
 pub use Rattle.au_base.specs.Order.{fields_before, is_in_order, name_before as comes_before, placed}
 use Rattle.au_base.specs.Actions as actions
 use Rattle.au_base.specs.Privileges as privileges
-use Rattle.au_priv.specs.declared.grants.Grants.{Grants}
-use Rattle.au_priv.specs.Rights.{SystemEntry, RoleEntry, ObjectEntry}
+use Rattle.au_priv.specs.Rights.{Grants, SystemEntry, RoleEntry, ObjectEntry, grant_count}
 
 -- the fields of a grant of a system privilege that order it: the grantee, and the privilege's code
 abbrev pub system_fields : SystemEntry → List (List ℕ)
@@ -34,3 +33,8 @@ object_before a b = fields_before (object_fields a) (object_fields b)
 abbrev pub AreInOrder : Grants → Type 0
 AreInOrder grants =
     IsTrue (is_in_order system_before grants.system) × IsTrue (is_in_order role_before grants.role) × IsTrue (is_in_order object_before grants.object)
+
+-- grants as they are kept: the grants of each kind stand in order, and there are 100,000 at most of all kinds
+pub record AreKept (grants : Grants) : Type 0 where
+  pub in_order : AreInOrder grants
+  pub few : grant_count grants ≤ 100000

@@ -1,10 +1,9 @@
 -- Who has which right (Database Security Guide, "Configuring Privilege and Role Authorization").
-use Rattle.std.specs.Prelude.{◌≡◌, ℕ, List, [], ◌∷◌, ◌++◌, Bool, true, ◌⊎◌}
+use Rattle.std.specs.Prelude.{◌≡◌, ℕ, ◌+◌, List, [], ◌∷◌, ◌++◌, length, Bool, true, ◌⊎◌}
 use Rattle.std.specs.List.{Contains}
 use Rattle.au_base.specs.declared.action.Action.{Action}
 use Rattle.au_base.specs.declared.privilege.Privilege.{Privilege}
 use Rattle.au_base.specs.declared.table.TableName.{TableName}
-use Rattle.au_priv.specs.declared.grants.Grants.{Grants}
 
 -- a name, as its bytes
 abbrev pub Name : Type 0
@@ -21,6 +20,16 @@ RoleEntry = Name × Name × Bool
 -- a grant of an object privilege: the grantee, the table, the action
 abbrev pub ObjectEntry : Type 0
 ObjectEntry = Name × TableName × Action
+
+-- what was granted to whom
+pub record Grants : Type 0 where
+  pub system : List SystemEntry
+  pub role : List RoleEntry
+  pub object : List ObjectEntry
+
+-- how many grants of all kinds there are
+abbrev pub grant_count : Grants → ℕ
+grant_count grants = length grants.system + length grants.role + length grants.object
 
 -- the role is granted to the grantee directly
 abbrev pub IsRoleGranted : List RoleEntry → Name → Name → Type 0

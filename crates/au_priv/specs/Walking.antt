@@ -13,7 +13,7 @@ use Rattle.au_priv.specs.declared.walking.Progress.{Progress}
 use Rattle.au_priv.specs.Changing.{applied_all}
 use Rattle.au_priv.specs.Holding.{grants_role, grants_privilege, grants_object}
 use Rattle.au_priv.specs.Pairs.{Pair}
-use Rattle.au_priv.specs.Rights.{Name, SystemEntry, RoleEntry, IsHolder}
+use Rattle.au_priv.specs.Rights.{Name, SystemEntry, RoleEntry, IsHolder, grant_count}
 
 -- the entry grants this system privilege to this grantee, and with admin option where that is asked
 abbrev pub grants_privilege_as : Name → Privilege → Bool → SystemEntry → Bool
@@ -39,10 +39,6 @@ is_new grants (SystemGrant grantee privilege admin) = not (list_any (grants_priv
 is_new grants (RoleGrant grantee role admin) = not (list_any (grants_role grantee role) grants.role)
 is_new grants (ObjectGrant grantee table action) = not (list_any (grants_object grantee table action) grants.object)
 is_new grants _ = false
-
--- how many grants of all kinds there are
-abbrev pub grant_count : Grants → ℕ
-grant_count grants = length grants.system + length grants.role + length grants.object
 
 -- the role is granted to itself, or to one that it holds
 abbrev pub Closes : List RoleEntry → GrantChange → Type 0

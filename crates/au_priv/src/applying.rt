@@ -3,19 +3,21 @@ ghost use Rattle.std.specs.Prelude.{◌≡◌, IfOk, map};
 ghost use Rattle.std.specs.List.{list_any};
 ghost use Rattle.au_priv.specs.Changing.{applied, applied_all, without, with_admin, with_grant, with_object, system_to, role_to, object_to, names_role, names_table};
 ghost use Rattle.au_priv.specs.Holding.{grants_privilege, grants_role, grants_object};
-ghost use Rattle.au_priv.specs.Order.{object_before, placed, role_before, system_before};
+ghost use Rattle.au_priv.specs.Order.{AreInOrder, object_before, placed, role_before, system_before};
 
 use crate::change::GrantChange;
 use crate::direct::{
     has_object, has_privilege, has_role, is_same_action, is_same_privilege, is_same_table,
 };
-use crate::grants::Grants;
+use crate::lists::GrantLists;
 use crate::order::with_new;
 use au_base::{Action, List, Memory, Name, Privilege, TableName};
 
 /// The grants after the changes, in their order.
-pub fn after_all(grants: Grants, changes: &[GrantChange]) -> Result<Grants, Memory>
-    ensures { IfOk result (λ after. after ≡ applied_all changes.now grants) }
+pub fn after_all(grants: GrantLists, changes: &[GrantChange]) -> Result<GrantLists, Memory>
+    requires { AreInOrder grants }
+    ensures after { IfOk result (λ after. after ≡ applied_all changes.now grants) }
+    ensures order { IfOk result AreInOrder }
 {
     let mut after = grants;
     for change in changes {
@@ -25,7 +27,8 @@ pub fn after_all(grants: Grants, changes: &[GrantChange]) -> Result<Grants, Memo
 }
 
 /// The grants after the change.
-pub fn after_change(grants: Grants, change: &GrantChange) -> Result<Grants, Memory>
+pub fn after_change(grants: GrantLists, change: &GrantChange) -> Result<GrantLists, Memory>
+    requires { AreInOrder grants }
     ensures { IfOk result (λ after. after ≡ applied change.now grants) }
 {
     match change {
@@ -49,30 +52,30 @@ pub fn after_change(grants: Grants, change: &GrantChange) -> Result<Grants, Memo
     }
 }
 
-fn without_user(grants: Grants, user: &Name) -> Grants
+fn without_user(grants: GrantLists, user: &Name) -> GrantLists
     ensures { result ≡ applied (GrantChange.UserGone user.now) grants }
 {
-    let Grants {
+    let GrantLists {
         system,
         role,
         object,
     } = grants;
-    Grants {
+    GrantLists {
         system: without_system_to(system, user),
         role: without_role_to(role, user),
         object: without_object_to(object, user),
     }
 }
 
-fn without_role(grants: Grants, name: &Name) -> Grants
+fn without_role(grants: GrantLists, name: &Name) -> GrantLists
     ensures { result ≡ applied (GrantChange.RoleGone name.now) grants }
 {
-    let Grants {
+    let GrantLists {
         system,
         role,
         object,
     } = grants;
-    Grants {
+    GrantLists {
         system: without_system_to(system, name),
         role: without_role_named(role, name),
         object: without_object_to(object, name),
@@ -141,17 +144,17 @@ fn drop_role_named(entries: &mut Vec<(Name, Name, bool)>, name: &Name)
     entries.retain(|entry| !(entry.0 == *name || entry.1 == *name));
 }
 
-fn without_table(grants: Grants, table: &TableName) -> Grants
+fn without_table(grants: GrantLists, table: &TableName) -> GrantLists
     ensures { result ≡ applied (GrantChange.TableGone table.now) grants }
 {
-    let Grants {
+    let GrantLists {
         system,
         role,
         object,
     } = grants;
     let mut entries = object.into_vec();
     drop_on_table(&mut entries, table);
-    Grants {
+    GrantLists {
         system,
         role,
         object: List::from_vec(entries),
@@ -164,17 +167,17 @@ fn drop_on_table(entries: &mut Vec<(Name, TableName, Action)>, table: &TableName
     entries.retain(|entry| !is_same_table(&entry.1, table));
 }
 
-fn without_system(grants: Grants, grantee: &Name, privilege: Privilege) -> Grants
+fn without_system(grants: GrantLists, grantee: &Name, privilege: Privilege) -> GrantLists
     ensures { result ≡ applied (GrantChange.SystemRevoke grantee.now privilege) grants }
 {
-    let Grants {
+    let GrantLists {
         system,
         role,
         object,
     } = grants;
     let mut entries = system.into_vec();
     drop_privilege(&mut entries, grantee, privilege);
-    Grants {
+    GrantLists {
         system: List::from_vec(entries),
         role,
         object,
@@ -187,17 +190,17 @@ fn drop_privilege(entries: &mut Vec<(Name, Privilege, bool)>, grantee: &Name, pr
     entries.retain(|entry| !(entry.0 == *grantee && is_same_privilege(entry.1, privilege)));
 }
 
-fn without_role_grant(grants: Grants, grantee: &Name, name: &Name) -> Grants
+fn without_role_grant(grants: GrantLists, grantee: &Name, name: &Name) -> GrantLists
     ensures { result ≡ applied (GrantChange.RoleRevoke grantee.now name.now) grants }
 {
-    let Grants {
+    let GrantLists {
         system,
         role,
         object,
     } = grants;
     let mut entries = role.into_vec();
     drop_role_grant(&mut entries, grantee, name);
-    Grants {
+    GrantLists {
         system,
         role: List::from_vec(entries),
         object,
@@ -210,17 +213,22 @@ fn drop_role_grant(entries: &mut Vec<(Name, Name, bool)>, grantee: &Name, name: 
     entries.retain(|entry| !(entry.0 == *grantee && entry.1 == *name));
 }
 
-fn without_object_grant(grants: Grants, grantee: &Name, table: &TableName, action: Action) -> Grants
+fn without_object_grant(
+    grants: GrantLists,
+    grantee: &Name,
+    table: &TableName,
+    action: Action,
+) -> GrantLists
     ensures { result ≡ applied (GrantChange.ObjectRevoke grantee.now table.now action) grants }
 {
-    let Grants {
+    let GrantLists {
         system,
         role,
         object,
     } = grants;
     let mut entries = object.into_vec();
     drop_object_grant(&mut entries, grantee, table, action);
-    Grants {
+    GrantLists {
         system,
         role,
         object: List::from_vec(entries),
@@ -241,14 +249,15 @@ fn drop_object_grant(
 }
 
 fn with_system(
-    grants: Grants,
+    grants: GrantLists,
     grantee: &Name,
     privilege: Privilege,
     admin: bool,
-) -> Result<Grants, Memory>
+) -> Result<GrantLists, Memory>
+    requires { AreInOrder grants }
     ensures { IfOk result (λ after. after ≡ applied (GrantChange.SystemGrant grantee.now privilege admin) grants) }
 {
-    let Grants {
+    let GrantLists {
         system,
         role,
         object,
@@ -258,7 +267,7 @@ fn with_system(
     } else {
         with_new_privilege(system, grantee, privilege, admin)?
     };
-    Ok(Grants {
+    Ok(GrantLists {
         system,
         role,
         object,
@@ -315,10 +324,16 @@ fn with_new_privilege(
     with_new(system, (grantee.clone()?, privilege, admin))
 }
 
-fn with_role(grants: Grants, grantee: &Name, name: &Name, admin: bool) -> Result<Grants, Memory>
+fn with_role(
+    grants: GrantLists,
+    grantee: &Name,
+    name: &Name,
+    admin: bool,
+) -> Result<GrantLists, Memory>
+    requires { AreInOrder grants }
     ensures { IfOk result (λ after. after ≡ applied (GrantChange.RoleGrant grantee.now name.now admin) grants) }
 {
-    let Grants {
+    let GrantLists {
         system,
         role,
         object,
@@ -328,7 +343,7 @@ fn with_role(grants: Grants, grantee: &Name, name: &Name, admin: bool) -> Result
     } else {
         with_new_role(role, grantee, name, admin)?
     };
-    Ok(Grants {
+    Ok(GrantLists {
         system,
         role,
         object,
@@ -376,23 +391,24 @@ fn with_new_role(
 }
 
 fn with_object_grant(
-    grants: Grants,
+    grants: GrantLists,
     grantee: &Name,
     table: &TableName,
     action: Action,
-) -> Result<Grants, Memory>
+) -> Result<GrantLists, Memory>
+    requires { AreInOrder grants }
     ensures { IfOk result (λ after. after ≡ applied (GrantChange.ObjectGrant grantee.now table.now action) grants) }
 {
     if has_object(grants.object.as_slice(), grantee, table, action) {
         return Ok(grants);
     }
-    let Grants {
+    let GrantLists {
         system,
         role,
         object,
     } = grants;
     let object = with_new_object(object, grantee, table, action)?;
-    Ok(Grants {
+    Ok(GrantLists {
         system,
         role,
         object,

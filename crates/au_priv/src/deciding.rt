@@ -10,6 +10,7 @@ ghost use Rattle.au_priv.specs.Rights.{HoldsPrivilege};
 use crate::allowing::refusal;
 use crate::change::GrantChange;
 use crate::decided::{Decided, Known};
+use crate::draft::GrantDraft;
 use crate::grants::Grants;
 use crate::holding::has_right;
 use crate::pair::Way;
@@ -114,7 +115,7 @@ fn decide_right_pairs(
         return Ok((code, List::new(alloc)));
     }
     let start = Progress {
-        after: case.grants.clone()?,
+        after: GrantDraft::of(case.grants.clone()?),
         changes: List::new(alloc),
     };
     match walk_rights(alloc, start, way, rights, grantees)? {
@@ -155,7 +156,7 @@ fn decide_object_pairs(
         return Ok((code, List::new(alloc)));
     }
     let start = Progress {
-        after: case.grants.clone()?,
+        after: GrantDraft::of(case.grants.clone()?),
         changes: List::new(alloc),
     };
     match walk_object_rights(alloc, start, way, table, rights, grantees)? {

@@ -1,27 +1,31 @@
 //! Grants.
-ghost use Rattle.std.specs.Prelude.{◌≡◌, ◌↔◌, IsTrue, IfOk};
+ghost use Rattle.std.specs.Prelude.{◌≡◌, ◌≤◌, ◌↔◌, [], Bool, IsTrue, IfOk, length};
+ghost use Rattle.std.specs.List.{Contains};
 ghost use Rattle.au_priv.specs.declared.allowed.Allowed.{Allowed};
 ghost use Rattle.au_priv.specs.Allowing.{AllowedIs, IsRefusal};
 ghost use Rattle.au_priv.specs.Changing.{applied_all};
 ghost use Rattle.au_priv.specs.Deciding.{Decides};
-ghost use Rattle.au_priv.specs.Rights.{HasNoCircle, HoldsPrivilege, HoldsRole};
+ghost use Rattle.au_priv.specs.Order.{is_in_order, object_before, role_before, system_before};
+ghost use Rattle.au_priv.specs.Rights.{AdministersPrivilege, AdministersRole, HasNoCircle, HoldsPrivilege, HoldsRole, IsHolder, IsRoleGranted, grant_count};
 
 use crate::allowed::Allowed;
 use crate::allowing::{allowed, refusal};
-use crate::applying::after_all;
 use crate::change::GrantChange;
 use crate::decided::{Decided, Known};
 use crate::deciding::{Case, decide};
+use crate::direct::is_granted;
+use crate::draft::GrantDraft;
 use crate::holding::has_right;
 use crate::right::Sought;
 use crate::staged::StagedGrants;
 use au_base::{Action, Code, GrantStatement, List, Memory, Name, Privilege, TableName};
 use std::alloc::{AllocError, Global};
+use std::marker::Model;
 
 /// What was granted to whom (Database Security Guide, "Configuring Privilege and Role
-/// Authorization"). The grantee of each grant stands first. Changes keep each list in byte order:
-/// by the grantee, then by the number of the privilege, by the role, or by the table's owner and
-/// name and the number of the action.
+/// Authorization"): at most 100,000 grants. The grantee of each grant stands first. Each list is in
+/// byte order: by the grantee, then by the number of the privilege, by the role, or by the table's
+/// owner and name and the number of the action.
 #[derive(Debug, Drop, PartialEq, Eq)]
 pub struct Grants {
     /// Grants of system privileges. The truth value is the admin option.
@@ -30,6 +34,19 @@ pub struct Grants {
     pub role: List<(Name, Name, bool)>,
     /// Grants of object privileges. The action is SELECT, INSERT, UPDATE or DELETE.
     pub object: List<(Name, TableName, Action)>,
+}
+
+impl Model for Grants {
+    ghost use Rattle.au_priv.specs.Order.{AreKept};
+    ghost use Rattle.au_priv.specs.Rights.{Grants as AllGrants};
+
+    ghost Value = { AllGrants };
+
+    ghost view = { λ g. record { system = g.system; role = g.role; object = g.object } };
+
+    ghost invariant = { λ g. AreKept (record { system = g.system; role = g.role; object = g.object }) };
+
+    ghost inverse = { λ grants. record { system = grants.system; role = grants.role; object = grants.object } };
 }
 
 impl Clone for Grants {
@@ -45,6 +62,42 @@ impl Clone for Grants {
 }
 
 impl Grants {
+    /// No grants. It takes no memory.
+    pub fn new(alloc: Global) -> Grants
+        ensures { result ≡ record { system = []; role = []; object = [] } }
+    {
+        Grants {
+            system: List::new(alloc),
+            role: List::new(alloc),
+            object: List::new(alloc),
+        }
+    }
+
+    /// The grants of system privileges, in order.
+    pub fn system_grants(&self) -> &[(Name, Privilege, bool)]
+        ensures value { result.now ≡ self.now.system }
+        ensures order { IsTrue (is_in_order system_before result.now) }
+    {
+        self.system.as_slice()
+    }
+
+    /// The grants of roles, in order, 100,000 at most.
+    pub fn role_grants(&self) -> &[(Name, Name, bool)]
+        ensures value { result.now ≡ self.now.role }
+        ensures order { IsTrue (is_in_order role_before result.now) }
+        ensures few { length result.now ≤ 100000 }
+    {
+        self.role.as_slice()
+    }
+
+    /// The grants of object privileges, in order.
+    pub fn object_grants(&self) -> &[(Name, TableName, Action)]
+        ensures value { result.now ≡ self.now.object }
+        ensures order { IsTrue (is_in_order object_before result.now) }
+    {
+        self.object.as_slice()
+    }
+
     /// Whether the user holds the role: some chain of role grants leads from the user to it.
     pub fn holds_role(&self, user: &Name, role: &Name) -> bool
         ensures { IsTrue result ↔ HoldsRole self.now.role user.now role.now }
@@ -57,6 +110,42 @@ impl Grants {
         ensures { IsTrue result ↔ HoldsPrivilege self.now user.now privilege }
     {
         has_right(self, user, Sought::Privilege(privilege))
+    }
+
+    /// Whether the role is granted with admin option to the user or to a held role.
+    pub fn administers_role(&self, user: &Name, role: &Name) -> bool
+        ensures { IsTrue result ↔ AdministersRole self.now user.now role.now }
+    {
+        has_right(self, user, Sought::RoleWithAdmin(role.as_str()))
+    }
+
+    /// Whether the system privilege is granted with admin option to the user or to a held role.
+    pub fn administers_privilege(&self, user: &Name, privilege: Privilege) -> bool
+        ensures { IsTrue result ↔ AdministersPrivilege self.now user.now privilege }
+    {
+        has_right(self, user, Sought::PrivilegeWithAdmin(privilege))
+    }
+
+    /// Whether the role is granted to the name directly.
+    pub fn is_role_granted(&self, grantee: &Name, role: &Name) -> bool
+        ensures { IsTrue result ↔ IsRoleGranted self.now.role grantee.now role.now }
+    {
+        is_granted(self, grantee, Sought::Role(role.as_str()))
+    }
+
+    /// Whether the system privilege is granted to the name directly.
+    pub fn is_privilege_granted(&self, grantee: &Name, privilege: Privilege) -> bool
+        ensures { IsTrue result ↔ ((admin : Bool) × Contains self.now.system (grantee.now, privilege, admin)) }
+    {
+        is_granted(self, grantee, Sought::Privilege(privilege))
+    }
+
+    /// Whether a grant of the role to the grantee would close a circle: the role is the grantee,
+    /// or holds it.
+    pub fn closes_circle(&self, grantee: &Name, role: &Name) -> bool
+        ensures { IsTrue result ↔ IsHolder self.now.role role.now grantee.now }
+    {
+        *grantee == *role || self.holds_role(role, grantee)
     }
 
     /// What the user may do with the table, and by what.
@@ -98,10 +187,12 @@ impl Grants {
     /// Makes the grants ready that there are after the changes, in their order. The present ones
     /// stay as they are until `settle`.
     pub fn stage(&mut self, changes: &[GrantChange]) -> Result<StagedGrants, Memory>
+        requires few { grant_count (applied_all changes.now self.old) ≤ 100000 }
         ensures staged { IfOk result (λ staged. staged ≡ applied_all changes.now self.old) }
         ensures unchanged { self.new ≡ self.old }
     {
-        Ok(StagedGrants::new(after_all(self.clone()?, changes)?))
+        let after = GrantDraft::of(self.clone()?).after(changes)?;
+        Ok(StagedGrants::new(after.into_grants()))
     }
 
     /// Makes the staged grants the present ones. It takes no memory.

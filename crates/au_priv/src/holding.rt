@@ -1,57 +1,103 @@
 //! Who holds which right.
-ghost use Rattle.std.specs.Prelude.{◌≤◌, ◌↔◌, IsTrue, IfSome, IfNone, length};
-ghost use Rattle.std.specs.List.{Contains};
-ghost use Rattle.au_priv.specs.Found.{names_of, IsNext, NoneFrom, SomeHas};
-ghost use Rattle.au_priv.specs.Holding.{HasRight, IsGranted};
-ghost use Rattle.au_priv.specs.Rights.{Name};
+ghost use Rattle.std.specs.Prelude.{◌≤◌, ◌↔◌, IsTrue, length};
+ghost use Rattle.au_priv.specs.Holding.{HasRight};
+ghost use Rattle.au_priv.specs.Search.{HasByRole, IsFirstGrant, IsGrantedBehind, IsReach, grantee_at};
 
-use crate::direct::is_granted;
-use crate::found::{Found, is_found};
+use crate::direct::{is_granted, is_grantee};
 use crate::grants::Grants;
+use crate::reach::{end_of_grants, reach, role_of};
 use crate::right::Sought;
 use au_base::Name;
 
-/// Whether the right is granted to the user or to a role that the user holds. It takes no memory,
-/// and ends on any grants; it goes over them at most twice, and once more for each held role.
+/// Whether the right is granted to the user or to a role that the user holds. It takes no memory.
 pub fn has_right(grants: &Grants, user: &Name, right: Sought<'_>) -> bool
     ensures { IsTrue result ↔ HasRight grants.now user.now right.entry }
 {
-    is_granted(grants, user, right) || leads_to_right(grants, &Found::Only(&*user), 0, right)
+    if is_granted(grants, user, right) {
+        return true;
+    }
+    has_by_role(grants, user, right)
 }
 
-/// Whether a found name has the right by a role, where none of them has it directly. The grants of
-/// roles are gone over from the place `from` on, and then once more from the first.
-fn leads_to_right(grants: &Grants, found: &Found<'_>, from: usize, right: Sought<'_>) -> bool
-    requires place { from ≤ length grants.now.role }
-    requires not_direct { (name : Name) → Contains (names_of found.now) name → ¬ IsGranted grants.now name right }
-    ensures { IsTrue result ↔ SomeHas grants.now (names_of found.now) right.entry }
+// Most users hold no role, and most stores have few grants of roles: the search takes places for
+// as many grants as there can be only where it has to.
+fn has_by_role(grants: &Grants, user: &Name, right: Sought<'_>) -> bool
+    ensures { IsTrue result ↔ HasByRole grants.now user.now right.entry }
 {
-    let roles = grants.role.as_slice();
-    let Some(place) = next_found(roles, found, from) else {
-        return from > 0 && leads_to_right(grants, found, 0, right);
-    };
-    let role = &roles[place].1;
-    is_granted(grants, role, right)
-        || leads_to_right(grants, &Found::More(role, &*found), place + 1, right)
+    let roles = grants.role_grants();
+    if !is_grantee(roles, user) {
+        return false;
+    }
+    if roles.len() <= 1_000 {
+        has_by_few_roles(grants, user, right)
+    } else {
+        has_by_many_roles(grants, user, right)
+    }
 }
 
-/// The first place, at `from` or behind it, of a role that isn't found and is granted to a found
-/// name.
-fn next_found(roles: &[(Name, Name, bool)], found: &Found<'_>, from: usize) -> Option<usize>
-    requires { from ≤ length roles.now }
-    ensures some { IfSome result (λ place. IsNext roles.now (names_of found.now) from place) }
-    ensures none { IfNone result (NoneFrom roles.now (names_of found.now) from) }
+fn has_by_few_roles(grants: &Grants, user: &Name, right: Sought<'_>) -> bool
+    requires { length grants.now.role ≤ 1000 }
+    ensures { IsTrue result ↔ HasByRole grants.now user.now right.entry }
 {
-    for place in from..roles.len() {
-        if is_next(&roles[place], found) {
-            return Some(place);
+    let mut marks = [false; 1_000];
+    let mut queue = [0; 1_000];
+    has_by_search(grants, user, right, &mut marks, &mut queue)
+}
+
+fn has_by_many_roles(grants: &Grants, user: &Name, right: Sought<'_>) -> bool
+    requires { length grants.now.role ≤ 100000 }
+    ensures { IsTrue result ↔ HasByRole grants.now user.now right.entry }
+{
+    let mut marks = [false; 100_000];
+    let mut queue = [0; 100_000];
+    has_by_search(grants, user, right, &mut marks, &mut queue)
+}
+
+fn has_by_search(
+    grants: &Grants,
+    user: &Name,
+    right: Sought<'_>,
+    marks: &mut [bool],
+    queue: &mut [usize],
+) -> bool
+    requires marks { length grants.now.role ≤ length marks.old }
+    requires queue { length grants.now.role ≤ length queue.old }
+    ensures { IsTrue result ↔ HasByRole grants.now user.now right.entry }
+{
+    let roles = grants.role_grants();
+    let count = reach(roles, user, &mut marks[..roles.len()], queue);
+    some_lead_to(grants, user, &*queue, count, right)
+}
+
+fn some_lead_to(
+    grants: &Grants,
+    user: &Name,
+    queue: &[usize],
+    count: usize,
+    right: Sought<'_>,
+) -> bool
+    requires { IsReach grants.now.role user.now queue.now count }
+    ensures { IsTrue result ↔ HasByRole grants.now user.now right.entry }
+{
+    for k in 0..count {
+        if leads_to(grants, queue[k], right) {
+            return true;
         }
     }
-    None
+    false
 }
 
-fn is_next(entry: &(Name, Name, bool), found: &Found<'_>) -> bool
-    ensures { IsTrue result ↔ (Contains (names_of found.now) entry.now.0 × ¬ Contains (names_of found.now) entry.now.1) }
+// Whether the right is granted to a role that is granted to the grantee of the grant at the place.
+fn leads_to(grants: &Grants, place: usize, right: Sought<'_>) -> bool
+    requires { IsFirstGrant grants.now.role place }
+    ensures { IsTrue result ↔ IsGrantedBehind grants.now (grantee_at grants.now.role place) right.entry }
 {
-    is_found(found, &entry.0) && !is_found(found, &entry.1)
+    let roles = grants.role_grants();
+    let end = end_of_grants(roles, place);
+    for at in place..end {
+        if is_granted(grants, role_of(roles, at), right) {
+            return true;
+        }
+    }
+    false
 }

@@ -3,24 +3,21 @@ ghost use Rattle.std.specs.Prelude.{◌≡◌, ◌∷◌, ◌++◌, ◌↔◌, [
 ghost use Rattle.std.specs.List.{filter, list_any};
 ghost use Rattle.au_base.specs.declared.code.Code.{Code};
 ghost use Rattle.au_priv.specs.Pairs.{right_pair, object_pair, pairs};
-ghost use Rattle.au_priv.specs.Walking.{Walked, RefusesPair, Closes, ClosesCircle, IsOverLimit, grants_privilege_as, grants_role_as, is_effective, is_new, missing_code, made};
+ghost use Rattle.au_priv.specs.Walking.{Walked, RefusesPair, Closes, ClosesCircle, IsOverLimit, is_effective, is_new, missing_code, made};
 
-use crate::applying::after_all;
 use crate::change::GrantChange;
-use crate::direct::{has_object, has_privilege, has_role, is_same_privilege};
-use crate::grants::Grants;
-use crate::holding::has_right;
+use crate::direct::{has_object, has_privilege, has_privilege_as, has_role, has_role_as};
+use crate::draft::GrantDraft;
 use crate::pair::{Way, changes_of_object_right, changes_of_right};
-use crate::right::Sought;
 use au_base::limits::GRANTS;
-use au_base::{Code, List, Memory, Name, ObjectRight, Privilege, Right, TableName};
+use au_base::{Code, List, Memory, Name, ObjectRight, Right, TableName};
 use std::alloc::Global;
 
 /// How far the pairs of a statement are done.
 #[derive(Debug, Drop)]
 pub struct Progress {
     /// The grants after the changes.
-    pub after: Grants,
+    pub after: GrantDraft,
     /// The changes.
     pub changes: List<GrantChange>,
 }
@@ -114,12 +111,12 @@ fn walk_pair(
 ) -> Result<Result<Progress, Code>, Memory>
     ensures { IfOk result (Walked start (pair.now ∷ [])) }
 {
-    if let Some(code) = pair_refusal(&start.after, pair) {
+    if let Some(code) = pair_refusal(alloc, &start.after, pair)? {
         return Ok(Err(code));
     }
     let Progress { after, changes } = start;
     let made = effective(alloc, &after, pair)?;
-    let after = after_all(after, made.as_slice())?;
+    let after = after.after(made.as_slice())?;
     Ok(Ok(Progress {
         after,
         changes: joined(changes, made)?,
@@ -128,7 +125,7 @@ fn walk_pair(
 
 fn effective(
     alloc: Global,
-    grants: &Grants,
+    grants: &GrantDraft,
     pair: &[GrantChange],
 ) -> Result<List<GrantChange>, Memory>
     ensures { IfOk result (λ changes. changes ≡ made grants.now pair.now) }
@@ -151,12 +148,24 @@ fn joined(changes: List<GrantChange>, more: List<GrantChange>) -> Result<List<Gr
     Ok(List::from_vec(all))
 }
 
-fn pair_refusal(grants: &Grants, pair: &[GrantChange]) -> Option<Code>
+fn pair_refusal(
+    alloc: Global,
+    grants: &GrantDraft,
+    pair: &[GrantChange],
+) -> Result<Option<Code>, Memory>
+    ensures { IfOk result (λ found. MatchOption found ((code : Code) → ¬ RefusesPair grants.now pair.now code) (RefusesPair grants.now pair.now)) }
+{
+    if closes_circle(alloc, grants, pair)? {
+        return Ok(Some(Code::CIRCULAR_ROLE_GRANT));
+    }
+    Ok(open_refusal(grants, pair))
+}
+
+// The refusal of a pair that closes no circle.
+fn open_refusal(grants: &GrantDraft, pair: &[GrantChange]) -> Option<Code>
+    requires { ¬ ClosesCircle grants.now.role pair.now }
     ensures { MatchOption result ((code : Code) → ¬ RefusesPair grants.now pair.now code) (RefusesPair grants.now pair.now) }
 {
-    if closes_circle(grants, pair) {
-        return Some(Code::CIRCULAR_ROLE_GRANT);
-    }
     if is_over_limit(grants, pair) {
         return Some(Code::TOO_MANY_OBJECTS);
     }
@@ -166,39 +175,37 @@ fn pair_refusal(grants: &Grants, pair: &[GrantChange]) -> Option<Code>
     missing(pair)
 }
 
-fn closes_circle(grants: &Grants, pair: &[GrantChange]) -> bool
-    ensures { IsTrue result ↔ ClosesCircle grants.now.role pair.now }
+fn closes_circle(alloc: Global, grants: &GrantDraft, pair: &[GrantChange]) -> Result<bool, Memory>
+    ensures { IfOk result (λ closes. IsTrue closes ↔ ClosesCircle grants.now.role pair.now) }
 {
     for change in pair {
-        if closes(grants, change) {
-            return true;
+        if closes(alloc, grants, change)? {
+            return Ok(true);
         }
     }
-    false
+    Ok(false)
 }
 
-fn closes(grants: &Grants, change: &GrantChange) -> bool
-    ensures { IsTrue result ↔ Closes grants.now.role change.now }
+fn closes(alloc: Global, grants: &GrantDraft, change: &GrantChange) -> Result<bool, Memory>
+    ensures { IfOk result (λ closes. IsTrue closes ↔ Closes grants.now.role change.now) }
 {
     match change {
-        GrantChange::RoleGrant(grantee, role, _) => {
-            *grantee == *role || has_right(grants, role, Sought::Role(grantee.as_str()))
-        }
-        _ => false,
+        GrantChange::RoleGrant(grantee, role, _) => grants.closes_circle(alloc, grantee, role),
+        _ => Ok(false),
     }
 }
 
-fn is_over_limit(grants: &Grants, pair: &[GrantChange]) -> bool
+fn is_over_limit(grants: &GrantDraft, pair: &[GrantChange]) -> bool
     ensures { IsTrue result ↔ IsOverLimit grants.now pair.now }
 {
     let room = GRANTS
-        .saturating_sub(grants.system.len())
-        .saturating_sub(grants.role.len())
-        .saturating_sub(grants.object.len());
+        .saturating_sub(grants.system_grants().len())
+        .saturating_sub(grants.role_grants().len())
+        .saturating_sub(grants.object_grants().len());
     room < new_count(grants, pair)
 }
 
-fn new_count(grants: &Grants, pair: &[GrantChange]) -> usize
+fn new_count(grants: &GrantDraft, pair: &[GrantChange]) -> usize
     ensures { result ≡ length (filter (is_new grants.now) pair.now) }
 {
     pair.iter()
@@ -206,69 +213,50 @@ fn new_count(grants: &Grants, pair: &[GrantChange]) -> usize
         .count()
 }
 
-fn has_some_effect(grants: &Grants, pair: &[GrantChange]) -> bool
+fn has_some_effect(grants: &GrantDraft, pair: &[GrantChange]) -> bool
     ensures { result ≡ list_any (is_effective grants.now) pair.now }
 {
     pair.iter().any(|change| has_effect(grants, change))
 }
 
-fn has_effect(grants: &Grants, change: &GrantChange) -> bool
+fn has_effect(grants: &GrantDraft, change: &GrantChange) -> bool
     ensures { result ≡ is_effective grants.now change.now }
 {
     match change {
         GrantChange::SystemGrant(grantee, privilege, admin) => {
-            !has_privilege_as(grants.system.as_slice(), grantee, *privilege, *admin)
+            !has_privilege_as(grants.system_grants(), grantee, *privilege, *admin)
         }
         GrantChange::SystemRevoke(grantee, privilege) => {
-            has_privilege(grants.system.as_slice(), grantee, *privilege)
+            has_privilege(grants.system_grants(), grantee, *privilege)
         }
         GrantChange::RoleGrant(grantee, role, admin) => {
-            !has_role_as(grants.role.as_slice(), grantee, role, *admin)
+            !has_role_as(grants.role_grants(), grantee, role.as_str(), *admin)
         }
         GrantChange::RoleRevoke(grantee, role) => {
-            has_role(grants.role.as_slice(), grantee, role.as_str())
+            has_role(grants.role_grants(), grantee, role.as_str())
         }
         GrantChange::ObjectGrant(grantee, table, action) => {
-            !has_object(grants.object.as_slice(), grantee, table, *action)
+            !has_object(grants.object_grants(), grantee, table, *action)
         }
         GrantChange::ObjectRevoke(grantee, table, action) => {
-            has_object(grants.object.as_slice(), grantee, table, *action)
+            has_object(grants.object_grants(), grantee, table, *action)
         }
         _ => true,
     }
 }
 
-fn has_privilege_as(
-    system: &[(Name, Privilege, bool)],
-    grantee: &Name,
-    privilege: Privilege,
-    admin: bool,
-) -> bool
-    ensures { result ≡ list_any (grants_privilege_as grantee.now privilege admin) system.now }
-{
-    system.iter().any(|entry| entry.0 == *grantee
-        && is_same_privilege(entry.1, privilege)
-        && (entry.2 || !admin))
-}
-
-fn has_role_as(roles: &[(Name, Name, bool)], grantee: &Name, role: &Name, admin: bool) -> bool
-    ensures { result ≡ list_any (grants_role_as grantee.now role.now admin) roles.now }
-{
-    roles.iter().any(|entry| entry.0 == *grantee && entry.1 == *role && (entry.2 || !admin))
-}
-
-fn is_new_grant(grants: &Grants, change: &GrantChange) -> bool
+fn is_new_grant(grants: &GrantDraft, change: &GrantChange) -> bool
     ensures { result ≡ is_new grants.now change.now }
 {
     match change {
         GrantChange::SystemGrant(grantee, privilege, _) => {
-            !has_privilege(grants.system.as_slice(), grantee, *privilege)
+            !has_privilege(grants.system_grants(), grantee, *privilege)
         }
         GrantChange::RoleGrant(grantee, role, _) => {
-            !has_role(grants.role.as_slice(), grantee, role.as_str())
+            !has_role(grants.role_grants(), grantee, role.as_str())
         }
         GrantChange::ObjectGrant(grantee, table, action) => {
-            !has_object(grants.object.as_slice(), grantee, table, *action)
+            !has_object(grants.object_grants(), grantee, table, *action)
         }
         _ => false,
     }

@@ -3,7 +3,7 @@
 use super::slow::{Event, Mode, Outcomes, Policy, Table, World};
 use au_base::{Action, Code, List, Memory, Name, TableName};
 use au_catalog::{AuditPolicy, Catalog, Enabled, Facts, Outcomes as BothOutcomes};
-use au_priv::Grants;
+use au_priv::{GrantChange, GrantDraft, Grants};
 use std::alloc::Global;
 
 /// The text as a name.
@@ -135,22 +135,16 @@ pub fn catalog_of(
 
 /// The grants.
 pub fn grants_of(alloc: Global, world: World) -> Result<Grants, Memory> {
-    let mut grants = Grants {
-        system: List::new(alloc),
-        role: List::new(alloc),
-        object: List::new(alloc),
-    };
+    let mut draft = GrantDraft::of(Grants::new(alloc));
     for (grantee, privilege) in world.granted {
-        grants
-            .system
-            .push((name(alloc, grantee)?, *privilege, false))?;
+        let grantee = name(alloc, grantee)?;
+        draft = draft.after(&[GrantChange::SystemGrant(grantee, *privilege, false)])?;
     }
     for (grantee, role) in world.roles {
-        grants
-            .role
-            .push((name(alloc, grantee)?, name(alloc, role)?, false))?;
+        let role = name(alloc, role)?;
+        draft = draft.after(&[GrantChange::RoleGrant(name(alloc, grantee)?, role, false)])?;
     }
-    Ok(grants)
+    draft.finish().map_err(|_| Memory)
 }
 
 /// The event.

@@ -7,4 +7,4 @@ pub returns-in-SysGrant : goal.returns-in-SysGrant
 returns-in-SysGrant c = λ base. rw c.in-SysGrant.is (c.grantee_is_there.ensures base)
 
 pub returns-in-RoleGrant : goal.returns-in-RoleGrant
-returns-in-RoleGrant c = λ base. rw c.in-RoleGrant.is (c.role_goes_on.ensures base)
+returns-in-RoleGrant c = rw c.in-RoleGrant.is c.role_goes_on.ensures

@@ -16,22 +16,22 @@ at_right : (b : Bool) (grants : Grants) (holder : Name) (right same : Sought) �
 at_right b grants holder right same is decides = subst (λ (r : Sought). (b ≡ true) ↔ IsGranted grants holder r) (sym is) decides
 
 pub returns-in-Role : goal.returns-in-Role
-returns-in-Role c = at_right _ _ _ _ _ c.in-Role.is (along (list_any _) c.has_role.ensures c.as_slice.ensures (role_granted _ _ _))
+returns-in-Role c = at_right _ _ _ _ _ c.in-Role.is (along (list_any _) c.has_role.ensures c.role_grants.ensures.value (role_granted _ _ _))
 
 pub returns-in-RoleWithAdmin : goal.returns-in-RoleWithAdmin
-returns-in-RoleWithAdmin c = at_right _ _ _ _ _ c.in-RoleWithAdmin.is (along (list_any _) c.administers_role.ensures c.as_slice-in-RoleWithAdmin.ensures (role_administered _ _ _))
+returns-in-RoleWithAdmin c = at_right _ _ _ _ _ c.in-RoleWithAdmin.is (along (list_any _) c.has_role_as.ensures c.role_grants-in-RoleWithAdmin.ensures.value (role_administered _ _ _))
 
 pub returns-in-Privilege : goal.returns-in-Privilege
-returns-in-Privilege c = at_right _ _ _ _ _ c.in-Privilege.is (along (list_any _) c.has_privilege.ensures c.as_slice-in-Privilege.ensures (privilege_granted _ _ _))
+returns-in-Privilege c = at_right _ _ _ _ _ c.in-Privilege.is (along (list_any _) c.has_privilege.ensures c.system_grants.ensures.value (privilege_granted _ _ _))
 
 pub returns-in-PrivilegeWithAdmin : goal.returns-in-PrivilegeWithAdmin
-returns-in-PrivilegeWithAdmin c = at_right _ _ _ _ _ c.in-PrivilegeWithAdmin.is (along (list_any _) c.administers_privilege.ensures c.as_slice-in-PrivilegeWithAdmin.ensures (privilege_administered _ _ _))
+returns-in-PrivilegeWithAdmin c = at_right _ _ _ _ _ c.in-PrivilegeWithAdmin.is (along (list_any _) c.has_privilege_as.ensures c.system_grants-in-PrivilegeWithAdmin.ensures.value (privilege_administered _ _ _))
 
 pub returns-in-AnyTable : goal.returns-in-AnyTable
-returns-in-AnyTable c = at_right _ _ _ _ _ c.in-AnyTable.is (along (list_any _) c.has_any_table.ensures c.as_slice-in-AnyTable.ensures (any_table_granted _ _))
+returns-in-AnyTable c = at_right _ _ _ _ _ c.in-AnyTable.is (along (list_any _) c.has_any_table.ensures c.system_grants-in-AnyTable.ensures.value (any_table_granted _ _))
 
 pub returns-in-Object : goal.returns-in-Object
-returns-in-Object c = at_right _ _ _ _ _ c.in-Object.is (along (list_any _) c.has_object.ensures c.as_slice-in-Object.ensures (object_granted _ _ _ _))
+returns-in-Object c = at_right _ _ _ _ _ c.in-Object.is (along (list_any _) c.has_object.ensures c.object_grants.ensures.value (object_granted _ _ _ _))
 
 pub returns-in-SomeObject : goal.returns-in-SomeObject
-returns-in-SomeObject c = at_right _ _ _ _ _ c.in-SomeObject.is (along (list_any _) c.has_some_object.ensures c.as_slice-in-SomeObject.ensures (some_object_granted _ _ _))
+returns-in-SomeObject c = at_right _ _ _ _ _ c.in-SomeObject.is (along (list_any _) c.has_some_object.ensures c.object_grants-in-SomeObject.ensures.value (some_object_granted _ _ _))

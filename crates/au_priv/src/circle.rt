@@ -1,0 +1,65 @@
+//! Circles of roles.
+ghost use Rattle.std.specs.Prelude.{◌≡◌, ◌≤◌, ◌↔◌, IfOk, IsTrue, length};
+ghost use Rattle.au_priv.specs.Order.{is_in_order, role_before};
+ghost use Rattle.au_priv.specs.Rights.{HoldsRole, IsHolder};
+ghost use Rattle.au_priv.specs.Search.{IsReach};
+
+use crate::direct::{has_role, is_grantee};
+use crate::reach::{grantee_of, reach};
+use au_base::{Memory, Name};
+use std::alloc::Global;
+
+/// Whether a grant of the role to the grantee would close a circle.
+pub fn is_circle(
+    alloc: Global,
+    roles: &[(Name, Name, bool)],
+    grantee: &Name,
+    role: &Name,
+) -> Result<bool, Memory>
+    requires order { IsTrue (is_in_order role_before roles.now) }
+    ensures { IfOk result (λ closes. IsTrue closes ↔ IsHolder roles.now role.now grantee.now) }
+{
+    if *grantee == *role {
+        return Ok(true);
+    }
+    Ok(is_held(alloc, roles, role, grantee)?)
+}
+
+fn is_held(
+    alloc: Global,
+    roles: &[(Name, Name, bool)],
+    user: &Name,
+    role: &Name,
+) -> Result<bool, Memory>
+    requires order { IsTrue (is_in_order role_before roles.now) }
+    ensures { IfOk result (λ held. IsTrue held ↔ HoldsRole roles.now user.now role.now) }
+{
+    if !is_grantee(roles, user) {
+        return Ok(false);
+    }
+    let mut marks = Vec::new(alloc);
+    marks.resize(roles.len(), false)?;
+    let mut queue = Vec::new(alloc);
+    queue.resize(roles.len(), 0)?;
+    let count = reach(roles, user, marks.as_mut_slice(), queue.as_mut_slice());
+    Ok(is_granted_to_some(roles, user, queue.as_slice(), count, role))
+}
+
+fn is_granted_to_some(
+    roles: &[(Name, Name, bool)],
+    user: &Name,
+    queue: &[usize],
+    count: usize,
+    role: &Name,
+) -> bool
+    requires order { IsTrue (is_in_order role_before roles.now) }
+    requires reach { IsReach roles.now user.now queue.now count }
+    ensures { IsTrue result ↔ HoldsRole roles.now user.now role.now }
+{
+    for k in 0..count {
+        if has_role(roles, grantee_of(roles, queue[k]), role.as_str()) {
+            return true;
+        }
+    }
+    false
+}
