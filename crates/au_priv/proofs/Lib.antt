@@ -6,6 +6,7 @@ pub mod Circles
 pub mod Entries
 pub mod Halving
 pub mod Holders
+pub mod Inserted
 pub mod Mapped
 pub mod Members
 pub mod Ordered
