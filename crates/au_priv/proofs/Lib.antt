@@ -7,6 +7,7 @@ pub mod Entries
 pub mod Halving
 pub mod Holders
 pub mod Inserted
+pub mod Limits
 pub mod Mapped
 pub mod Members
 pub mod Ordered
