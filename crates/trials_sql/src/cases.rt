@@ -3,6 +3,7 @@ ghost use Rattle.std.specs.Prelude.{◌≤◌, IfOk, length};
 
 use crate::escapes::unescaped;
 use crate::fault::Fault;
+use au_base::Code;
 use sql_ast::Expr;
 use sql_lex::{LexFault, Token, tokens};
 use sql_parse::{condition, row_statement};
@@ -67,7 +68,7 @@ fn row_statement_line(alloc: Global, text: &[u8]) -> Result<String, Fault>
 fn statement_line(alloc: Global, text: &[u8]) -> Result<String, Fault> {
     match read(alloc, text)? {
         Ok(tree) => tree_line(alloc, &tree),
-        Err(code) => Ok(format!(in alloc; "  {}\n", code.0)?),
+        Err(code) => code_line(alloc, code),
     }
 }
 
@@ -131,6 +132,10 @@ fn tree_line<T: Debug>(alloc: Global, tree: &T) -> Result<String, Fault> {
 
 fn stuck_line(alloc: Global, fault: LexFault) -> Result<String, Fault> {
     Ok(format!(in alloc; "  stuck at {}\n", fault.at)?)
+}
+
+fn code_line(alloc: Global, code: Code) -> Result<String, Fault> {
+    Ok(format!(in alloc; "  {}\n", code.0)?)
 }
 
 fn none_line(alloc: Global) -> Result<String, Fault> {
