@@ -66,9 +66,14 @@ fn row_statement_line(alloc: Global, text: &[u8]) -> Result<String, Fault>
 }
 
 fn statement_line(alloc: Global, text: &[u8]) -> Result<String, Fault> {
-    match read(alloc, text)? {
-        Ok(tree) => tree_line(alloc, &tree),
-        Err(code) => code_line(alloc, code),
+    let read = read(alloc, text)?;
+    read_line(alloc, &read)
+}
+
+fn read_line<T: Debug>(alloc: Global, read: &Result<T, Code>) -> Result<String, Fault> {
+    match read {
+        Ok(tree) => tree_line(alloc, tree),
+        Err(code) => code_line(alloc, *code),
     }
 }
 
