@@ -186,8 +186,8 @@ impl Grants {
         decide(alloc, case, statement)
     }
 
-    /// Makes the grants ready that there are after the changes, in their order. The present ones
-    /// stay as they are until `settle`.
+    /// Makes the grants ready that there are after the changes, in their order, where these are
+    /// 100,000 at most. The present ones stay as they are until `settle`.
     pub fn stage(&mut self, changes: &[GrantChange]) -> Result<StagedGrants, Memory>
         requires few { grant_count (applied_all changes.now self.old) ≤ 100000 }
         ensures staged { IfOk result (λ staged. staged ≡ applied_all changes.now self.old) }
