@@ -1,7 +1,10 @@
 //! Tables, columns, actions, system privileges and codes.
 
 use crate::case::{Case, said, word_of};
-use au_base::{Action, Code, Column, ColumnKind, Memory, Name, Privilege, TableReference};
+use au_base::{
+    Action, Code, Column, ColumnKind, Memory, Name, Privilege, TableName, TableReference,
+    is_same_action, is_same_privilege, is_same_table,
+};
 use std::alloc::Global;
 
 /// What a call on what a catalogue names gives, if the case is one.
@@ -13,6 +16,11 @@ pub fn tried(alloc: Global, case: &Case<'_>) -> Result<Option<String>, Memory> {
         "action" => said(alloc, action(case.text(0))),
         "privileges" => Ok(Some(privileges(alloc)?)),
         "privilege" => said(alloc, privilege(case.text(0))),
+        "same table" => said(alloc, same_table(alloc, case)?),
+        "same privilege" => said(alloc, same_privilege(case.text(0), case.text(1))),
+        "same privileges" => Ok(Some(same_privileges(alloc)?)),
+        "same action" => said(alloc, same_action(case.text(0), case.text(1))),
+        "same actions" => Ok(Some(same_actions(alloc)?)),
         "first code" => Ok(Some(first_code(alloc, case.given.as_slice())?)),
         _ => Ok(None),
     }
@@ -89,6 +97,72 @@ fn privilege(name: &str) -> &'static str {
         Some(privilege) => privilege.name(),
         None => "no privilege",
     }
+}
+
+// A table's name, of an owner and a name.
+fn table_name(alloc: Global, owner: &str, name: &str) -> Result<Option<TableName>, Memory> {
+    let owner = Name::make(alloc, owner.as_bytes())?;
+    let name = Name::make(alloc, name.as_bytes())?;
+    match (owner, name) {
+        (Some(owner), Some(name)) => Ok(Some(TableName { owner, name })),
+        _ => Ok(None),
+    }
+}
+
+// Whether two owners and names are one table's.
+fn same_table(alloc: Global, case: &Case<'_>) -> Result<&'static str, Memory> {
+    let a = table_name(alloc, case.text(0), case.text(1))?;
+    let b = table_name(alloc, case.text(2), case.text(3))?;
+    match (a, b) {
+        (Some(a), Some(b)) => Ok(word_of(is_same_table(&a, &b), "yes", "no")),
+        _ => Ok("no name"),
+    }
+}
+
+fn same_privilege(a: &str, b: &str) -> &'static str {
+    match (
+        Privilege::from_name(a.as_bytes()),
+        Privilege::from_name(b.as_bytes()),
+    ) {
+        (Some(a), Some(b)) => word_of(is_same_privilege(a, b), "yes", "no"),
+        _ => "no privilege",
+    }
+}
+
+// How many pairs of privileges are one and the same.
+fn same_privileges(alloc: Global) -> Result<String, Memory> {
+    let mut same = 0u64;
+    for a in Privilege::EACH {
+        for b in Privilege::EACH {
+            if is_same_privilege(a, b) {
+                same = same.saturating_add(1);
+            }
+        }
+    }
+    Ok(format!(in alloc; "{same}")?)
+}
+
+fn same_action(a: &str, b: &str) -> &'static str {
+    match (
+        Action::from_name(a.as_bytes()),
+        Action::from_name(b.as_bytes()),
+    ) {
+        (Some(a), Some(b)) => word_of(is_same_action(a, b), "yes", "no"),
+        _ => "no action",
+    }
+}
+
+// How many pairs of actions are one and the same.
+fn same_actions(alloc: Global) -> Result<String, Memory> {
+    let mut same = 0u64;
+    for a in Action::EACH {
+        for b in Action::EACH {
+            if is_same_action(a, b) {
+                same = same.saturating_add(1);
+            }
+        }
+    }
+    Ok(format!(in alloc; "{same}")?)
 }
 
 // The code of the first rule that is broken, of rules such as `942 broken` and `904 kept`.

@@ -4,8 +4,10 @@
 
 mod case;
 mod catalog;
+mod lists;
 mod moments;
 mod names;
+mod order;
 mod texts;
 mod values;
 
@@ -30,6 +32,12 @@ fn answer(alloc: Global, line: &str) -> Result<String, Memory> {
         return Ok(text);
     }
     if let Some(text) = moments::tried(alloc, &case)? {
+        return Ok(text);
+    }
+    if let Some(text) = lists::tried(alloc, &case)? {
+        return Ok(text);
+    }
+    if let Some(text) = order::tried(alloc, &case)? {
         return Ok(text);
     }
     Ok(String::from_str(alloc, "no such call")?)
