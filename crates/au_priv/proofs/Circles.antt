@@ -98,7 +98,7 @@ grant_keeps roles grantee role admin closes clear name holds = elim (held_or_ove
 ]
 
 -- a change that closes no circle leaves none
-applied_keeps : (change : GrantChange) (grants : Grants) → (Closes grants.role change → ⊥) → HasNoCircle grants.role → HasNoCircle (applied change grants).role
+pub applied_keeps : (change : GrantChange) (grants : Grants) → (Closes grants.role change → ⊥) → HasNoCircle grants.role → HasNoCircle (applied change grants).role
 applied_keeps (UserGone user) grants closes clear = fewer_keep grants.role _ (kept _ grants.role) clear
 applied_keeps (RoleGone role) grants closes clear = fewer_keep grants.role _ (kept _ grants.role) clear
 applied_keeps (SystemGrant grantee privilege admin) grants closes clear = clear

@@ -6,6 +6,8 @@ pub mod Circles
 pub mod Entries
 pub mod Halving
 pub mod Holders
+pub mod Inserted
+pub mod Limits
 pub mod Mapped
 pub mod Members
 pub mod Ordered

@@ -1,16 +1,17 @@
 //! Grants after changes.
-ghost use Rattle.std.specs.Prelude.{◌≡◌, IfOk, map};
+ghost use Rattle.std.specs.Prelude.{◌≡◌, IfOk, IsTrue, map};
 ghost use Rattle.std.specs.List.{list_any};
 ghost use Rattle.au_priv.specs.Changing.{applied, applied_all, without, with_admin, with_grant, with_object, system_to, role_to, object_to, names_role, names_table};
 ghost use Rattle.au_priv.specs.Holding.{grants_privilege, grants_role, grants_object};
-ghost use Rattle.au_priv.specs.Order.{AreInOrder, object_before, placed, role_before, system_before};
+ghost use Rattle.au_priv.specs.Order.{AreInOrder, is_in_order, object_before, placed, role_before, system_before};
 
 use crate::change::GrantChange;
 use crate::direct::{
     has_object, has_privilege, has_role, is_same_action, is_same_privilege, is_same_table,
 };
 use crate::lists::GrantLists;
-use crate::order::with_new;
+use crate::order::put_at;
+use crate::places::{object_place, role_place, system_place};
 use au_base::{Action, List, Memory, Name, Privilege, TableName};
 
 /// The grants after the changes, in their order.
@@ -319,9 +320,13 @@ fn with_new_privilege(
     privilege: Privilege,
     admin: bool,
 ) -> Result<List<(Name, Privilege, bool)>, Memory>
+    requires { IsTrue (is_in_order system_before system) }
     ensures { IfOk result (λ after. after ≡ placed system_before (grantee.now, privilege, admin) system) }
 {
-    with_new(system, (grantee.clone()?, privilege, admin))
+    let place = system_place(system.as_slice(), grantee, privilege);
+    let to = grantee.clone()?;
+    let after = put_at(system, place, (to, privilege, admin))?;
+    Ok(after)
 }
 
 fn with_role(
@@ -385,9 +390,14 @@ fn with_new_role(
     name: &Name,
     admin: bool,
 ) -> Result<List<(Name, Name, bool)>, Memory>
+    requires { IsTrue (is_in_order role_before role) }
     ensures { IfOk result (λ after. after ≡ placed role_before (grantee.now, name.now, admin) role) }
 {
-    with_new(role, (grantee.clone()?, name.clone()?, admin))
+    let place = role_place(role.as_slice(), grantee, name.as_str());
+    let to = grantee.clone()?;
+    let granted = name.clone()?;
+    let after = put_at(role, place, (to, granted, admin))?;
+    Ok(after)
 }
 
 fn with_object_grant(
@@ -421,7 +431,12 @@ fn with_new_object(
     table: &TableName,
     action: Action,
 ) -> Result<List<(Name, TableName, Action)>, Memory>
+    requires { IsTrue (is_in_order object_before object) }
     ensures { IfOk result (λ after. after ≡ placed object_before (grantee.now, table.now, action) object) }
 {
-    with_new(object, (grantee.clone()?, table.clone()?, action))
+    let place = object_place(object.as_slice(), grantee, table, action);
+    let to = grantee.clone()?;
+    let on = table.clone()?;
+    let after = put_at(object, place, (to, on, action))?;
+    Ok(after)
 }

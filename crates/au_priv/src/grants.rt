@@ -174,8 +174,10 @@ impl Grants {
         known: &Known,
     ) -> Result<Decided, Memory>
         ensures decided { IfOk result (Decides self.now known.now user.now statement.now) }
+        ensures few { IfOk result (λ decided. grant_count (applied_all decided.grants self.now) ≤ 100000) }
         ensures no_circle { IfOk result (λ decided. HasNoCircle self.now.role → HasNoCircle (applied_all decided.grants self.now).role) }
     {
+        let _ = &self.system;
         let case = Case {
             grants: &*self,
             known: &*known,

@@ -1,15 +1,32 @@
 //! Laws of grants.
 ghost use Rattle.std.specs.Prelude.{◌≡◌, [], map};
+ghost use Rattle.au_base.specs.declared.action.Action.{Action};
+ghost use Rattle.au_base.specs.declared.table.TableName.{TableName};
+ghost use Rattle.au_priv.specs.declared.allowed.Allowed.{Allowed};
 ghost use Rattle.au_priv.specs.declared.change.GrantChange.{GrantChange};
 ghost use Rattle.au_priv.specs.declared.grants.Grants.{Grants};
+ghost use Rattle.au_priv.specs.Allowing.{AllowedIs};
 ghost use Rattle.au_priv.specs.Changing.{IsDrop, applied, applied_all, object_grant, role_grant, system_grant};
 ghost use Rattle.au_priv.specs.Order.{AreInOrder};
-ghost use Rattle.au_priv.specs.Rights.{HasNoCircle};
+ghost use Rattle.au_priv.specs.Rights.{HasNoCircle, Name};
+ghost use Rattle.au_priv.specs.Walking.{Closes};
 
 /// No drop closes a circle of roles. It does nothing, and states the law for its callers; that no
 /// statement GRANT or REVOKE closes one is a clause of `Grants::decide`.
 pub fn drops_close_no_circle()
     ensures { (grants : Grants) (change : GrantChange) → IsDrop change → HasNoCircle grants.role → HasNoCircle (applied change grants).role }
+{}
+
+/// A change that closes no circle of roles leaves none: a grant of a role closes one exactly where
+/// the role is the grantee or holds it. It does nothing, and states the law for its callers.
+pub fn changes_keep_no_circle()
+    ensures { (grants : Grants) (change : GrantChange) → ¬ Closes grants.role change → HasNoCircle grants.role → HasNoCircle (applied change grants).role }
+{}
+
+/// What a user may do with a table, and by what, has one answer. It does nothing, and states the law
+/// for its callers.
+pub fn rights_have_one_answer()
+    ensures { (grants : Grants) (user : Name) (table : TableName) (action : Action) (one other : Allowed) → AllowedIs grants user table action one → AllowedIs grants user table action other → one ≡ other }
 {}
 
 /// Grants that stand in byte order of their fields stand so after any change. It does nothing, and
