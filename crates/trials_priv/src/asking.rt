@@ -7,8 +7,10 @@ use crate::many::come_back;
 use crate::reading::{action, name, privilege, statement, table};
 use crate::world::World;
 use crate::writing;
+use au_base::Name;
 use au_priv::{
-    GrantDraft, Grants, changes_keep_order, drops_close_no_circle, grants_in_order_come_back,
+    GrantDraft, Grants, changes_keep_no_circle, changes_keep_order, drops_close_no_circle,
+    grants_in_order_come_back, rights_have_one_answer,
 };
 use std::alloc::Global;
 
@@ -48,28 +50,44 @@ fn held(alloc: Global, grants: &Grants, case: &Case<'_>) -> Result<Option<String
     match case.call {
         "holds role" | "administers role" | "is role granted" | "closes circle" => {
             let (holder, role) = (name(alloc, case.text(0))?, name(alloc, case.text(1))?);
-            match case.call {
-                "holds role" => yes_or_no(alloc, grants.holds_role(&holder, &role)),
-                "administers role" => yes_or_no(alloc, grants.administers_role(&holder, &role)),
-                "is role granted" => yes_or_no(alloc, grants.is_role_granted(&holder, &role)),
-                _ => {
-                    let closes = grants.closes_circle(&holder, &role);
-                    let draft = GrantDraft::of(grants.clone()?);
-                    if draft.closes_circle(alloc, &holder, &role)? != closes {
-                        return said(alloc, "the draft differs");
-                    }
-                    yes_or_no(alloc, closes)
-                }
-            }
+            held_role(alloc, grants, case.call, &holder, &role)
         }
         "laws" => {
-            drops_close_no_circle();
-            changes_keep_order();
-            grants_in_order_come_back();
+            state_laws();
             said(alloc, "stated")
         }
         _ => held_privilege(alloc, grants, case),
     }
+}
+
+fn held_role(
+    alloc: Global,
+    grants: &Grants,
+    call: &str,
+    holder: &Name,
+    role: &Name,
+) -> Result<Option<String>, Fault> {
+    match call {
+        "holds role" => yes_or_no(alloc, grants.holds_role(holder, role)),
+        "administers role" => yes_or_no(alloc, grants.administers_role(holder, role)),
+        "is role granted" => yes_or_no(alloc, grants.is_role_granted(holder, role)),
+        _ => {
+            let closes = grants.closes_circle(holder, role);
+            let draft = GrantDraft::of(grants.clone()?);
+            if draft.closes_circle(alloc, holder, role)? != closes {
+                return said(alloc, "the draft differs");
+            }
+            yes_or_no(alloc, closes)
+        }
+    }
+}
+
+fn state_laws() {
+    drops_close_no_circle();
+    changes_keep_no_circle();
+    changes_keep_order();
+    grants_in_order_come_back();
+    rights_have_one_answer();
 }
 
 fn held_privilege(

@@ -3,10 +3,11 @@
 use crate::case::{Case, said};
 use crate::fault::Fault;
 use crate::many::{with_chain, with_users};
-use crate::reading::{change, names, tables};
+use crate::reading::{change, name, names, statement, tables};
 use crate::world::{World, settle};
-use crate::writing::counts;
-use au_priv::{GrantDraft, Grants};
+use crate::writing::{counts, number_of};
+use au_base::{Code, GrantStatement, Name};
+use au_priv::{GrantChange, GrantDraft, Grants};
 use std::alloc::Global;
 use std::slice;
 
@@ -37,6 +38,7 @@ pub fn set(alloc: Global, world: &mut World, case: &Case<'_>) -> Result<Option<S
             let draft = with_users(alloc, &world.grants, case.number(0)?, case.number(1)?)?;
             Ok(Some(finished(alloc, &mut world.grants, draft)?))
         }
+        "carry out" => Ok(Some(carried_out(alloc, world, case)?)),
         _ => changed(alloc, &mut world.grants, case),
     }
 }
@@ -62,21 +64,53 @@ pub fn counted(alloc: Global, grants: &Grants) -> Result<String, Fault> {
     counts(alloc, system, role, grants.object_grants())
 }
 
-/// How many grants of each kind there are after the change that the case is.
+/// How many grants of each kind there are after the change, if the case is one.
 pub fn changed(
     alloc: Global,
     grants: &mut Grants,
     case: &Case<'_>,
 ) -> Result<Option<String>, Fault> {
-    let Some(made) = change(alloc, case)? else {
-        return Ok(None);
-    };
-    let copy = made.clone()?;
-    if copy != made {
+    match change(alloc, case)? {
+        None => Ok(None),
+        Some(made) => left_by(alloc, grants, &made),
+    }
+}
+
+fn left_by(
+    alloc: Global,
+    grants: &mut Grants,
+    made: &GrantChange,
+) -> Result<Option<String>, Fault> {
+    if !is_copied(made)? {
         return said(alloc, "another change");
     }
-    if !settle(grants, slice::from_ref(&copy))? {
+    if !settle(grants, slice::from_ref(made))? {
         return said(alloc, "over the limit");
     }
     Ok(Some(counted(alloc, grants)?))
+}
+
+fn is_copied(made: &GrantChange) -> Result<bool, Fault> {
+    Ok(made.clone()? == *made)
+}
+
+// The code of a statement, and behind `:` how many grants there are once it is carried out.
+fn carried_out(alloc: Global, world: &mut World, case: &Case<'_>) -> Result<String, Fault> {
+    let user = name(alloc, case.text(0))?;
+    let statement = statement(alloc, case)?;
+    let code = carry_out(alloc, world, &user, &statement)?;
+    let (code, left) = (number_of(alloc, code)?, counted(alloc, &world.grants)?);
+    Ok(format!(in alloc; "{code}: {left}")?)
+}
+
+fn carry_out(
+    alloc: Global,
+    world: &mut World,
+    user: &Name,
+    statement: &GrantStatement,
+) -> Result<Code, Fault> {
+    let decided = world.grants.decide(alloc, user, statement, &world.known)?;
+    let staged = world.grants.stage(decided.grants.as_slice())?;
+    world.grants.settle(staged);
+    Ok(decided.code)
 }

@@ -14,6 +14,7 @@
 //! - `decide|USER|GRANT|RIGHTS|GRANTEES`, also `GRANT ADMIN` and `REVOKE`, and
 //!   `decide|USER|GRANT ON|RIGHTS|TABLE|GRANTEES`, also `REVOKE ON`: the code, the system
 //!   privileges that were used, and the changes: `+` grants, `-` revokes, `!` is the admin option
+//! - `carry out|..`, as `decide`: the code, and how many grants there are then
 //! - the other calls are those of the grants
 //!
 //! A name `U*900` stands for the 900 names from `U00000` on, and the right `*` for every system privilege.

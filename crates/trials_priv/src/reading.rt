@@ -207,11 +207,7 @@ pub fn statement(alloc: Global, case: &Case<'_>) -> Result<GrantStatement, Fault
     }
 }
 
-fn grant(
-    alloc: Global,
-    case: &Case<'_>,
-    with_admin_option: bool,
-) -> Result<GrantStatement, Fault> {
+fn grant(alloc: Global, case: &Case<'_>, with_admin_option: bool) -> Result<GrantStatement, Fault> {
     let rights = rights(alloc, case.text(2))?;
     let grantees = names(alloc, case.text(3))?;
     Ok(GrantStatement::Grant {

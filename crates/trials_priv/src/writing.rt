@@ -125,10 +125,7 @@ fn grant_on(
 }
 
 /// Grants of system privileges, in their order.
-pub fn system_grants(
-    alloc: Global,
-    grants: &[(Name, Privilege, bool)],
-) -> Result<String, Fault> {
+pub fn system_grants(alloc: Global, grants: &[(Name, Privilege, bool)]) -> Result<String, Fault> {
     let mut text = String::new(alloc);
     let mut before = "";
     for (grantee, privilege, admin) in grants {
@@ -152,10 +149,7 @@ pub fn role_grants(alloc: Global, grants: &[(Name, Name, bool)]) -> Result<Strin
 }
 
 /// Grants of object privileges, in their order.
-pub fn object_grants(
-    alloc: Global,
-    grants: &[(Name, TableName, Action)],
-) -> Result<String, Fault> {
+pub fn object_grants(alloc: Global, grants: &[(Name, TableName, Action)]) -> Result<String, Fault> {
     let mut text = String::new(alloc);
     let mut before = "";
     for (grantee, table, action) in grants {
