@@ -1,0 +1,76 @@
+//! Many grants, made by a rule, each by a call of its own.
+
+use crate::fault::Fault;
+use crate::reading::{numbered, table};
+use au_base::{Action, Name};
+use au_priv::{GrantChange, GrantDraft, Grants};
+use std::alloc::Global;
+use std::slice;
+
+/// The grants with a chain of so many roles: to each the next one is granted. The number of the role
+/// at a place from 0 is the place times the step, modulo the length.
+pub fn with_chain(
+    alloc: Global,
+    grants: &Grants,
+    length: u64,
+    step: u64,
+) -> Result<GrantDraft, Fault> {
+    let mut draft = GrantDraft::of(grants.clone()?);
+    let mut grantee = shuffled(alloc, "R", 0, step, length)?;
+    for place in 1..length {
+        let role = shuffled(alloc, "R", place, step, length)?;
+        let change = GrantChange::RoleGrant(grantee, role.clone()?, false);
+        draft = draft.after(slice::from_ref(&change))?;
+        grantee = role;
+    }
+    Ok(draft)
+}
+
+/// The grants with SELECT on A.T for so many users, in the order of their places. Their numbers are
+/// those of a chain.
+pub fn with_users(
+    alloc: Global,
+    grants: &Grants,
+    count: u64,
+    step: u64,
+) -> Result<GrantDraft, Fault> {
+    let mut draft = GrantDraft::of(grants.clone()?);
+    for place in 0..count {
+        let grantee = shuffled(alloc, "U", place, step, count)?;
+        let change = GrantChange::ObjectGrant(grantee, table(alloc, "A.T")?, Action::Select);
+        draft = draft.after(slice::from_ref(&change))?;
+    }
+    Ok(draft)
+}
+
+// The name at a place: the letter, and the place times the step, modulo the length.
+fn shuffled(
+    alloc: Global,
+    letter: &str,
+    place: u64,
+    step: u64,
+    length: u64,
+) -> Result<Name, Fault> {
+    let product = place.checked_mul(step).ok_or(Fault::NoCase)?;
+    let number = product.checked_rem(length).ok_or(Fault::NoCase)?;
+    numbered(alloc, letter, number)
+}
+
+/// Whether the grants come back where each is granted again in their order, one after another.
+pub fn come_back(alloc: Global, grants: &Grants) -> Result<bool, Fault> {
+    let mut changes = Vec::new(alloc);
+    for (grantee, privilege, admin) in grants.system_grants() {
+        changes.push(GrantChange::SystemGrant(grantee.clone()?, *privilege, *admin))?;
+    }
+    for (grantee, role, admin) in grants.role_grants() {
+        changes.push(GrantChange::RoleGrant(grantee.clone()?, role.clone()?, *admin))?;
+    }
+    for (grantee, table, action) in grants.object_grants() {
+        changes.push(GrantChange::ObjectGrant(grantee.clone()?, table.clone()?, *action))?;
+    }
+    let draft = GrantDraft::of(Grants::new(alloc)).after(&changes)?;
+    if draft.is_over_limit() {
+        return Ok(false);
+    }
+    Ok(draft.into_grants() == *grants)
+}
