@@ -1,5 +1,5 @@
 -- What is seen of a lobby in memory.
-use Rattle.std.specs.Prelude.{ℕ, ◌+◌, ◌-◌, ◌≤◌, List, length, map}
+use Rattle.std.specs.Prelude.{ℕ, ◌+◌, ◌-◌, ◌≤◌, List, length, map, reverse}
 use Rattle.std.proofs.Common.{arith}
 use Rattle.std.proofs.lemmas.List.{length-map}
 use Rattle.au_io.specs.declared.mem_link.MemLink.{MemLink}
@@ -9,11 +9,11 @@ use Rattle.au_io.specs.Faults.{Plan}
 use Rattle.au_io.specs.MemLink.{link_told}
 use Rattle.au_io.specs.Visits.{Visits}
 
--- how many it handed out, how many are left, and what those tell that were finished
+-- how many it handed out, what those tell that are left, the last first, and what those tell that were finished
 abbrev pub lobby_visits : MemLobby → Visits
 lobby_visits lobby = record {
   handed = lobby.total - length lobby.waiting.items;
-  left = length lobby.waiting.items;
+  left = map link_told (reverse lobby.waiting.items);
   finished = map link_told lobby.finished.items;
 }
 

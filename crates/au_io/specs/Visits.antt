@@ -1,5 +1,5 @@
 -- What is known of connections, and what a lobby's calls do to that.
-use Rattle.std.specs.Prelude.{◌≡◌, ℕ, ◌+◌, ◌-◌, ◌<◌, ◌≤◌, List, [], ◌∷◌, ◌++◌, length, Option, Some, None, IfSome, ⊤}
+use Rattle.std.specs.Prelude.{◌≡◌, ℕ, ◌+◌, ◌<◌, ◌≤◌, List, [], ◌∷◌, ◌++◌, length, Option, Some, None, IfSome, ⊤}
 use Rattle.au_io.specs.Faults.{HasRisen}
 use Rattle.au_io.specs.declared.lobby.Opened.{Opened}
 use Rattle.au_io.specs.declared.lobby.Opened.TheVariants as opened
@@ -19,15 +19,21 @@ pub record IsFresh (told : Told) : Type 0 where
   pub given : IfSome told.given (λ bytes. bytes ≡ [])
   pub faults : told.faults ≡ 0
 
--- how many connections were handed out, how many are left, and what each tells that was finished
+-- how many connections were handed out, what each tells that is left, as they come, and what each tells that was finished
 pub record Visits : Type 0 where
   pub handed : ℕ
-  pub left : ℕ
+  pub left : List Told
   pub finished : List Told
 
--- one more was handed out
-abbrev pub handing : Visits → Visits
-handing visits = record { handed = visits.handed + 1; left = visits.left - 1; finished = visits.finished }
+-- one more was handed out, and these are left
+abbrev pub handing : List Told → Visits → Visits
+handing rest visits = record { handed = visits.handed + 1; left = rest; finished = visits.finished }
+
+-- the connection that was handed out tells the first of what was left, and the rest is left
+pub record IsFirst (told : Told) (visits : Visits) (new : Option Visits) : Type 0 where
+  pub rest : List Told
+  pub first : visits.left ≡ told ∷ rest
+  pub after : new ≡ Some (handing rest visits)
 
 -- one more was finished, as the last
 abbrev pub finishing : Told → Visits → Visits
@@ -43,12 +49,12 @@ Finishes None new told = new ≡ None
 Finishes (Some visits) new told = new ≡ Some (finishing told visits)
 
 module _ {L : Type 0} where
-  -- a connection comes where one is left, and none where none is; what isn't told stays untold
-  abbrev pub Hands : Option Visits → Option Visits → Next L → Type 0
-  Hands None new answer = new ≡ None
-  Hands (Some visits) new (next.Link link) = (0 < visits.left) × (new ≡ Some (handing visits))
-  Hands (Some visits) new next.Closed = (visits.left ≡ 0) × (new ≡ Some visits)
-  Hands (Some visits) new next.Failed = new ≡ Some visits
+  -- the first of the connections that are left comes, and none where none is left; what isn't told stays untold
+  abbrev pub Hands : (L → Told) → Option Visits → Option Visits → Next L → Type 0
+  Hands told None new answer = new ≡ None
+  Hands told (Some visits) new (next.Link link) = IsFirst (told link) visits new
+  Hands told (Some visits) new next.Closed = (visits.left ≡ []) × (new ≡ Some visits)
+  Hands told (Some visits) new next.Failed = new ≡ Some visits
 
   -- a connection that comes is fresh
   abbrev pub HandsFresh : (L → Option (List ℕ)) → (L → Option (List ℕ)) → (L → Option (List ℕ)) → (L → ℕ) → Next L → Type 0

@@ -30,8 +30,8 @@ pub trait Lobby: Send {
     /// A connection of this kind.
     type Link: Link;
 
-    /// How many connections it handed out, how many are left, and what is known of each that was
-    /// finished, where the lobby tells them.
+    /// How many connections it handed out, what is known of each that is left, in the order in which
+    /// they come, and of each that was finished, where the lobby tells them.
     ghost visits: { Self → Option Visits };
 
     /// How often it has failed.
@@ -48,9 +48,11 @@ pub trait Lobby: Send {
         ensures counted { Counts (faults self.old) (faults self.new) (result ≡ Opened.Failed) }
         ensures planned { KeepsPlan (plan self.old) (plan self.new) (result ≡ Opened.Failed) ⊥ };
 
-    /// The next connection. Nothing was taken of it and nothing given to it, and it has not failed.
+    /// The next connection, the first of those that are left. Nothing was taken of it and nothing given
+    /// to it, and it has not failed.
     fn next(&mut self) -> Next<Self::Link>
-        ensures visits { Hands (visits self.old) (visits self.new) result }
+        ensures visits { Hands (λ link. record { left = Self.Link.left link; taken = Self.Link.taken link; given = Self.Link.given link; faults = Self.Link.faults link })
+            (visits self.old) (visits self.new) result }
         ensures fresh { HandsFresh Self.Link.left Self.Link.taken Self.Link.given Self.Link.faults result }
         ensures cause { IsNextCause (faults self.old) (faults self.new) result }
         ensures counted { Counts (faults self.old) (faults self.new) (result ≡ Next.Failed) }

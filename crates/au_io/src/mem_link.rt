@@ -1,8 +1,10 @@
 //! A connection in memory.
-ghost use Rattle.std.specs.Prelude.{Some};
+ghost use Rattle.std.specs.Prelude.{◌≡◌, ◌<◌, Some, length};
+ghost use Rattle.au_io.specs.Faults.{HasRisen, Counts, CountsShort, KeepsShort, KeepsPlan};
 ghost use Rattle.au_io.specs.MemLink.{link_faults};
 ghost use Rattle.au_io.specs.MemSource.{source_left, source_taken, source_plan};
 ghost use Rattle.au_io.specs.MemSink.{sink_given, sink_short, sink_plan};
+ghost use Rattle.au_io.specs.Stream.{Takes, TakesMore, StaysTold, IsTakeCause, Gives, IsGiveCause};
 
 use crate::{Gave, Link, MemSink, MemSource, Sink, Source, Stream, Took};
 
@@ -28,7 +30,18 @@ impl Stream for MemLink {
 impl Source for MemLink {
     ghost plan = { λ link. Some (source_plan link.source) };
 
-    fn take(&mut self, room: &mut [u8]) -> Took {
+    /// Takes of the source, as its own `take` says. The sink stays as it was.
+    fn take(&mut self, room: &mut [u8]) -> Took
+        requires { 0 < length room.old }
+        ensures bytes { Takes (Some (source_left self.old.source)) (Some (source_left self.new.source)) room.new result }
+        ensures told { StaysTold (Some (source_left self.old.source)) (Some (source_left self.new.source)) }
+        ensures taken { TakesMore (Some (source_taken self.old.source)) (Some (source_taken self.new.source)) room.new result }
+        ensures given { Some (sink_given self.new.sink) ≡ Some (sink_given self.old.sink) }
+        ensures cause { IsTakeCause (link_faults self.old) (link_faults self.new) result }
+        ensures counted { Counts (link_faults self.old) (link_faults self.new) (result ≡ Took.Failed) }
+        ensures planned { KeepsPlan (Some (source_plan self.old.source)) (Some (source_plan self.new.source)) (result ≡ Took.Failed) ⊥ }
+        ensures sink { self.new.sink ≡ self.old.sink }
+    {
         self.source.take(room)
     }
 }
@@ -38,7 +51,20 @@ impl Sink for MemLink {
 
     ghost plan = { λ link. Some (sink_plan link.sink) };
 
-    fn give(&mut self, bytes: &[u8]) -> Gave {
+    /// Gives to the sink, as its own `give` says. The source stays as it was.
+    fn give(&mut self, bytes: &[u8]) -> Gave
+        requires { 0 < length bytes.now }
+        ensures bytes { Gives (Some (sink_given self.old.sink)) (Some (sink_given self.new.sink)) bytes.now result }
+        ensures left { Some (source_left self.new.source) ≡ Some (source_left self.old.source) }
+        ensures taken { Some (source_taken self.new.source) ≡ Some (source_taken self.old.source) }
+        ensures cause { IsGiveCause (link_faults self.old) (link_faults self.new) result }
+        ensures counted { Counts (link_faults self.old) (link_faults self.new) (result ≡ Gave.Failed) }
+        ensures short { CountsShort (sink_short self.old.sink) (sink_short self.new.sink) (result ≡ Gave.Failed) }
+        ensures listed { KeepsShort (Some (sink_plan self.old.sink)) (sink_short self.old.sink) (sink_short self.new.sink) }
+        ensures planned { KeepsPlan (Some (sink_plan self.old.sink)) (Some (sink_plan self.new.sink)) (result ≡ Gave.Failed)
+            (HasRisen (sink_short self.old.sink) (sink_short self.new.sink)) }
+        ensures source { self.new.source ≡ self.old.source }
+    {
         self.sink.give(bytes)
     }
 }

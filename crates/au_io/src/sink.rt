@@ -1,6 +1,6 @@
 //! Where bytes are given to.
 ghost use Rattle.std.specs.Prelude.{◌≡◌, ◌<◌, ℕ, Option, length};
-ghost use Rattle.au_io.specs.Faults.{HasRisen, Plan, Counts, CountsShort, KeepsPlan};
+ghost use Rattle.au_io.specs.Faults.{HasRisen, Plan, Counts, CountsShort, KeepsShort, KeepsPlan};
 ghost use Rattle.au_io.specs.Stream.{Gives, IsGiveCause};
 
 use crate::Stream;
@@ -32,5 +32,6 @@ pub trait Sink: Stream {
         ensures cause { IsGiveCause (Self.faults self.old) (Self.faults self.new) result }
         ensures counted { Counts (Self.faults self.old) (Self.faults self.new) (result ≡ Gave.Failed) }
         ensures short { CountsShort (short self.old) (short self.new) (result ≡ Gave.Failed) }
+        ensures listed { KeepsShort (plan self.old) (short self.old) (short self.new) }
         ensures planned { KeepsPlan (plan self.old) (plan self.new) (result ≡ Gave.Failed) (HasRisen (short self.old) (short self.new)) };
 }

@@ -3,7 +3,7 @@ ghost use Rattle.std.specs.Prelude.{◌≡◌, ◌≤◌, None};
 ghost use Rattle.au_io.specs.Faults.{one_more};
 
 use crate::standard_streams::StandardStreams;
-use crate::tries::{read_some, write_some};
+use crate::tries::{accept_some, read_some, write_some};
 use crate::{Gave, Link, Lobby, Next, Opened, Sink, Source, Stream, Took};
 use std::net::{Ipv4Addr, SocketAddr, TcpListener, TcpStream};
 
@@ -77,7 +77,8 @@ struct Door {
 
 /// The connections to a port of 127.0.0.1. It tells nothing of them: that each is new is trusted. It
 /// is never closed. What is given to a connection is sent at once. A connection that is finished is
-/// shut.
+/// shut. One that its peer has left before it is handed out is passed over, and the next is waited
+/// for; a hundred of them in one call are a fault.
 #[derive(Drop)]
 pub struct TcpLobby {
     rt: HostRuntime,
@@ -106,11 +107,9 @@ impl TcpLobby {
         self.faults = self.faults.saturating_add(1);
     }
 
-    // The next connection, which sends what it is given at once.
+    // The next connection.
     fn accept(&self) -> Option<TcpStream> {
-        let (stream, _) = self.door.as_ref()?.listener.accept().ok()?;
-        stream.set_nodelay(true).ok()?;
-        Some(stream)
+        accept_some(&self.door.as_ref()?.listener)
     }
 }
 

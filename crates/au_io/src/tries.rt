@@ -1,11 +1,12 @@
-//! Reads and writes of the system, made again where a signal interrupts them.
+//! Calls of the system, made again where a signal interrupts them or a peer has left.
 ghost use Rattle.std.specs.Prelude.{◌<◌, ◌≤◌, length, IfSome};
 
 use std::fs::File;
 use std::io::{ErrorKind, Read, Write};
+use std::net::{TcpListener, TcpStream};
 use std::os::unix::fs::FileExt;
 
-/// How often a call is made that signals interrupt. Then it has failed.
+/// How often a call is made that signals interrupt, or at which a peer has left. Then it has failed.
 const TRIES: u32 = 100;
 
 /// Reads once. `None` is a failed read.
@@ -50,6 +51,25 @@ pub(crate) fn write_some<W: Write>(writer: &mut W, bytes: &[u8]) -> Option<usize
             Ok(count) => return Some(count),
             Err(error) => match error.kind() {
                 ErrorKind::Interrupted => (),
+                _ => return None,
+            },
+        }
+    }
+    None
+}
+
+/// The next connection, which sends what it is given at once. One that its peer has left is passed
+/// over. `None` is a failed call, or as many such connections as there are tries.
+pub(crate) fn accept_some(listener: &TcpListener) -> Option<TcpStream> {
+    for _ in 0..TRIES {
+        match listener.accept() {
+            Ok((stream, _)) => {
+                if stream.set_nodelay(true).is_ok() {
+                    return Some(stream);
+                }
+            }
+            Err(error) => match error.kind() {
+                ErrorKind::ConnectionAborted => (),
                 _ => return None,
             },
         }

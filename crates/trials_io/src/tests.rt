@@ -5,7 +5,7 @@ use au_io::{
 };
 use std::fs;
 use std::io::{Read, Write};
-use std::net::{Ipv4Addr, Shutdown, SocketAddr, TcpStream};
+use std::net::{Ipv4Addr, Shutdown, SocketAddr, TcpListener, TcpStream};
 use std::os::unix::fs::PermissionsExt;
 use std::test::Fail;
 
@@ -75,6 +75,13 @@ fn the_clock_of_the_system_reads_this_century(rt: HostRuntime) {
     assert!(rt; 1_577_836_800_000_000 < reading && reading < 4_102_444_800_000_000);
 }
 
+// A port of this machine that the system found free.
+fn free_port(rt: HostRuntime) -> Result<u16, Fail> {
+    let address = SocketAddr::from((Ipv4Addr::LOCALHOST, 0));
+    let listener = TcpListener::bind(&rt, address)?;
+    Ok(listener.local_addr()?.port())
+}
+
 // The next link of the lobby.
 fn next_link(lobby: &mut TcpLobby) -> Result<TcpLink, Fail> {
     match lobby.next() {
@@ -87,9 +94,10 @@ fn next_link(lobby: &mut TcpLobby) -> Result<TcpLink, Fail> {
 fn a_port_of_this_machine_is_a_lobby(rt: HostRuntime) -> Result<(), Fail> {
     let mut lobby = TcpLobby::new(rt);
     assert!(rt; matches!(lobby.next(), Next::Failed), "not open yet");
-    assert_eq!(rt; lobby.open(47_113), Opened::Ready);
-    assert_eq!(rt; TcpLobby::new(rt).open(47_113), Opened::Failed, "taken");
-    let address = SocketAddr::from((Ipv4Addr::LOCALHOST, 47_113));
+    let port = free_port(rt)?;
+    assert_eq!(rt; lobby.open(port), Opened::Ready);
+    assert_eq!(rt; TcpLobby::new(rt).open(port), Opened::Failed, "taken");
+    let address = SocketAddr::from((Ipv4Addr::LOCALHOST, port));
     let mut peer = TcpStream::connect(&rt, address)?;
     let link = next_link(&mut lobby)?;
     lobby.finish(link);
@@ -101,8 +109,9 @@ fn a_port_of_this_machine_is_a_lobby(rt: HostRuntime) -> Result<(), Fail> {
 #[test]
 fn a_socket_is_a_link(rt: HostRuntime) -> Result<(), Fail> {
     let mut lobby = TcpLobby::new(rt);
-    assert_eq!(rt; lobby.open(47_114), Opened::Ready);
-    let address = SocketAddr::from((Ipv4Addr::LOCALHOST, 47_114));
+    let port = free_port(rt)?;
+    assert_eq!(rt; lobby.open(port), Opened::Ready);
+    let address = SocketAddr::from((Ipv4Addr::LOCALHOST, port));
     let mut peer = TcpStream::connect(&rt, address)?;
     let mut link = next_link(&mut lobby)?;
     let mut room = [0u8; 2];
