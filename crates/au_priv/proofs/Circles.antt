@@ -25,7 +25,8 @@ use Rattle.au_priv.specs.Pairs.{Pair, actions_of, object_change, object_pair, pa
 use Rattle.au_priv.specs.Rights.{HasNoCircle, HoldsRole, IsChain, IsHolder, IsRoleGranted, Name, RoleEntry}
 use Rattle.au_priv.specs.Walking.{AllPass, Closes, RefusesPair, is_effective, made, made_all}
 use Rattle.au_priv.proofs.Chains.{behind, direct, holder_behind, joined}
-use Rattle.au_priv.proofs.Members.{kept, mapped, placed_cases}
+use Rattle.au_priv.proofs.Entries.{role_granted}
+use Rattle.au_priv.proofs.Members.{kept, mapped, mapped_to, placed_cases, placed_new, placed_old}
 use Rattle.au_priv.proofs.Walks.{applied_joined}
 
 -- fewer grants of roles hold no more
@@ -108,6 +109,51 @@ applied_keeps (RoleRevoke grantee role) grants closes clear = fewer_keep grants.
 applied_keeps (ObjectGrant grantee table action) grants closes clear = clear
 applied_keeps (ObjectRevoke grantee table action) grants closes clear = clear
 applied_keeps (TableGone table) grants closes clear = clear
+
+-- what is granted stays granted, with the admin option or without
+stays_mapped : (roles : List RoleEntry) (test : RoleEntry → Bool) (admin : Bool) (a b : Name) → IsRoleGranted roles a b → IsRoleGranted (map (with_admin test admin) roles) a b
+stays_mapped roles test admin a b (with, has) =
+    let entry = with_admin test admin (a, b, with) in
+    let ends = same_ends test admin (a, b, with) _ refl in
+    let list = map (with_admin test admin) roles in
+    let granted : IsRoleGranted list entry.0 entry.1 = (entry.2, mapped_to (with_admin test admin) roles (a, b, with) has) in
+    subst (λ (n : Name). IsRoleGranted list a n) ends.1 (subst (λ (n : Name). IsRoleGranted list n entry.1) ends.0 granted)
+
+stays_at : (roles : List RoleEntry) (grantee role : Name) (admin c : Bool) (a b : Name) → IsRoleGranted roles a b
+    → IsRoleGranted (cond c (map (with_admin (grants_role grantee role) admin) roles) (placed role_before (grantee, role, admin) roles)) a b
+stays_at roles grantee role admin true a b granted = stays_mapped roles (grants_role grantee role) admin a b granted
+stays_at roles grantee role admin false a b (with, has) = (with, placed_old role_before (grantee, role, admin) roles (a, b, with) has)
+
+-- what is newly granted is granted
+new_at : (roles : List RoleEntry) (grantee role : Name) (admin c : Bool) → list_any (grants_role grantee role) roles ≡ c
+    → IsRoleGranted (cond c (map (with_admin (grants_role grantee role) admin) roles) (placed role_before (grantee, role, admin) roles)) grantee role
+new_at roles grantee role admin true is = stays_mapped roles (grants_role grantee role) admin grantee role ((role_granted roles grantee role).0 is)
+new_at roles grantee role admin false is = (admin, placed_new role_before (grantee, role, admin) roles)
+
+more_hold : (roles more : List RoleEntry) → ((a b : Name) → IsRoleGranted roles a b → IsRoleGranted more a b) → (user role : Name) (path : List Name) → IsChain roles user (path ++ role ∷ []) → HoldsRole more user role
+more_hold roles more within user role [] chain = direct more user role (within user role chain.0)
+more_hold roles more within user role (first ∷ path) chain = behind more user first role (within user first chain.0) (more_hold roles more within first role path chain.1)
+
+grant_closes : (roles : List RoleEntry) (grantee role : Name) (admin : Bool) → IsHolder roles role grantee → HasNoCircle (with_grant role_before (grants_role grantee role) (grantee, role, admin) roles) → ⊥
+grant_closes roles grantee role admin is clear =
+    let after = with_grant role_before (grants_role grantee role) (grantee, role, admin) roles in
+    let granted : IsRoleGranted after grantee role = new_at roles grantee role admin _ refl in
+    elim is [
+      | inl same ↦ clear grantee (subst (λ (n : Name). HoldsRole after grantee n) (sym same) (direct after grantee role granted))
+      | inr holds ↦ clear grantee (behind after grantee role grantee granted (more_hold roles after (stays_at roles grantee role admin _) role grantee holds.0 holds.1))
+    ]
+
+-- a change that closes a circle leaves one
+pub applied_closes : (change : GrantChange) (grants : Grants) → Closes grants.role change → HasNoCircle (applied change grants).role → ⊥
+applied_closes (UserGone user) grants closes clear = absurd closes
+applied_closes (RoleGone role) grants closes clear = absurd closes
+applied_closes (SystemGrant grantee privilege admin) grants closes clear = absurd closes
+applied_closes (SystemRevoke grantee privilege) grants closes clear = absurd closes
+applied_closes (RoleGrant grantee role admin) grants closes clear = grant_closes grants.role grantee role admin closes clear
+applied_closes (RoleRevoke grantee role) grants closes clear = absurd closes
+applied_closes (ObjectGrant grantee table action) grants closes clear = absurd closes
+applied_closes (ObjectRevoke grantee table action) grants closes clear = absurd closes
+applied_closes (TableGone table) grants closes clear = absurd closes
 
 pub drop_keeps : (change : GrantChange) (grants : Grants) → IsDrop change → HasNoCircle grants.role → HasNoCircle (applied change grants).role
 drop_keeps (UserGone user) grants drop clear = applied_keeps (UserGone user) grants (λ never. never) clear

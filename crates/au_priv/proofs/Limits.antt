@@ -17,7 +17,7 @@ use Rattle.au_priv.specs.declared.decided.Decided.{Decided}
 use Rattle.au_priv.specs.declared.decided.Known.{Known}
 use Rattle.au_priv.specs.declared.pair.Way.{Way}
 use Rattle.au_priv.specs.declared.pair.Way.TheVariants.{Grant, Revoke}
-use Rattle.au_priv.specs.Changing.{applied, applied_all, names_role, names_table, object_to, role_to, system_to, with_admin}
+use Rattle.au_priv.specs.Changing.{IsGrant, applied, applied_all, names_role, names_table, object_to, role_to, system_to, with_admin}
 use Rattle.au_priv.specs.Deciding.{Decides, DecidesRights, DecidesOnTable, DecidesPairs}
 use Rattle.au_priv.specs.Holding.{grants_object, grants_privilege, grants_role}
 use Rattle.au_priv.specs.Order.{object_before, placed, role_before, system_before}
@@ -87,6 +87,26 @@ applied_count (TableGone table) grants = (let a = fewer (λ e. not (names_table 
 one_length : (change : GrantChange) (b : Bool) → length (cond b (change ∷ []) []) ≤ 1
 one_length change true = omega arith
 one_length change false = omega arith
+
+-- a change adds one grant at most
+pub grant_adds : (change : GrantChange) (grants : Grants) → grant_count (applied change grants) ≤ grant_count grants + 1
+grant_adds change grants = (let bound = applied_count change grants in let one = one_length change (is_new grants change) in omega (arith, bound, one))
+
+none_new : (change : GrantChange) (grants : Grants) (b : Bool) → b ≡ false → grant_count (applied change grants) ≤ grant_count grants + length (cond b (change ∷ []) []) → grant_count (applied change grants) ≤ grant_count grants
+none_new change grants true is bound = absurd (let e : true ≡ false = is in cc)
+none_new change grants false is bound = omega (arith, bound)
+
+-- a change that grants nothing adds no grant
+pub other_adds : (change : GrantChange) (grants : Grants) → (IsGrant change → ⊥) → grant_count (applied change grants) ≤ grant_count grants
+other_adds (UserGone user) grants other = none_new (UserGone user) grants false refl (applied_count (UserGone user) grants)
+other_adds (RoleGone role) grants other = none_new (RoleGone role) grants false refl (applied_count (RoleGone role) grants)
+other_adds (SystemGrant grantee privilege admin) grants other = absurd (other tt)
+other_adds (SystemRevoke grantee privilege) grants other = none_new (SystemRevoke grantee privilege) grants false refl (applied_count (SystemRevoke grantee privilege) grants)
+other_adds (RoleGrant grantee role admin) grants other = absurd (other tt)
+other_adds (RoleRevoke grantee role) grants other = none_new (RoleRevoke grantee role) grants false refl (applied_count (RoleRevoke grantee role) grants)
+other_adds (ObjectGrant grantee table action) grants other = absurd (other tt)
+other_adds (ObjectRevoke grantee table action) grants other = none_new (ObjectRevoke grantee table action) grants false refl (applied_count (ObjectRevoke grantee table action) grants)
+other_adds (TableGone table) grants other = none_new (TableGone table) grants false refl (applied_count (TableGone table) grants)
 
 -- a pair that isn't refused leaves no more grants than there may be
 abbrev IsSmall : Pair → Type 0

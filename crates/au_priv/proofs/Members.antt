@@ -88,3 +88,38 @@ placed_cases before entry xs x has =
         | inr later ↦ inr (kept (λ other. not (before other entry)) xs x later)
       ]
     ]
+
+-- what f makes of an element is one of the mapped list
+pub mapped_to : {X Y : Type 0} (f : X → Y) (xs : List X) (x : X) → Contains xs x → Contains (map f xs) (f x)
+mapped_to f [] x has = absurd (none x has)
+mapped_to f (y ∷ xs) x has = elim (split y xs x has) [
+  | inl same ↦ subst (λ z. Contains (f y ∷ map f xs) (f z)) same (here (f y) (map f xs))
+  | inr later ↦ there (f y) (map f xs) (f x) (mapped_to f xs x later)
+]
+
+-- an element passes a test or fails it
+passes_or_fails : {X : Type 0} (test : X → Bool) (xs : List X) (x : X) → Contains xs x → Contains (filter test xs) x ⊎ Contains (filter (λ y. not (test y)) xs) x
+passes_or_fails test [] x has = absurd (none x has)
+passes_or_fails test (y ∷ xs) x has = elim (split y xs x has) [
+  | inl same ↦ first_at (test y) y (filter test xs) (filter (λ z. not (test z)) xs) x same
+  | inr later ↦ later_at (test y) y (filter test xs) (filter (λ z. not (test z)) xs) x (passes_or_fails test xs x later)
+]
+  where
+    first_at : {X : Type 0} (b : Bool) (y : X) (front behind : List X) (x : X) → y ≡ x → Contains (cond b (y ∷ front) front) x ⊎ Contains (cond (not b) (y ∷ behind) behind) x
+    first_at true y front behind x same = inl (subst (λ z. Contains (y ∷ front) z) same (here y front))
+    first_at false y front behind x same = inr (subst (λ z. Contains (y ∷ behind) z) same (here y behind))
+    later_at : {X : Type 0} (b : Bool) (y : X) (front behind : List X) (x : X) → Contains front x ⊎ Contains behind x → Contains (cond b (y ∷ front) front) x ⊎ Contains (cond (not b) (y ∷ behind) behind) x
+    later_at true y front behind x (inl one) = inl (there y front x one)
+    later_at true y front behind x (inr two) = inr two
+    later_at false y front behind x (inl one) = inl one
+    later_at false y front behind x (inr two) = inr (there y behind x two)
+
+-- the list with a new entry has that entry and those of the list
+pub placed_new : {X : Type 0} (before : X → X → Bool) (entry : X) (xs : List X) → Contains (placed before entry xs) entry
+placed_new before entry xs = append_right (filter (λ other. before other entry) xs) (entry ∷ filter (λ other. not (before other entry)) xs) entry (here entry _)
+
+pub placed_old : {X : Type 0} (before : X → X → Bool) (entry : X) (xs : List X) (x : X) → Contains xs x → Contains (placed before entry xs) x
+placed_old before entry xs x has = elim (passes_or_fails (λ other. before other entry) xs x has) [
+  | inl front ↦ append_left (filter (λ other. before other entry) xs) (entry ∷ filter (λ other. not (before other entry)) xs) x front
+  | inr behind ↦ append_right (filter (λ other. before other entry) xs) (entry ∷ filter (λ other. not (before other entry)) xs) x (there entry _ x behind)
+]

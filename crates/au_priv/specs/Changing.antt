@@ -73,6 +73,13 @@ role_grant entry = RoleGrant entry.0 entry.1 entry.2
 abbrev pub object_grant : ObjectEntry → GrantChange
 object_grant entry = ObjectGrant entry.0 entry.1 entry.2
 
+-- the change grants something
+abbrev pub IsGrant : GrantChange → Type 0
+IsGrant (SystemGrant grantee privilege admin) = Unit {0}
+IsGrant (RoleGrant grantee role admin) = Unit {0}
+IsGrant (ObjectGrant grantee table action) = Unit {0}
+IsGrant _ = ⊥
+
 -- the change drops a user, a role or a table
 abbrev pub IsDrop : GrantChange → Type 0
 IsDrop (UserGone user) = Unit {0}

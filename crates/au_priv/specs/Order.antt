@@ -2,6 +2,7 @@
 use Rattle.std.specs.Prelude.{ℕ, ◌≤◌, List, [], ◌∷◌, Bool, IsTrue}
 pub use Rattle.au_base.specs.Order.{fields_before, is_in_order, name_before as comes_before, placed}
 use Rattle.au_base.specs.Actions as actions
+use Rattle.au_base.specs.Limits.{GRANTS}
 use Rattle.au_base.specs.Privileges as privileges
 use Rattle.au_priv.specs.Rights.{Grants, SystemEntry, RoleEntry, ObjectEntry, grant_count}
 
@@ -37,4 +38,4 @@ AreInOrder grants =
 -- grants as they are kept: the grants of each kind stand in order, and there are 100,000 at most of all kinds
 pub record AreKept (grants : Grants) : Type 0 where
   pub in_order : AreInOrder grants
-  pub few : grant_count grants ≤ 100000
+  pub few : grant_count grants ≤ GRANTS

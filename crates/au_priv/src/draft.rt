@@ -1,5 +1,6 @@
 //! Grants while they are changed.
 ghost use Rattle.std.specs.Prelude.{◌≡◌, ◌+◌, ◌≤◌, ◌<◌, ◌↔◌, IfOk, IsTrue, MatchResult};
+ghost use Rattle.au_base.specs.Limits.{GRANTS};
 ghost use Rattle.au_priv.specs.Changing.{applied_all};
 ghost use Rattle.au_priv.specs.Order.{is_in_order, object_before, role_before, system_before};
 ghost use Rattle.au_priv.specs.Rights.{IsHolder, grant_count};
@@ -53,7 +54,7 @@ impl GrantDraft {
 
     /// The grants of the draft, or the draft where they are over 100,000. It takes no memory.
     pub fn finish(self) -> Result<Grants, GrantDraft>
-        ensures { MatchResult result (λ grants. (grants ≡ self) × (grant_count self ≤ 100000)) (λ draft. (draft ≡ self) × (100000 < grant_count self)) }
+        ensures { MatchResult result (λ grants. (grants ≡ self) × (grant_count self ≤ GRANTS)) (λ draft. (draft ≡ self) × (GRANTS < grant_count self)) }
     {
         if self.is_over_limit() {
             return Err(self);
@@ -63,7 +64,7 @@ impl GrantDraft {
 
     /// Whether there are over 100,000 grants.
     pub fn is_over_limit(&self) -> bool
-        ensures { IsTrue result ↔ (100000 < grant_count self.now) }
+        ensures { IsTrue result ↔ (GRANTS < grant_count self.now) }
     {
         !are_few(
             self.system_grants().len(),
@@ -74,7 +75,7 @@ impl GrantDraft {
 
     /// The grants of the draft. It takes no memory.
     pub fn into_grants(self) -> Grants
-        requires { grant_count self ≤ 100000 }
+        requires { grant_count self ≤ GRANTS }
         ensures { result ≡ self }
     {
         let GrantDraft { lists } = self;
@@ -135,7 +136,7 @@ impl GrantDraft {
 
 // Whether there are no more grants of all kinds together than there may be.
 fn are_few(system: usize, role: usize, object: usize) -> bool
-    ensures { IsTrue result ↔ (system + role + object ≤ 100000) }
+    ensures { IsTrue result ↔ (system + role + object ≤ GRANTS) }
 {
     system <= GRANTS && role <= GRANTS - system && object <= GRANTS - system - role
 }

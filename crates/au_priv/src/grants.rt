@@ -1,6 +1,7 @@
 //! Grants.
 ghost use Rattle.std.specs.Prelude.{◌≡◌, ◌≤◌, ◌↔◌, [], Bool, IsTrue, IfOk, length};
 ghost use Rattle.std.specs.List.{Contains};
+ghost use Rattle.au_base.specs.Limits.{GRANTS};
 ghost use Rattle.au_priv.specs.declared.allowed.Allowed.{Allowed};
 ghost use Rattle.au_priv.specs.Allowing.{AllowedIs, IsRefusal};
 ghost use Rattle.au_priv.specs.Changing.{applied_all};
@@ -73,6 +74,14 @@ impl Grants {
         }
     }
 
+    /// How many grants of all kinds there are.
+    pub fn count(&self) -> usize
+        ensures count { result ≡ grant_count self.now }
+        ensures few { result ≤ GRANTS }
+    {
+        self.system.len() + self.role.len() + self.object.len()
+    }
+
     /// The grants of system privileges, in order.
     pub fn system_grants(&self) -> &[(Name, Privilege, bool)]
         ensures value { result.now ≡ self.now.system }
@@ -85,7 +94,7 @@ impl Grants {
     pub fn role_grants(&self) -> &[(Name, Name, bool)]
         ensures value { result.now ≡ self.now.role }
         ensures order { IsTrue (is_in_order role_before result.now) }
-        ensures few { length result.now ≤ 100000 }
+        ensures few { length result.now ≤ GRANTS }
     {
         self.role.as_slice()
     }
@@ -174,7 +183,7 @@ impl Grants {
         known: &Known,
     ) -> Result<Decided, Memory>
         ensures decided { IfOk result (Decides self.now known.now user.now statement.now) }
-        ensures few { IfOk result (λ decided. grant_count (applied_all decided.grants self.now) ≤ 100000) }
+        ensures few { IfOk result (λ decided. grant_count (applied_all decided.grants self.now) ≤ GRANTS) }
         ensures no_circle { IfOk result (λ decided. HasNoCircle self.now.role → HasNoCircle (applied_all decided.grants self.now).role) }
     {
         let _ = &self.system;
@@ -189,7 +198,7 @@ impl Grants {
     /// Makes the grants ready that there are after the changes, in their order, where these are
     /// 100,000 at most. The present ones stay as they are until `settle`.
     pub fn stage(&mut self, changes: &[GrantChange]) -> Result<StagedGrants, Memory>
-        requires few { grant_count (applied_all changes.now self.old) ≤ 100000 }
+        requires few { grant_count (applied_all changes.now self.old) ≤ GRANTS }
         ensures staged { IfOk result (λ staged. staged ≡ applied_all changes.now self.old) }
         ensures unchanged { self.new ≡ self.old }
     {

@@ -1,5 +1,6 @@
 //! Who holds which right.
 ghost use Rattle.std.specs.Prelude.{◌≤◌, ◌↔◌, IsTrue, length};
+ghost use Rattle.au_base.specs.Limits.{GRANTS};
 ghost use Rattle.au_priv.specs.Holding.{HasRight};
 ghost use Rattle.au_priv.specs.Search.{HasByRole, IsFirstGrant, IsGrantedBehind, IsReach, grantee_at};
 
@@ -8,6 +9,7 @@ use crate::grants::Grants;
 use crate::reach::{end_of_grants, reach, role_of};
 use crate::right::Sought;
 use au_base::Name;
+use au_base::limits::GRANTS;
 
 /// Whether the right is granted to the user or to a role that the user holds. It takes no memory.
 pub fn has_right(grants: &Grants, user: &Name, right: Sought<'_>) -> bool
@@ -45,11 +47,11 @@ fn has_by_few_roles(grants: &Grants, user: &Name, right: Sought<'_>) -> bool
 }
 
 fn has_by_many_roles(grants: &Grants, user: &Name, right: Sought<'_>) -> bool
-    requires { length grants.now.role ≤ 100000 }
+    requires { length grants.now.role ≤ GRANTS }
     ensures { IsTrue result ↔ HasByRole grants.now user.now right.entry }
 {
-    let mut marks = [false; 100_000];
-    let mut queue = [0; 100_000];
+    let mut marks = [false; GRANTS];
+    let mut queue = [0; GRANTS];
     has_by_search(grants, user, right, &mut marks, &mut queue)
 }
 

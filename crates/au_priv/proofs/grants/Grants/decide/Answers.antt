@@ -1,6 +1,7 @@
 use Rattle.std.proofs.Common.{◌≤◌, Result, Ok, Err, subst}
 use Rattle.std.specs.Prelude.{IfOk}
 use Rattle.au_base.specs.declared.grant.GrantStatement.{GrantStatement}
+use Rattle.au_base.specs.Limits.{GRANTS}
 use Rattle.au_priv.specs.declared.decided.Decided.{Decided}
 use Rattle.au_priv.specs.declared.decided.Known.{Known}
 use Rattle.au_priv.specs.declared.grants.Grants.{Grants}
@@ -20,9 +21,9 @@ pub returns-clause-no_circle : goal.returns-clause-no_circle
 returns-clause-no_circle c = kept _ _ _ _ _ c.decide.ensures
 
 few : {E : Type 0} (grants : Grants) (known : Known) (user : Name) (statement : GrantStatement) (result : Result Decided E)
-    → IfOk result (Decides grants known user statement) → grant_count grants ≤ 100000 → IfOk result (λ decided. grant_count (applied_all decided.grants grants) ≤ 100000)
+    → IfOk result (Decides grants known user statement) → grant_count grants ≤ GRANTS → IfOk result (λ decided. grant_count (applied_all decided.grants grants) ≤ GRANTS)
 few grants known user statement (Ok decided) is before = decides_stays grants known user statement decided is before
 few grants known user statement (Err error) is before = tt
 
 pub returns-clause-few : goal.returns-clause-few
-returns-clause-few c = few _ _ _ _ _ c.decide.ensures (subst (λ (grants : Grants). grant_count grants ≤ 100000) c.self.view_is c.self.invariant.few)
+returns-clause-few c = few _ _ _ _ _ c.decide.ensures (subst (λ (grants : Grants). grant_count grants ≤ GRANTS) c.self.view_is c.self.invariant.few)
