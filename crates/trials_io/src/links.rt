@@ -3,9 +3,10 @@ ghost use Rattle.std.specs.Prelude.{All, IfOk};
 ghost use Rattle.au_io.specs.MemLink.{link_told};
 ghost use Rattle.au_io.specs.Visits.{IsFresh};
 
+use crate::desk::Desk;
 use crate::fault::Fault;
 use crate::words::{first_word, numbers, size};
-use au_io::{Gave, Lobby, MemLink, MemLobby, MemSink, MemSource, Next, Opened, Sink, Source, Took};
+use au_io::{Gave, MemLink, MemLobby, MemSink, MemSource, Next, Opened, Sink, Source, Took};
 use std::alloc::Global;
 
 // As many bytes as a call of `take` may give here.
@@ -67,63 +68,71 @@ pub fn link_line(alloc: Global, parts: &str, calls: &str) -> Result<String, Faul
     Ok(line)
 }
 
-/// What the lobby answers, then what each link was given that was finished.
+/// What the lobby and its links answer, then what each link was given that was finished.
 pub fn lobby_lines(alloc: Global, parts: &str, calls: &str) -> Result<String, Fault> {
-    let (number, fail) = first_word(parts);
+    let (texts, fail) = first_word(parts);
     let fail = numbers(alloc, fail)?;
-    let mut lobby = MemLobby::new(alloc, fresh_links(alloc, size(number)?)?, &fail)?;
+    let lobby = MemLobby::new(alloc, fresh_links(alloc, texts)?, &fail)?;
+    let mut desk = Desk::new(alloc, lobby);
     let mut line = String::new(alloc);
     for call in calls.split(';') {
-        let said = match call.trim() {
-            "open" => said_opened(alloc, &mut lobby)?,
-            "visit" => said_visited(alloc, &mut lobby)?,
-            _ => return Err(Fault::NoCase),
-        };
-        line.push_str(&said)?;
+        line.push_str(&said_call(alloc, &mut desk, call.trim())?)?;
     }
     line.push('\n')?;
-    for link in lobby.finished() {
+    for link in desk.finished() {
         line.push_str(&format!(in alloc; "  given {}\n", text_of(link.sink.given()))?)?;
     }
     Ok(line)
 }
 
-// So many links of `ab`.
-fn fresh_links(alloc: Global, number: usize) -> Result<Vec<MemLink>, Fault>
+fn said_call(alloc: Global, desk: &mut Desk, call: &str) -> Result<String, Fault> {
+    match first_word(call) {
+        ("open", _) => said_opened(alloc, desk.open()),
+        ("next", _) => said_next(alloc, desk.next()?),
+        ("take", _) => said_taken(alloc, desk.last()?),
+        ("give", offered) => said_given(alloc, desk.last()?, offered.as_bytes()),
+        ("finish", _) => {
+            desk.finish()?;
+            Ok(String::new(alloc))
+        }
+        _ => Err(Fault::NoCase),
+    }
+}
+
+// A link of each of the texts, with commas between them. `-` lists none.
+fn fresh_links(alloc: Global, texts: &str) -> Result<Vec<MemLink>, Fault>
     ensures { IfOk result (λ links. All (λ link. IsFresh (link_told link)) links.items) }
 {
     let mut links = Vec::new(alloc);
-    for _ in 0..number {
-        links.push(fresh_link(alloc)?)?;
+    if texts == "-" {
+        return Ok(links);
+    }
+    for text in texts.split(',') {
+        links.push(fresh_link(alloc, text)?)?;
     }
     Ok(links)
 }
 
-// A link of `ab`, which gives and takes a byte a call.
-fn fresh_link(alloc: Global) -> Result<MemLink, Fault>
+// A link of the text, which gives and takes eight bytes a call at most.
+fn fresh_link(alloc: Global, text: &str) -> Result<MemLink, Fault>
     ensures { IfOk result (λ link. IsFresh (link_told link)) }
 {
     Ok(MemLink {
-        source: MemSource::new(alloc, b"ab", 1, &[])?,
-        sink: MemSink::new(alloc, 1, &[])?,
+        source: MemSource::new(alloc, text.as_bytes(), ROOM, &[])?,
+        sink: MemSink::new(alloc, ROOM, &[])?,
     })
 }
 
-fn said_opened(alloc: Global, lobby: &mut MemLobby) -> Result<String, Fault> {
-    match lobby.open(8080) {
+fn said_opened(alloc: Global, answer: Opened) -> Result<String, Fault> {
+    match answer {
         Opened::Ready => Ok(format!(in alloc; "  ready")?),
         Opened::Failed => Ok(format!(in alloc; "  failed")?),
     }
 }
 
-fn said_visited(alloc: Global, lobby: &mut MemLobby) -> Result<String, Fault> {
-    match lobby.next() {
-        Next::Link(mut link) => {
-            let said = said_taken(alloc, &mut link);
-            let _ = link.give(b"x");
-            lobby.finish(link);
-            said
-        }
+fn said_next(alloc: Global, came: Next<()>) -> Result<String, Fault> {
+    match came {
+        Next::Link(()) => Ok(format!(in alloc; "  link")?),
         Next::Closed => Ok(format!(in alloc; "  closed")?),
         Next::Failed => Ok(format!(in alloc; "  failed")?),
     }

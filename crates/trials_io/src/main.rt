@@ -8,14 +8,15 @@
 //! - `source TEXT PIECE FAIL: ..`: each call is `take`
 //! - `sink PIECE FAIL: ..`: each call is `give TEXT`
 //! - `link TEXT PIECE FAIL FAIL: ..`: calls of both, with the failing ones of each
-//! - `lobby NUMBER FAIL: ..`: so many links of `ab`; `open`, or `visit`, which asks for the next link,
-//!   takes of it once, gives it `x` and finishes it
-//! - `disk FAIL: ..`: `write PLACE TEXT`, `cut SIZE`, `sync`, `read PLACE`, all of the area A; a write
-//!   and a cut ask for the size first, which is a call too
+//! - `lobby TEXTS FAIL: ..`: a link of each of the texts, with commas between them, or none for `-`;
+//!   `open`; `next`; `take`, `give TEXT` and `finish`, each of the last link that came and is out
+//! - `disk FAIL: ..`: `write PLACE TEXT`, `cut SIZE`, `sync`, `read PLACE`, of the area A or the one
+//!   that `on AREA` named last; a write and a cut ask for the size first, which is a call too
 //! - `clock NEXT STEP: ..`: each call is `now`
 #![tactic(auto)]
 
 mod answer;
+mod desk;
 mod disk;
 mod fault;
 mod links;

@@ -34,6 +34,9 @@ fn three_files_keep_what_was_written(rt: HostRuntime) -> Result<(), Fail> {
     );
     // while one disk has the files, another has none, also where a file was removed
     assert_eq!(rt; FileDisk::new(rt).size(Area::B), Err(Failed), "locked");
+    for path in ["records.head", "records.a"] {
+        assert_eq!(rt; fs::read_to_string(&rt, path)?.as_str(), "", "{path}");
+    }
     fs::remove_file(&rt, "records.head")?;
     assert_eq!(rt; FileDisk::new(rt).size(Area::B), Err(Failed), "no head");
     assert_eq!(rt; fs::read_to_string(&rt, "records.b")?.as_str(), "he");
