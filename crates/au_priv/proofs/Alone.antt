@@ -25,15 +25,17 @@ AllFail test xs d = (i : ℕ) → i < length xs → test (get_or xs i d) ≡ fal
 
 mapped_none : {X : Type 0} (test : X → Bool) (f : X → X) (xs : List X) (d : X) → ((x : X) → test x ≡ false → f x ≡ x) → AllFail test xs d → map f xs ≡ xs
 mapped_none test f [] d keeps none = refl
-mapped_none test f (x ∷ xs) d keeps none j = keeps x (none 0 (omega arith)) j ∷ mapped_none test f xs d keeps (λ i less. none (suc i) (omega (arith, less))) j
+mapped_none test f (x ∷ xs) d keeps none =
+    let rest = mapped_none test f xs d keeps (λ i less. none (suc i) (omega (arith, less))) in
+    ap (λ y. y ∷ map f xs) (keeps x (none 0 (omega arith))) ∙ ap (λ ys. x ∷ ys) rest
 
 mapped_at : {X : Type 0} (test : X → Bool) (f : X → X) (xs : List X) (k : ℕ) (d : X) → ((x : X) → test x ≡ false → f x ≡ x) → OthersFail test xs k d → k < length xs
     → set xs k (f (get_or xs k d)) ≡ map f xs
 mapped_at test f [] k d keeps others within = absurd (omega arith)
 mapped_at test f (x ∷ xs) zero d keeps others within = ap (λ rest. f x ∷ rest) (sym (mapped_none test f xs d keeps (λ i less. others (suc i) (omega (arith, less)) (λ same. omega (arith, same)))))
-mapped_at test f (x ∷ xs) (suc k) d keeps others within j =
-    sym (keeps x (others 0 (omega arith) (λ same. omega (arith, same)))) j
-    ∷ mapped_at test f xs k d keeps (λ i less other. others (suc i) (omega (arith, less)) (λ same. other (omega (arith, same)))) (omega (arith, within)) j
+mapped_at test f (x ∷ xs) (suc k) d keeps others within =
+    let rest = mapped_at test f xs k d keeps (λ i less other. others (suc i) (omega (arith, less)) (λ same. other (omega (arith, same)))) (omega (arith, within)) in
+    ap (λ ys. x ∷ ys) rest ∙ ap (λ y. y ∷ map f xs) (sym (keeps x (others 0 (omega arith) (λ same. omega (arith, same)))))
 
 kept_all : {X : Type 0} (test : X → Bool) (xs : List X) (d : X) → AllFail test xs d → without test xs ≡ xs
 kept_all test [] d none = refl
@@ -59,6 +61,7 @@ others_fail fields these test xs k d whole ordered place i within other = at (te
   where
     never : fields_before these these ≡ true → ⊥
     never is = (let e : true ≡ false = sym is ∙ front_not_before these these (itself these) in cc)
+
     at : (b : Bool) → test (get_or xs i d) ≡ b → test (get_or xs i d) ≡ false
     at false fails = fails
     at true passes = absurd (elim (cases_lt i k) [
@@ -84,58 +87,54 @@ here_too test xs k d others fails i within = elim (cases_lt i k) [
   ]
 ]
 
-keeps_other : {X Y : Type 0} (test : X × Y × Bool → Bool) (admin : Bool) (x : X × Y × Bool) → test x ≡ false → with_admin test admin x ≡ x
+pub keeps_other : {X Y : Type 0} (test : X × Y × Bool → Bool) (admin : Bool) (x : X × Y × Bool) → test x ≡ false → with_admin test admin x ≡ x
 keeps_other test admin x fails = ap (λ b. cond b (x.0, x.1, admin) x) fails
 
-system_whole : (grantee : Name) (privilege : Privilege) (x : SystemEntry) → grants_privilege grantee privilege x ≡ true → system_fields x ≡ grantee ∷ (privileges.code_of privilege ∷ []) ∷ []
+pub system_whole : (grantee : Name) (privilege : Privilege) (x : SystemEntry) → grants_privilege grantee privilege x ≡ true → system_fields x ≡ grantee ∷ (privileges.code_of privilege ∷ []) ∷ []
 system_whole grantee privilege x is = ap system_fields (grants_privilege-is grantee privilege x is)
 
-role_whole : (grantee role : Name) (x : RoleEntry) → grants_role grantee role x ≡ true → role_fields x ≡ grantee ∷ role ∷ []
-role_whole grantee role x is = ap role_fields (grants_role-is grantee role x is)
+pub role_whole : (grantee role text : Name) → text ≡ role → (x : RoleEntry) → grants_role grantee role x ≡ true → role_fields x ≡ grantee ∷ text ∷ []
+role_whole grantee role text same x is = ap role_fields (grants_role-is grantee role x is) ∙ ap (λ (n : Name). grantee ∷ n ∷ []) (sym same)
 
-object_whole : (grantee : Name) (table : TableName) (action : Action) (x : ObjectEntry) → grants_object grantee table action x ≡ true
+pub object_whole : (grantee : Name) (table : TableName) (action : Action) (x : ObjectEntry) → grants_object grantee table action x ≡ true
     → object_fields x ≡ grantee ∷ table.owner ∷ table.name ∷ (actions.code_of action ∷ []) ∷ []
 object_whole grantee table action x is = ap object_fields (grants_object-is grantee table action x is)
 
--- the admin option is set where the grant stands
-pub system_set : (grantee : Name) (privilege : Privilege) (admin : Bool) (xs : List SystemEntry) (k : ℕ) (read new : SystemEntry) → is_in_order system_before xs ≡ true
-    → IsPlaceOf system_fields (grantee ∷ (privileges.code_of privilege ∷ []) ∷ []) xs k → k < length xs → new ≡ with_admin (grants_privilege grantee privilege) admin (get_or xs k read)
-    → set xs k new ≡ map (with_admin (grants_privilege grantee privilege) admin) xs
-system_set grantee privilege admin xs k read new ordered place within makes =
-    ap (λ v. set xs k v) makes
-    ∙ mapped_at (grants_privilege grantee privilege) _ xs k read (keeps_other (grants_privilege grantee privilege) admin) (others_fail system_fields _ (grants_privilege grantee privilege) xs k read (system_whole grantee privilege) ordered place) within
+-- what f makes of the entry at the place is all that it makes
+pub set_there : {X : Type 0} (fields : X → List (List ℕ)) (these : List (List ℕ)) (test : X → Bool) (f : X → X) (xs : List X) (k : ℕ) (read new : X)
+    → ((x : X) → test x ≡ true → fields x ≡ these) → ((x : X) → test x ≡ false → f x ≡ x) → is_in_order (λ a b. fields_before (fields a) (fields b)) xs ≡ true → IsPlaceOf fields these xs k
+    → k < length xs → new ≡ f (get_or xs k read) → set xs k new ≡ map f xs
+set_there fields these test f xs k read new whole keeps ordered place within makes =
+    ap (λ v. set xs k v) makes ∙ mapped_at test f xs k read keeps (others_fail fields these test xs k read whole ordered place) within
 
-pub system_unset : (grantee : Name) (privilege : Privilege) (admin : Bool) (xs : List SystemEntry) (k : ℕ) (read : SystemEntry) → is_in_order system_before xs ≡ true
-    → IsPlaceOf system_fields (grantee ∷ (privileges.code_of privilege ∷ []) ∷ []) xs k → length xs ≤ k → xs ≡ map (with_admin (grants_privilege grantee privilege) admin) xs
-system_unset grantee privilege admin xs k read ordered place end =
-    sym (mapped_none (grants_privilege grantee privilege) _ xs read (keeps_other (grants_privilege grantee privilege) admin) (all_fail system_fields _ (grants_privilege grantee privilege) xs k read (system_whole grantee privilege) ordered place end))
+pub set_nowhere : {X : Type 0} (fields : X → List (List ℕ)) (these : List (List ℕ)) (test : X → Bool) (f : X → X) (xs : List X) (k : ℕ)
+    → ((x : X) → test x ≡ true → fields x ≡ these) → ((x : X) → test x ≡ false → f x ≡ x) → is_in_order (λ a b. fields_before (fields a) (fields b)) xs ≡ true → IsPlaceOf fields these xs k
+    → length xs ≤ k → xs ≡ map f xs
+set_nowhere fields these test f [] k whole keeps ordered place end = refl
+set_nowhere fields these test f (x ∷ xs) k whole keeps ordered place end =
+    sym (mapped_none test f (x ∷ xs) x keeps (all_fail fields these test (x ∷ xs) k x whole ordered place end))
 
-pub role_set : (grantee role text : Name) (admin : Bool) (xs : List RoleEntry) (k : ℕ) (read new : RoleEntry) → text ≡ role → is_in_order role_before xs ≡ true
-    → IsPlaceOf role_fields (grantee ∷ text ∷ []) xs k → k < length xs → new ≡ with_admin (grants_role grantee role) admin (get_or xs k read)
-    → set xs k new ≡ map (with_admin (grants_role grantee role) admin) xs
-role_set grantee role text admin xs k read new same ordered place within makes =
-    ap (λ v. set xs k v) makes
-    ∙ mapped_at (grants_role grantee role) _ xs k read (keeps_other (grants_role grantee role) admin)
-    (others_fail role_fields _ (grants_role grantee role) xs k read (role_whole grantee role) ordered (subst (λ (n : Name). IsPlaceOf role_fields (grantee ∷ n ∷ []) xs k) same place)) within
+-- the entry at the place passes, and without it none does
+pub gone : {X : Type 0} (fields : X → List (List ℕ)) (these : List (List ℕ)) (test : X → Bool) (xs lent now : List X) (k : ℕ) (read : X) (b : Bool)
+    → ((x : X) → test x ≡ true → fields x ≡ these) → lent ≡ xs → is_in_order (λ a b. fields_before (fields a) (fields b)) xs ≡ true → IsPlaceOf fields these lent k
+    → k < length lent → read ≡ get_or xs k read → b ≡ test read → b ≡ true → now ≡ remove xs k → now ≡ without test xs
+gone fields these test xs lent now k read b whole same ordered place within is tested passes makes =
+    makes
+    ∙ removed_at test xs k read (others_fail fields these test xs k read whole ordered (subst (λ ys. IsPlaceOf fields these ys k) same place)) (subst (λ ys. k < length ys) same within)
+    (subst (λ x. test x ≡ true) is (sym tested ∙ passes))
 
-pub role_unset : (grantee role text : Name) (admin : Bool) (xs : List RoleEntry) (k : ℕ) (read : RoleEntry) → text ≡ role → is_in_order role_before xs ≡ true
-    → IsPlaceOf role_fields (grantee ∷ text ∷ []) xs k → length xs ≤ k → xs ≡ map (with_admin (grants_role grantee role) admin) xs
-role_unset grantee role text admin xs k read same ordered place end =
-    sym (mapped_none (grants_role grantee role) _ xs read (keeps_other (grants_role grantee role) admin)
-    (all_fail role_fields _ (grants_role grantee role) xs k read (role_whole grantee role) ordered (subst (λ (n : Name). IsPlaceOf role_fields (grantee ∷ n ∷ []) xs k) same place) end))
+-- the entry at the place fails, and so do all
+pub stays : {X : Type 0} (fields : X → List (List ℕ)) (these : List (List ℕ)) (test : X → Bool) (xs lent : List X) (k : ℕ) (read : X) (b : Bool)
+    → ((x : X) → test x ≡ true → fields x ≡ these) → lent ≡ xs → is_in_order (λ a b. fields_before (fields a) (fields b)) xs ≡ true → IsPlaceOf fields these lent k
+    → read ≡ get_or xs k read → b ≡ test read → b ≡ false → xs ≡ without test xs
+stays fields these test xs lent k read b whole same ordered place is tested fails =
+    sym (kept_all test xs read (here_too test xs k read (others_fail fields these test xs k read whole ordered (subst (λ ys. IsPlaceOf fields these ys k) same place))
+    (subst (λ x. test x ≡ false) is (sym tested ∙ fails))))
 
--- the grant is gone from where it stood
-removed_from : {X : Type 0} (fields : X → List (List ℕ)) (these : List (List ℕ)) (test : X → Bool) (xs : List X) (k : ℕ) (d : X)
-    → ((x : X) → test x ≡ true → fields x ≡ these) → is_in_order (λ a b. fields_before (fields a) (fields b)) xs ≡ true → IsPlaceOf fields these xs k
-    → k < length xs → test (get_or xs k d) ≡ true → remove xs k ≡ without test xs
-removed_from fields these test xs k d whole ordered place within passes = removed_at test xs k d (others_fail fields these test xs k d whole ordered place) within passes
-
-not_there : {X : Type 0} (fields : X → List (List ℕ)) (these : List (List ℕ)) (test : X → Bool) (xs : List X) (k : ℕ) (d : X)
-    → ((x : X) → test x ≡ true → fields x ≡ these) → is_in_order (λ a b. fields_before (fields a) (fields b)) xs ≡ true → IsPlaceOf fields these xs k
-    → test (get_or xs k d) ≡ false → xs ≡ without test xs
-not_there fields these test xs k d whole ordered place fails = sym (kept_all test xs d (here_too test xs k d (others_fail fields these test xs k d whole ordered place) fails))
-
-not_at_end : {X : Type 0} (fields : X → List (List ℕ)) (these : List (List ℕ)) (test : X → Bool) (xs : List X) (k : ℕ) (d : X)
-    → ((x : X) → test x ≡ true → fields x ≡ these) → is_in_order (λ a b. fields_before (fields a) (fields b)) xs ≡ true → IsPlaceOf fields these xs k
-    → length xs ≤ k → xs ≡ without test xs
-not_at_end fields these test xs k d whole ordered place end = sym (kept_all test xs d (all_fail fields these test xs k d whole ordered place end))
+-- the place is the end, and all entries fail
+pub ends : {X : Type 0} (fields : X → List (List ℕ)) (these : List (List ℕ)) (test : X → Bool) (xs lent : List X) (k : ℕ)
+    → ((x : X) → test x ≡ true → fields x ≡ these) → lent ≡ xs → is_in_order (λ a b. fields_before (fields a) (fields b)) xs ≡ true → IsPlaceOf fields these lent k
+    → length lent ≤ k → xs ≡ without test xs
+ends fields these test [] lent k whole same ordered place end = refl
+ends fields these test (x ∷ xs) lent k whole same ordered place end =
+    sym (kept_all test (x ∷ xs) x (all_fail fields these test (x ∷ xs) k x whole ordered (subst (λ ys. IsPlaceOf fields these ys k) same place) (subst (λ ys. length ys ≤ k) same end)))

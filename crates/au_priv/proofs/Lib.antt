@@ -9,7 +9,6 @@ pub mod Halving
 pub mod Holders
 pub mod Inserted
 pub mod Limits
-pub mod Mapped
 pub mod Members
 pub mod Ordered
 pub mod Reached

@@ -108,6 +108,7 @@ passes_or_fails test (y ∷ xs) x has = elim (split y xs x has) [
     first_at : {X : Type 0} (b : Bool) (y : X) (front behind : List X) (x : X) → y ≡ x → Contains (cond b (y ∷ front) front) x ⊎ Contains (cond (not b) (y ∷ behind) behind) x
     first_at true y front behind x same = inl (subst (λ z. Contains (y ∷ front) z) same (here y front))
     first_at false y front behind x same = inr (subst (λ z. Contains (y ∷ behind) z) same (here y behind))
+
     later_at : {X : Type 0} (b : Bool) (y : X) (front behind : List X) (x : X) → Contains front x ⊎ Contains behind x → Contains (cond b (y ∷ front) front) x ⊎ Contains (cond (not b) (y ∷ behind) behind) x
     later_at true y front behind x (inl one) = inl (there y front x one)
     later_at true y front behind x (inr two) = inr two

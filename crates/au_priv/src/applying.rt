@@ -7,7 +7,8 @@ ghost use Rattle.au_priv.specs.Order.{AreInOrder, is_in_order, object_before, pl
 
 use crate::change::GrantChange;
 use crate::direct::{
-    has_object, has_privilege, has_role, is_same_action, is_same_privilege, is_same_table,
+    has_object, has_privilege, has_role, is_object_grant, is_role_grant, is_same_privilege,
+    is_same_table, is_system_grant,
 };
 use crate::lists::GrantLists;
 use crate::order::put_at;
@@ -169,6 +170,7 @@ fn drop_on_table(entries: &mut Vec<(Name, TableName, Action)>, table: &TableName
 }
 
 fn without_system(grants: GrantLists, grantee: &Name, privilege: Privilege) -> GrantLists
+    requires { AreInOrder grants }
     ensures { result ≡ applied (GrantChange.SystemRevoke grantee.now privilege) grants }
 {
     let GrantLists {
@@ -186,12 +188,17 @@ fn without_system(grants: GrantLists, grantee: &Name, privilege: Privilege) -> G
 }
 
 fn drop_privilege(entries: &mut Vec<(Name, Privilege, bool)>, grantee: &Name, privilege: Privilege)
+    requires { IsTrue (is_in_order system_before entries.old.items) }
     ensures { entries.new.items ≡ without (grants_privilege grantee.now privilege) entries.old.items }
 {
-    entries.retain(|entry| !(entry.0 == *grantee && is_same_privilege(entry.1, privilege)));
+    let place = system_place(entries.as_slice(), grantee, privilege);
+    if place < entries.len() && is_system_grant(&entries[place], grantee, privilege) {
+        drop(entries.remove(place));
+    }
 }
 
 fn without_role_grant(grants: GrantLists, grantee: &Name, name: &Name) -> GrantLists
+    requires { AreInOrder grants }
     ensures { result ≡ applied (GrantChange.RoleRevoke grantee.now name.now) grants }
 {
     let GrantLists {
@@ -209,9 +216,14 @@ fn without_role_grant(grants: GrantLists, grantee: &Name, name: &Name) -> GrantL
 }
 
 fn drop_role_grant(entries: &mut Vec<(Name, Name, bool)>, grantee: &Name, name: &Name)
+    requires { IsTrue (is_in_order role_before entries.old.items) }
     ensures { entries.new.items ≡ without (grants_role grantee.now name.now) entries.old.items }
 {
-    entries.retain(|entry| !(entry.0 == *grantee && entry.1 == *name));
+    let role = name.as_str();
+    let place = role_place(entries.as_slice(), grantee, role);
+    if place < entries.len() && is_role_grant(&entries[place], grantee, role) {
+        drop(entries.remove(place));
+    }
 }
 
 fn without_object_grant(
@@ -220,6 +232,7 @@ fn without_object_grant(
     table: &TableName,
     action: Action,
 ) -> GrantLists
+    requires { AreInOrder grants }
     ensures { result ≡ applied (GrantChange.ObjectRevoke grantee.now table.now action) grants }
 {
     let GrantLists {
@@ -242,11 +255,13 @@ fn drop_object_grant(
     table: &TableName,
     action: Action,
 )
+    requires { IsTrue (is_in_order object_before entries.old.items) }
     ensures { entries.new.items ≡ without (grants_object grantee.now table.now action) entries.old.items }
 {
-    entries.retain(|entry| {
-        !(entry.0 == *grantee && is_same_table(&entry.1, table) && is_same_action(entry.2, action))
-    });
+    let place = object_place(entries.as_slice(), grantee, table, action);
+    if place < entries.len() && is_object_grant(&entries[place], grantee, table, action) {
+        drop(entries.remove(place));
+    }
 }
 
 fn with_system(
@@ -281,6 +296,7 @@ fn with_privilege_admin(
     privilege: Privilege,
     admin: bool,
 ) -> List<(Name, Privilege, bool)>
+    requires { IsTrue (is_in_order system_before system) }
     ensures { result ≡ map (with_admin (grants_privilege grantee.now privilege) admin) system }
 {
     let mut entries = system.into_vec();
@@ -294,9 +310,11 @@ fn set_privilege_admin(
     privilege: Privilege,
     admin: bool,
 )
+    requires { IsTrue (is_in_order system_before entries.old) }
     ensures { entries.new ≡ map (with_admin (grants_privilege grantee.now privilege) admin) entries.old }
 {
-    for place in 0..entries.len() {
+    let place = system_place(&*entries, grantee, privilege);
+    if place < entries.len() {
         set_admin_of_privilege(&mut entries[place], grantee, privilege, admin);
     }
 }
@@ -361,6 +379,7 @@ fn with_role_admin(
     name: &Name,
     admin: bool,
 ) -> List<(Name, Name, bool)>
+    requires { IsTrue (is_in_order role_before role) }
     ensures { result ≡ map (with_admin (grants_role grantee.now name.now) admin) role }
 {
     let mut entries = role.into_vec();
@@ -369,9 +388,11 @@ fn with_role_admin(
 }
 
 fn set_role_admin(entries: &mut [(Name, Name, bool)], grantee: &Name, name: &Name, admin: bool)
+    requires { IsTrue (is_in_order role_before entries.old) }
     ensures { entries.new ≡ map (with_admin (grants_role grantee.now name.now) admin) entries.old }
 {
-    for place in 0..entries.len() {
+    let place = role_place(&*entries, grantee, name.as_str());
+    if place < entries.len() {
         set_admin_of_role(&mut entries[place], grantee, name, admin);
     }
 }

@@ -3,7 +3,7 @@ ghost use Rattle.std.specs.Prelude.{◌≡◌, ◌↔◌, ◌⊎◌, ◌++◌, �
 ghost use Rattle.std.specs.List.{Contains};
 ghost use Rattle.au_base.specs.declared.code.Code.{Code};
 ghost use Rattle.au_base.specs.declared.privilege.Privilege.{Privilege};
-ghost use Rattle.au_priv.specs.Deciding.{Administers, Decides, DecidesOnTable, DecidesPairs, DecidesRights, FirstRefused, IsBuiltIn, IsNoRole, IsUsed, IsUsedOnTable, Needs, NoneRefused, RefusesGrantee, RefusesRight, RefusesTable, any_right};
+ghost use Rattle.au_priv.specs.Deciding.{Administers, AreAnyHeld, Decides, DecidesOnTable, DecidesPairs, DecidesRights, FirstRefused, IsBuiltIn, IsNoRole, IsUsed, IsUsedOnTable, Needs, NoneRefused, RefusesGrantee, RefusesRight, RefusesTable, any_of, any_right};
 ghost use Rattle.au_priv.specs.Pairs.{object_pair, pairs, right_pair};
 ghost use Rattle.au_priv.specs.Rights.{HoldsPrivilege};
 
@@ -25,6 +25,16 @@ pub struct Case<'a> {
     pub grants: &'a Grants,
     pub known: &'a Known,
     pub user: &'a Name,
+}
+
+/// Whether the user holds the system privileges by which every right of a kind may be granted and
+/// revoked.
+#[derive(Clone, Copy)]
+struct AnyHeld {
+    /// GRANT ANY PRIVILEGE.
+    privilege: bool,
+    /// GRANT ANY ROLE.
+    role: bool,
 }
 
 /// What is decided of the statement.
@@ -94,7 +104,8 @@ fn decide_rights(
 ) -> Result<Decided, Memory>
     ensures { IfOk result (DecidesRights case.entry.grants.now case.entry.known.now case.entry.user.now way rights.now grantees.now) }
 {
-    if let Some(code) = rights_refusal(case, rights) {
+    let any = any_held(case);
+    if let Some(code) = rights_refusal(case, any, rights) {
         return Ok(refused(alloc, code));
     }
     let used = used_for(alloc, case, rights)?;
@@ -175,33 +186,55 @@ fn refused(alloc: Global, code: Code) -> Decided
     }
 }
 
-fn rights_refusal(case: Case<'_>, rights: &[Right]) -> Option<Code>
+fn rights_refusal(case: Case<'_>, any: AnyHeld, rights: &[Right]) -> Option<Code>
+    requires { AreAnyHeld case.grants.now case.user.now any.privilege any.role }
     ensures { let Refuses = RefusesRight case.entry.grants.now case.entry.known.now case.entry.user.now in MatchOption result (NoneRefused Refuses rights.now) (FirstRefused Refuses rights.now) }
 {
     for right in rights {
-        if let Some(code) = right_refusal(case, right) {
+        if let Some(code) = right_refusal(case, any, right) {
             return Some(code);
         }
     }
     None
 }
 
-fn right_refusal(case: Case<'_>, right: &Right) -> Option<Code>
+fn right_refusal(case: Case<'_>, any: AnyHeld, right: &Right) -> Option<Code>
+    requires { AreAnyHeld case.grants.now case.user.now any.privilege any.role }
     ensures { let Refuses = RefusesRight case.entry.grants.now case.entry.known.now case.entry.user.now right.now in MatchOption result ((code : Code) → ¬ Refuses code) Refuses }
 {
     if is_no_role(case.known, right) {
         return Some(Code::NO_SUCH_ROLE);
     }
-    if administers(case, right)
-        || has_right(
-            case.grants,
-            case.user,
-            Sought::Privilege(any_right_privilege(right)),
-        )
-    {
+    if is_any_held(any, right) || administers(case, right) {
         return None;
     }
     Some(Code::PRIVILEGE_MISSING)
+}
+
+fn any_held(case: Case<'_>) -> AnyHeld
+    ensures { AreAnyHeld case.entry.grants.now case.entry.user.now result.privilege result.role }
+{
+    AnyHeld {
+        privilege: has_right(
+            case.grants,
+            case.user,
+            Sought::Privilege(Privilege::GrantAnyPrivilege),
+        ),
+        role: has_right(
+            case.grants,
+            case.user,
+            Sought::Privilege(Privilege::GrantAnyRole),
+        ),
+    }
+}
+
+fn is_any_held(any: AnyHeld, right: &Right) -> bool
+    ensures { result ≡ any_of right.now any.privilege any.role }
+{
+    match right {
+        Right::Privilege(_) => any.privilege,
+        Right::Role(_) => any.role,
+    }
 }
 
 fn is_no_role(known: &Known, right: &Right) -> bool

@@ -67,7 +67,8 @@ fn is_role_grant_as(entry: &(Name, Name, bool), grantee: &Name, role: &str, admi
     is_role_grant(entry, grantee, role) && (entry.2 || !admin)
 }
 
-fn is_role_grant(entry: &(Name, Name, bool), grantee: &Name, role: &str) -> bool
+/// Whether the entry grants the role to the grantee.
+pub fn is_role_grant(entry: &(Name, Name, bool), grantee: &Name, role: &str) -> bool
     ensures { result ≡ grants_role grantee.now role.now entry.now }
 {
     entry.0 == *grantee && entry.1.as_str() == role
@@ -114,7 +115,12 @@ fn is_system_grant_as(
     is_system_grant(entry, grantee, privilege) && (entry.2 || !admin)
 }
 
-fn is_system_grant(entry: &(Name, Privilege, bool), grantee: &Name, privilege: Privilege) -> bool
+/// Whether the entry grants the system privilege to the grantee.
+pub fn is_system_grant(
+    entry: &(Name, Privilege, bool),
+    grantee: &Name,
+    privilege: Privilege,
+) -> bool
     ensures { result ≡ grants_privilege grantee.now privilege entry.now }
 {
     entry.0 == *grantee && is_same_privilege(entry.1, privilege)
@@ -152,7 +158,8 @@ pub fn has_object(
     place < object.len() && is_object_grant(&object[place], grantee, table, action)
 }
 
-fn is_object_grant(
+/// Whether the entry grants the object privilege to the grantee.
+pub fn is_object_grant(
     entry: &(Name, TableName, Action),
     grantee: &Name,
     table: &TableName,

@@ -28,7 +28,7 @@ pub use decided::{Decided, Known};
 pub use draft::GrantDraft;
 pub use grants::Grants;
 pub use laws::{
-    changes_add_one_grant_at_most, changes_keep_no_circle, changes_keep_order, drops_close_no_circle, grants_in_order_come_back,
-    rights_have_one_answer,
+    changes_add_one_grant_at_most, changes_keep_no_circle, changes_keep_order,
+    drops_close_no_circle, grants_in_order_come_back, rights_have_one_answer,
 };
 pub use staged::StagedGrants;
