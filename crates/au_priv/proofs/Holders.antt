@@ -3,11 +3,11 @@ use Rattle.std.proofs.Common.{◌≡◌, ◌≤◌, ◌<◌, ◌+◌, ℕ, Bool,
 use Rattle.std.specs.List.{list_any}
 use Rattle.std.proofs.lemmas.Bool.{cases_lt}
 use Rattle.au_priv.specs.Changing.{role_to}
-use Rattle.au_priv.specs.Holding.{HasRight, IsGranted, grants_role}
+use Rattle.au_priv.specs.Holding.{HasRight, IsGranted}
 use Rattle.au_priv.specs.declared.right.Sought.{Sought}
 use Rattle.au_priv.specs.Rights.{Grants, Name, RoleEntry, IsRoleGranted, IsChain, HoldsRole}
 use Rattle.au_priv.specs.Search.{EndAt, HasByRole, IsFirstGrant, IsGrantedBehind, IsReach, grantee_at, queued_at, role_at}
-use Rattle.au_priv.proofs.Entries.{role_granted, same_name-refl}
+use Rattle.au_priv.proofs.Entries.{same_name-refl}
 use Rattle.au_priv.proofs.Members.{any_to}
 use Rattle.au_priv.proofs.Reached.{between_granted, granted_between, held_queued, queued_held}
 

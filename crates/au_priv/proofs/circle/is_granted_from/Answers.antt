@@ -1,4 +1,4 @@
-use Rattle.std.proofs.Common.{◌≡◌, ◌≤◌, ◌<◌, ℕ, false, true, refl, subst, arith}
+use Rattle.std.proofs.Common.{◌≡◌, ◌≤◌, ◌<◌, false, true, refl, subst, arith}
 use Rattle.au_priv.specs.Rights.{IsRoleGranted, Name}
 use Rattle.au_priv.specs.Search.{grantee_at, role_at}
 use Rattle.au_priv.proofs.Holders.{none_more, not_both}
