@@ -1,6 +1,5 @@
 -- The one entry of a list in order that passes a test for all its fields.
-use Rattle.std.proofs.Common.{◌≡◌, ◌≤◌, ◌<◌, ℕ, zero, suc, cond, Bool, true, false, not, inl, inr, List, [], ◌∷◌, ◌++◌, map, length, get_or, set, take, drop, remove, refl, sym, ap, subst, ◌∙◌, arith}
-use Rattle.std.specs.List.{filter}
+use Rattle.std.proofs.Common.{◌≡◌, ◌≤◌, ◌<◌, ℕ, zero, suc, cond, Bool, true, false, not, inl, inr, List, [], ◌∷◌, map, length, get_or, set, remove, refl, sym, ap, subst, ◌∙◌, arith}
 use Rattle.std.proofs.lemmas.Bool.{cases_lt}
 use Rattle.au_base.specs.declared.action.Action.{Action}
 use Rattle.au_base.specs.declared.privilege.Privilege.{Privilege}
@@ -10,7 +9,7 @@ use Rattle.au_base.specs.Privileges as privileges
 use Rattle.au_priv.specs.Changing.{with_admin, without}
 use Rattle.au_priv.specs.Halving.{IsPlaceOf}
 use Rattle.au_priv.specs.Holding.{grants_object, grants_privilege, grants_role}
-use Rattle.au_priv.specs.Order.{fields_before, is_in_order, object_before, object_fields, role_before, role_fields, system_before, system_fields}
+use Rattle.au_priv.specs.Order.{fields_before, is_in_order, object_fields, role_fields, system_fields}
 use Rattle.au_priv.specs.Rights.{Name, ObjectEntry, RoleEntry, SystemEntry}
 use Rattle.au_priv.proofs.Entries.{grants_object-is, grants_privilege-is, grants_role-is}
 use Rattle.au_priv.proofs.Halving.{IsFront, front_not_before, order_at}

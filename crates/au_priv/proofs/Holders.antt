@@ -3,11 +3,11 @@ use Rattle.std.proofs.Common.{◌≡◌, ◌≤◌, ◌<◌, ◌+◌, ℕ, Bool,
 use Rattle.std.specs.List.{list_any}
 use Rattle.std.proofs.lemmas.Bool.{cases_lt}
 use Rattle.au_priv.specs.Changing.{role_to}
-use Rattle.au_priv.specs.Holding.{HasRight, IsGranted, grants_role}
+use Rattle.au_priv.specs.Holding.{HasRight, IsGranted}
 use Rattle.au_priv.specs.declared.right.Sought.{Sought}
 use Rattle.au_priv.specs.Rights.{Grants, Name, RoleEntry, IsRoleGranted, IsChain, HoldsRole}
 use Rattle.au_priv.specs.Search.{EndAt, HasByRole, IsFirstGrant, IsGrantedBehind, IsReach, grantee_at, queued_at, role_at}
-use Rattle.au_priv.proofs.Entries.{role_granted, same_name-refl}
+use Rattle.au_priv.proofs.Entries.{same_name-refl}
 use Rattle.au_priv.proofs.Members.{any_to}
 use Rattle.au_priv.proofs.Reached.{between_granted, granted_between, held_queued, queued_held}
 
@@ -68,17 +68,7 @@ by_role_only grants user right not_direct (holder, is, granted) = elim is [
   | inr holds ↦ (holder, holds, granted)
 ]
 
--- the role is granted to one that is queued
-pub held_there : (roles : List RoleEntry) (user : Name) (queue : List ℕ) (count k : ℕ) (name role text : Name) (b : Bool) → IsReach roles user queue count → k < count → b ≡ list_any (grants_role name text) roles
-    → text ≡ role → name ≡ grantee_at roles (queued_at queue k) → b ≡ true → HoldsRole roles user role
-held_there roles user queue count k name role text b reach less tested same is passes =
-    queued_held roles user queue count k role reach less
-    (subst (λ n. IsRoleGranted roles n role) is (subst (λ r. IsRoleGranted roles name r) same ((role_granted roles name text).0 (sym tested ∙ passes))))
-
-pub not_held_there : (roles : List RoleEntry) (name role text grantee : Name) (b : Bool) → b ≡ list_any (grants_role name text) roles → text ≡ role → name ≡ grantee → b ≡ false → ¬ IsRoleGranted roles grantee role
-not_held_there roles name role text grantee b tested same is fails granted =
-    not_both b fails (tested ∙ (role_granted roles name text).1 (subst (λ r. IsRoleGranted roles name r) (sym same) (subst (λ n. IsRoleGranted roles n role) (sym is) granted)))
-
+-- the role is granted to none that is queued
 pub held_nowhere : (roles : List RoleEntry) (user : Name) (queue : List ℕ) (count : ℕ) (role : Name) → IsReach roles user queue count
     → ((k : ℕ) → 0 ≤ k → k < count → ¬ IsRoleGranted roles (grantee_at roles (queued_at queue k)) role) → HoldsRole roles user role → ⊥
 held_nowhere roles user queue count role reach none holds =

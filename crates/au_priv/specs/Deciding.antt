@@ -43,15 +43,6 @@ abbrev pub any_right : Right → Privilege
 any_right (SystemRight privilege) = GrantAnyPrivilege
 any_right (Role role) = GrantAnyRole
 
--- whether the user holds the privilege for every system privilege, and the one for every role
-abbrev pub AreAnyHeld : Grants → Name → Bool → Bool → Type 0
-AreAnyHeld grants user privilege role = (IsTrue privilege ↔ HoldsPrivilege grants user GrantAnyPrivilege) × (IsTrue role ↔ HoldsPrivilege grants user GrantAnyRole)
-
--- what is said of system privileges or what is said of roles, by the kind of the right
-abbrev pub any_of : Right → Bool → Bool → Bool
-any_of (SystemRight right) privilege role = privilege
-any_of (Role right) privilege role = role
-
 -- the right is a role that isn't there
 abbrev pub IsNoRole : Known → Right → Type 0
 IsNoRole known (SystemRight privilege) = ⊥

@@ -1,4 +1,5 @@
 pub mod Allowing
+pub mod Asking
 pub mod Changing
 pub mod Deciding
 pub mod Halving

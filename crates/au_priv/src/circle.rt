@@ -1,11 +1,11 @@
 //! Circles of roles.
-ghost use Rattle.std.specs.Prelude.{◌≡◌, ◌≤◌, ◌↔◌, IfOk, IsTrue, length};
+ghost use Rattle.std.specs.Prelude.{◌≡◌, ◌≤◌, ◌<◌, ◌↔◌, IfOk, IsTrue, length};
 ghost use Rattle.au_priv.specs.Order.{is_in_order, role_before};
-ghost use Rattle.au_priv.specs.Rights.{HoldsRole, IsHolder};
-ghost use Rattle.au_priv.specs.Search.{IsReach};
+ghost use Rattle.au_priv.specs.Rights.{HoldsRole, IsHolder, IsRoleGranted};
+ghost use Rattle.au_priv.specs.Search.{IsFirstGrant, IsReach, grantee_at, role_at};
 
-use crate::direct::{has_role, is_grantee};
-use crate::reach::{grantee_of, reach};
+use crate::direct::is_grantee;
+use crate::reach::{end_of_grants, reach, role_of};
 use au_base::{Memory, Name};
 use std::alloc::Global;
 
@@ -42,24 +42,47 @@ fn is_held(
     let mut queue = Vec::new(alloc);
     queue.resize(roles.len(), 0)?;
     let count = reach(roles, user, marks.as_mut_slice(), queue.as_mut_slice());
-    Ok(is_granted_to_some(roles, user, queue.as_slice(), count, role))
+    Ok(is_granted_to_some(roles, user, queue.as_slice(), count, role.as_str()))
 }
 
-fn is_granted_to_some(
+/// Whether the role is granted to the grantee of some grant that the search found.
+pub fn is_granted_to_some(
     roles: &[(Name, Name, bool)],
     user: &Name,
     queue: &[usize],
     count: usize,
-    role: &Name,
+    role: &str,
 ) -> bool
     requires order { IsTrue (is_in_order role_before roles.now) }
     requires reach { IsReach roles.now user.now queue.now count }
     ensures { IsTrue result ↔ HoldsRole roles.now user.now role.now }
 {
     for k in 0..count {
-        if has_role(roles, grantee_of(roles, queue[k]), role.as_str()) {
+        if is_granted_from(roles, queue[k], role) {
             return true;
         }
     }
     false
+}
+
+// Whether the role is granted to the grantee of the grant at the place, the first to that grantee.
+fn is_granted_from(roles: &[(Name, Name, bool)], place: usize, role: &str) -> bool
+    requires order { IsTrue (is_in_order role_before roles.now) }
+    requires first { IsFirstGrant roles.now place }
+    ensures { IsTrue result ↔ IsRoleGranted roles.now (grantee_at roles.now place) role.now }
+{
+    let end = end_of_grants(roles, place);
+    for at in place..end {
+        if grants_role_at(roles, at, role) {
+            return true;
+        }
+    }
+    false
+}
+
+fn grants_role_at(roles: &[(Name, Name, bool)], at: usize, role: &str) -> bool
+    requires { at < length roles.now }
+    ensures { IsTrue result ↔ (role_at roles.now at ≡ role.now) }
+{
+    role_of(roles, at).as_str() == role
 }

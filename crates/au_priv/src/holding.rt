@@ -1,9 +1,10 @@
 //! Who holds which right.
 ghost use Rattle.std.specs.Prelude.{◌≤◌, ◌↔◌, IsTrue, length};
 ghost use Rattle.au_base.specs.Limits.{GRANTS};
-ghost use Rattle.au_priv.specs.Holding.{HasRight};
+ghost use Rattle.au_priv.specs.Holding.{HasRight, IsGranted};
 ghost use Rattle.au_priv.specs.Search.{HasByRole, IsFirstGrant, IsGrantedBehind, IsReach, grantee_at};
 
+use crate::circle::is_granted_to_some;
 use crate::direct::{is_granted, is_grantee};
 use crate::grants::Grants;
 use crate::reach::{end_of_grants, reach, role_of};
@@ -24,6 +25,7 @@ pub fn has_right(grants: &Grants, user: &Name, right: Sought<'_>) -> bool
 // Most users hold no role, and most stores have few grants of roles: the search takes places for
 // as many grants as there can be only where it has to.
 fn has_by_role(grants: &Grants, user: &Name, right: Sought<'_>) -> bool
+    requires direct { ¬ IsGranted grants.now user.now right }
     ensures { IsTrue result ↔ HasByRole grants.now user.now right.entry }
 {
     let roles = grants.role_grants();
@@ -38,7 +40,8 @@ fn has_by_role(grants: &Grants, user: &Name, right: Sought<'_>) -> bool
 }
 
 fn has_by_few_roles(grants: &Grants, user: &Name, right: Sought<'_>) -> bool
-    requires { length grants.now.role ≤ 1000 }
+    requires direct { ¬ IsGranted grants.now user.now right }
+    requires few { length grants.now.role ≤ 1000 }
     ensures { IsTrue result ↔ HasByRole grants.now user.now right.entry }
 {
     let mut marks = [false; 1_000];
@@ -47,7 +50,8 @@ fn has_by_few_roles(grants: &Grants, user: &Name, right: Sought<'_>) -> bool
 }
 
 fn has_by_many_roles(grants: &Grants, user: &Name, right: Sought<'_>) -> bool
-    requires { length grants.now.role ≤ GRANTS }
+    requires direct { ¬ IsGranted grants.now user.now right }
+    requires few { length grants.now.role ≤ GRANTS }
     ensures { IsTrue result ↔ HasByRole grants.now user.now right.entry }
 {
     let mut marks = [false; GRANTS];
@@ -62,13 +66,17 @@ fn has_by_search(
     marks: &mut [bool],
     queue: &mut [usize],
 ) -> bool
+    requires direct { ¬ IsGranted grants.now user.now right }
     requires marks { length grants.now.role ≤ length marks.old }
     requires queue { length grants.now.role ≤ length queue.old }
     ensures { IsTrue result ↔ HasByRole grants.now user.now right.entry }
 {
     let roles = grants.role_grants();
     let count = reach(roles, user, &mut marks[..roles.len()], queue);
-    some_lead_to(grants, user, &*queue, count, right)
+    match right {
+        Sought::Role(role) => is_granted_to_some(roles, user, &*queue, count, role),
+        _ => some_lead_to(grants, user, &*queue, count, right),
+    }
 }
 
 fn some_lead_to(

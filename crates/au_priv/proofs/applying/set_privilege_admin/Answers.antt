@@ -1,4 +1,4 @@
-use Rattle.std.proofs.Common.{◌<◌, ◌≤◌, length, arith}
+use Rattle.std.proofs.Common.{◌≤◌, length, arith}
 use Rattle.au_priv.specs.Changing.{with_admin}
 use Rattle.au_priv.specs.Holding.{grants_privilege}
 use Rattle.au_priv.specs.Order.{system_fields}

@@ -1,4 +1,4 @@
-use Rattle.std.proofs.Common.{◌<◌, ◌≤◌, length, arith}
+use Rattle.std.proofs.Common.{◌≤◌, length, arith}
 use Rattle.au_priv.specs.Changing.{with_admin}
 use Rattle.au_priv.specs.Holding.{grants_role}
 use Rattle.au_priv.specs.Order.{role_fields}

@@ -1,19 +1,20 @@
 use Rattle.std.proofs.Common.{◌≡◌, false, true, refl, arith}
 use Rattle.au_priv.specs.Rights.{IsRoleGranted}
 use Rattle.au_priv.specs.Search.{grantee_at, queued_at}
-use Rattle.au_priv.proofs.Holders.{held_nowhere, held_there, none_more, not_held_there}
+use Rattle.au_priv.proofs.Holders.{held_nowhere, none_more, not_both}
+use Rattle.au_priv.proofs.Reached.{queued_held}
 use Rattle.au_priv.proofs.circle.is_granted_to_some.Goals as goal
 
-pub returns-then-has_role : goal.returns-then-has_role
-returns-then-has_role c = (
-  λ is. held_there _ _ _ _ c.loop-k.k _ _ _ _ c.requires.reach c.loop-k-test.true c.has_role.ensures c.as_str.ensures c.grantee_of.ensures c.if-has_role.true,
+pub returns-then-is_granted_from : goal.returns-then-is_granted_from
+returns-then-is_granted_from c = (
+  λ is. queued_held _ _ _ _ c.loop-k.k _ c.requires.reach c.loop-k-test.true (c.is_granted_from.ensures.0 c.if-is_granted_from.true),
   λ has. refl,
 )
 
 pub loop-k-preserved : goal.loop-k-preserved
 loop-k-preserved c =
     none_more (λ j. IsRoleGranted c.args.roles.now (grantee_at c.args.roles.now (queued_at c.args.queue.now j)) c.args.role.now) 0 c.loop-k.k c.loop-k.invariant
-    (not_held_there _ _ _ _ _ _ c.has_role.ensures c.as_str.ensures c.grantee_of.ensures c.if-has_role.false)
+    (λ granted. not_both _ c.if-is_granted_from.false (c.is_granted_from.ensures.1 granted))
 
 pub returns : goal.returns
 returns c = (
