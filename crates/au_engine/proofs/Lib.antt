@@ -5,6 +5,7 @@ pub mod Events
 pub mod Following
 pub mod Histories
 pub mod Imaged
+pub mod Mapped
 pub mod Replays
 pub mod Results
 pub mod Returns

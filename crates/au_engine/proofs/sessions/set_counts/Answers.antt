@@ -1,5 +1,5 @@
 use Rattle.std.proofs.Common.{◌<◌, ◌∙◌, ap, length, arith}
-use Rattle.au_priv.proofs.Mapped.{mapped_more}
+use Rattle.au_engine.proofs.Mapped.{mapped_more}
 use Rattle.au_engine.specs.declared.session.Session.{Session}
 use Rattle.au_engine.specs.Step.{with_counts}
 use Rattle.au_engine.proofs.sessions.set_counts.Goals as goal
