@@ -99,11 +99,7 @@ fn has_sys(users: &[(Name, [u8; 32])]) -> bool
     users.iter().any(|user| user.0.as_str() == SYS)
 }
 
-fn are_within_limits(
-    users: &[(Name, [u8; 32])],
-    roles: &[Name],
-    policies: &[AuditPolicy],
-) -> bool
+fn are_within_limits(users: &[(Name, [u8; 32])], roles: &[Name], policies: &[AuditPolicy]) -> bool
     ensures { IsTrue result ↔ ((length users.now ≤ CATALOG_OBJECTS) × (length roles.now ≤ CATALOG_OBJECTS) × (length policies.now ≤ CATALOG_OBJECTS)) }
 {
     users.len() <= CATALOG_OBJECTS
@@ -164,12 +160,7 @@ fn grantee_is_there(draft: &Draft, name: &Name) -> bool
 }
 
 // What a role grant stands on is there, and it closes no circle.
-fn role_goes_on(
-    alloc: Global,
-    draft: &Draft,
-    grantee: &Name,
-    role: &Name,
-) -> Result<bool, Memory>
+fn role_goes_on(alloc: Global, draft: &Draft, grantee: &Name, role: &Name) -> Result<bool, Memory>
     ensures { IfOk result (λ goes. (base : AnyKept) → IsTrue goes ↔ (IsTrue (has_grantee (drafted draft.now base) grantee.now) × IsTrue (has_role (drafted draft.now base) role.now) × (¬ IsHolder draft.now.grants.role role.now grantee.now))) }
 {
     if !has_grantee(draft, grantee) {
