@@ -186,6 +186,7 @@ impl Grants {
         ensures few { IfOk result (λ decided. grant_count (applied_all decided.grants self.now) ≤ GRANTS) }
         ensures no_circle { IfOk result (λ decided. HasNoCircle self.now.role → HasNoCircle (applied_all decided.grants self.now).role) }
     {
+        // opens the model, whose invariant says that there are 100,000 grants at most
         let _ = &self.system;
         let case = Case {
             grants: &*self,
