@@ -24,6 +24,8 @@ mod session;
 mod sessions;
 mod trail;
 
+pub use auditing::record_for;
+pub use deciding::decide;
 pub use decision::Decision;
 pub use engine::Engine;
 pub use form::BuiltForm;
@@ -35,8 +37,3 @@ pub use place::Place;
 pub use prepared::{Prepared, SessionChange};
 pub use reading::reading_of;
 pub use session::Session;
-
-#[cfg(test)]
-mod replay_tests;
-#[cfg(test)]
-mod tests;

@@ -15,8 +15,3 @@ pub use laws::{have_one_need, keep_need, keep_requests, stand_alone};
 pub use replies::{DISK_FAULT, FULL_FAULT, MEMORY_FAULT, reply_json, said_json};
 pub use requests::{Need, next_request};
 pub use responses::{bad_response, response};
-
-#[cfg(test)]
-mod request_tests;
-#[cfg(test)]
-mod response_tests;

@@ -1,17 +1,91 @@
 -- What the steps of a format leave.
-use Rattle.std.proofs.Common.{◌≡◌, inl, inr, ℕ, zero, suc, ◌+◌, ◌≤◌, List, [], ◌∷◌, ◌++◌, length, take, drop, refl, sym, ◌∙◌, ap, subst, arith, append_assoc, length-take}
+use Rattle.std.proofs.Common.{◌≡◌, ◌⊎◌, inl, inr, ⊎_elim, ℕ, zero, suc, ◌+◌, ◌≤◌, List, [], ◌∷◌, ◌++◌, length, take, drop, refl, sym, ◌∙◌, ap, subst, arith, append_assoc, length-take}
+use Rattle.std.proofs.Math.Nat.{le_trans}
 use Rattle.std.proofs.lemmas.Bool.{cases_eq}
 use Rattle.std.proofs.lemmas.List.{append-nil, take_all, drop_all}
+use Rattle.au_io.specs.declared.disk.Area.{Area}
 use Rattle.au_io.specs.declared.disk.Area.TheVariants.{Head, A, B}
-use Rattle.au_io.specs.Areas.{Areas, area_of, overwritten, On, Torn, Cut}
-use Rattle.au_journal.specs.Frames.{spelled, header, front, IsLimit, IsOpen, Stands}
-use Rattle.au_journal.specs.Images.{Selects, In}
+use Rattle.au_io.specs.Areas.{Areas, area_of, with_area, overwritten, On, Torn, Cut}
+use Rattle.au_io.specs.Disk.{Meaning, Passes, Follows}
+use Rattle.au_io.specs.Moments.{LeavesSince, CountsNow, both_calls}
+use Rattle.au_journal.specs.Frames.{spelled, header, front, new_head, new_rest, IsLimit, IsOpen, Stands}
+use Rattle.au_journal.specs.Images.{Selects, In, IsSafe}
 use Rattle.au_journal.specs.Seats.{IsFramed}
 use Rattle.au_journal.specs.Walk.{IsUnformatted}
-use Rattle.au_journal.specs.Creation.{IsBlank, OthersAreBlank, AreBlank, ACut, IsGateShut, HasRest, new_head, new_rest, IsNew, IsOnTheWay}
+use Rattle.au_journal.specs.Creation.{IsBlank, IsOnly, OthersAreBlank, IsGateShut, IsNew, IsOnTheWay, a_selected, gate_shut, laid_down}
+use Rattle.au_journal.specs.Creation.IsOnTheWay.{cutting, selecting, shutting, writing, opening}
 use Rattle.au_journal.proofs.Standing.{front-push, front-nil}
 
--- a cut
+same_areas : (c d : Areas) → c.head ≡ d.head → c.a ≡ d.a → c.b ≡ d.b → c ≡ d
+same_areas c d one two three =
+    ap (λ (l : List ℕ). record { head = l; a = c.a; b = c.b }) one ∙ ap (λ (l : List ℕ). record { head = d.head; a = l; b = c.b }) two
+    ∙ ap (λ (l : List ℕ). record { head = d.head; a = d.a; b = l }) three
+
+-- one area has these bytes, and the others are as they were
+on_gives : (area : Area) (step : List ℕ → List ℕ → Type 0) (bytes : List ℕ) (d c : Areas) → On area step d c → area_of area c ≡ bytes → c ≡ with_area area bytes d
+on_gives Head step bytes d c on is = same_areas c (with_area Head bytes d) is (on.elsewhere A (λ (e : A ≡ Head). cc)) (on.elsewhere B (λ (e : B ≡ Head). cc))
+on_gives A step bytes d c on is = same_areas c (with_area A bytes d) (on.elsewhere Head (λ (e : Head ≡ A). cc)) is (on.elsewhere B (λ (e : B ≡ A). cc))
+on_gives B step bytes d c on is = same_areas c (with_area B bytes d) (on.elsewhere Head (λ (e : Head ≡ B). cc)) (on.elsewhere A (λ (e : A ≡ B). cc)) is
+
+-- a step from the only image
+module _ (area : Area) (step : List ℕ → List ℕ → Type 0) (old new : Meaning) (all : Areas) (only : IsOnly all old) (follows : Follows (On area step) old new) where
+  pub only_since : LeavesSince (On area step all) old new
+  only_since c since = let from = follows c since in subst (λ (d : Areas). On area step d c) (only from.0 from.1) from.2
+
+  pub only_after : (bytes : List ℕ) → CountsNow new → Passes old new → area_of area new.reads ≡ bytes → IsSafe area new → IsOnly (with_area area bytes all) new
+  only_after bytes counts time is safe c image = on_gives area step bytes all c (only_since c (counts old.moment c time.later image)) (safe c image ∙ is)
+
+-- the two writes behind the gate
+take_one : (at : ℕ) (c : List ℕ) → 1 ≤ at → take 1 (take at c) ≡ take 1 c
+take_one zero c some = absurd (omega arith)
+take_one (suc at) [] some = refl
+take_one (suc at) (x ∷ c) some = refl
+
+shut_kept : (at n : ℕ) → 1 ≤ at → (d c : List ℕ) → IsGateShut d → Torn at n d c → IsGateShut c
+shut_kept at n some d c shut torn = sym (take_one at c some) ∙ ap (λ (l : List ℕ). take 1 l) torn.before ∙ take_one at d some ∙ shut
+
+module _ (n k : ℕ) (old mid new : Meaning) (all : Areas) (only : IsOnly (gate_shut all) old) (counts : CountsNow mid)
+    (first : Follows (On A (Torn 1 n)) old mid) (time : Passes old mid) where
+  pub first_since : LeavesSince (On A (λ _ (l : List ℕ). IsGateShut l) (gate_shut all)) old mid
+  first_since c since = let on = only_since A (Torn 1 n) old mid (gate_shut all) only first c since in
+      record { here = shut_kept 1 n (omega arith) (0 ∷ []) c.a refl on.here; elsewhere = on.elsewhere }
+
+  pub rest_since : Follows (On A (Torn 14 k)) mid new → Passes mid new → LeavesSince (On A (λ _ (l : List ℕ). IsGateShut l) (gate_shut all)) old new
+  rest_since second later = both_calls (On A (λ _ (l : List ℕ). IsGateShut l) (gate_shut all)) old mid new time later first_since
+      (λ c since.
+      let from = second c since in
+      let was = first_since from.0 (counts old.moment from.0 time.later from.1) in
+      record { here = shut_kept 14 k (omega arith) from.0.a c.a was.here from.2.here; elsewhere = λ other e. from.2.elsewhere other e ∙ was.elsewhere other e })
+
+  pub rest_only : Follows (On A (Torn 14 k)) mid new → Passes mid new → CountsNow new → (bytes : List ℕ) → new.reads.a ≡ bytes → IsSafe A new → IsOnly (with_area A bytes (a_selected all)) new
+  rest_only second later counts_new bytes is safe c image =
+      on_gives A (λ _ (l : List ℕ). IsGateShut l) bytes (gate_shut all) c (rest_since second later c (counts_new old.moment c (le_trans time.later later.later) image)) (safe c image ∙ is)
+
+overwritten_end : (l bytes : List ℕ) (at : ℕ) → at ≡ length l → overwritten l at bytes ≡ l ++ bytes
+overwritten_end l bytes at is =
+    ap (λ (k : List ℕ). k ++ bytes ++ drop (at + length bytes) l) (take_all at l (omega (arith, is)))
+    ∙ ap (λ (k : List ℕ). (l ++ bytes) ++ k) (drop_all (at + length bytes) l (omega (arith, is))) ∙ append-nil (l ++ bytes)
+
+pub rest_is : (a head framed : List ℕ) (limit : ℕ) → a ≡ 0 ∷ [] → head ≡ new_head limit → overwritten (overwritten a 1 head) 14 framed ≡ 0 ∷ new_rest limit framed
+rest_is a head framed limit is named =
+    ap (λ (l : List ℕ). overwritten (overwritten l 1 head) 14 framed) is
+    ∙ ap (λ (l : List ℕ). overwritten (overwritten (0 ∷ []) 1 l) 14 framed) named
+    ∙ ap (λ (l : List ℕ). overwritten l 14 framed) (overwritten_end (0 ∷ []) (new_head limit) 1 refl)
+    ∙ overwritten_end ((0 ∷ []) ++ new_head limit) framed 14 refl
+
+-- the head and the frame of an area that was cut to nothing
+pub whole_is : (a head framed : List ℕ) (limit : ℕ) → a ≡ [] → head ≡ 165 ∷ new_head limit → overwritten (overwritten a 0 head) 14 framed ≡ 165 ∷ new_rest limit framed
+whole_is a head framed limit is named =
+    ap (λ (l : List ℕ). overwritten (overwritten l 0 head) 14 framed) is
+    ∙ ap (λ (l : List ℕ). overwritten (overwritten [] 0 l) 14 framed) named
+    ∙ ap (λ (l : List ℕ). overwritten l 14 framed) (overwritten_end [] (165 ∷ new_head limit) 0 refl)
+    ∙ overwritten_end (165 ∷ new_head limit) framed 14 refl
+
+-- no area is formatted
+record AreBlank (all : Areas) : Type 0 where
+  a : IsBlank all.a
+  b : IsBlank all.b
+
 blank_cut : (d c : List ℕ) → IsBlank d → Cut 0 d c → IsBlank c
 blank_cut d [] blank cut formed = formed.opens
 blank_cut [] (x ∷ c) blank cut formed = absurd (let no : [] ≡ x ∷ c = cut.front in cc)
@@ -24,47 +98,10 @@ blank_cut (y ∷ d) (x ∷ c) blank cut formed = blank (record {
     first [] = 0
     first (x ∷ xs) = x
 
-pub cut_blank : (d c : Areas) → AreBlank d → On A (Cut 0) d c → AreBlank c
-cut_blank d c blank on = record {
-  a = blank_cut d.a c.a blank.a on.here;
-  b = subst IsBlank (sym (on.elsewhere B (λ (e : B ≡ A). cc))) blank.b;
-}
-
-pub head_cut : (n : ℕ) (d c : Areas) → ACut d → On Head (Torn 0 n) d c → ACut c
-head_cut n d c cut on = record {
-  a = on.elsewhere A (λ (e : A ≡ Head). cc) ∙ cut.a;
-  b = subst IsBlank (sym (on.elsewhere B (λ (e : B ≡ Head). cc))) cut.b;
-}
-
-pub cut_done : (c : Areas) → AreBlank c → area_of A c ≡ [] → ACut c
-cut_done c blank is = record { a = is; b = blank.b }
-
-pub select_done : (head : List ℕ) (c : Areas) → ACut c → area_of Head c ≡ overwritten head 0 (65 ∷ []) → In A (λ (area : List ℕ). area ≡ []) c
-select_done head c cut is = record {
-  selected = subst (λ (l : List ℕ). Selects A l) (sym is) (λ (e : 65 ≡ 66). omega arith);
-  here = cut.a;
-}
-
--- the first write
 short_blank : (c : List ℕ) → length c ≤ 1 → IsBlank c
 short_blank c short formed = omega (arith, short, formed.long)
 
-pub shut_torn : (d c : List ℕ) → d ≡ [] → Torn 0 1 d c → IsBlank c
-shut_torn d c none torn = short_blank c (omega (arith, torn.no_longer, ap length none))
-
--- the writes behind the gate
-take_one : (at : ℕ) (c : List ℕ) → 1 ≤ at → take 1 (take at c) ≡ take 1 c
-take_one zero c some = absurd (omega arith)
-take_one (suc at) [] some = refl
-take_one (suc at) (x ∷ c) some = refl
-
-pub shut_kept : (at n : ℕ) → 1 ≤ at → (d c : List ℕ) → IsGateShut d → Torn at n d c → IsGateShut c
-shut_kept at n some d c shut torn = sym (take_one at c some) ∙ ap (λ (l : List ℕ). take 1 l) torn.before ∙ take_one at d some ∙ shut
-
-pub shut_first : (n : ℕ) (d c : List ℕ) → d ≡ 0 ∷ [] → Torn 1 n d c → IsGateShut c
-shut_first n d c is torn = shut_kept 1 n (omega arith) d c (ap (λ (l : List ℕ). take 1 l) is) torn
-
-pub shut_blank : (c : List ℕ) → IsGateShut c → IsBlank c
+shut_blank : (c : List ℕ) → IsGateShut c → IsBlank c
 shut_blank [] shut formed = formed.opens
 shut_blank (x ∷ c) shut formed = let no : x ≡ 0 = ap first shut in omega (arith, no, formed.opens)
   where
@@ -72,54 +109,60 @@ shut_blank (x ∷ c) shut formed = let no : x ≡ 0 = ap first shut in omega (ar
     first [] = 0
     first (x ∷ xs) = x
 
-pub overwritten_end : (l bytes : List ℕ) (at : ℕ) → at ≡ length l → overwritten l at bytes ≡ l ++ bytes
-overwritten_end l bytes at is =
-    ap (λ (k : List ℕ). k ++ bytes ++ drop (at + length bytes) l) (take_all at l (omega (arith, is)))
-    ∙ ap (λ (k : List ℕ). (l ++ bytes) ++ k) (drop_all (at + length bytes) l (omega (arith, is))) ∙ append-nil (l ++ bytes)
+-- where the selected area isn't formatted and no other is, none is
+all_blank : (c : Areas) → OthersAreBlank c → IsUnformatted c → AreBlank c
+all_blank c others unformed = record {
+  a = λ formed. others.a (λ selects. unformed A selects formed) formed;
+  b = λ formed. others.b (λ selects. unformed B selects formed) formed;
+}
 
--- the gate
-pub rest_torn : (rest d c : List ℕ) → d ≡ 0 ∷ rest → Torn 0 1 d c → HasRest rest c
-rest_torn rest d [] is torn = absurd (omega (arith, torn.no_shorter, ap length is))
-rest_torn rest d (x ∷ c) is torn = record { gate = x; split = ap (λ (l : List ℕ). x ∷ l) (torn.after ∙ ap (λ (l : List ℕ). drop 1 l) is) }
+blank_unformatted : (c : Areas) → AreBlank c → IsUnformatted c
+blank_unformatted c blank Head selects = absurd selects
+blank_unformatted c blank A selects = blank.a
+blank_unformatted c blank B selects = blank.b
 
-pub opened : (rest d : List ℕ) → d ≡ 0 ∷ rest → overwritten d 0 (165 ∷ []) ≡ 165 ∷ rest
-opened rest d is = ap (λ (l : List ℕ). overwritten l 0 (165 ∷ [])) is
+blank_others : (c : Areas) → AreBlank c → OthersAreBlank c
+blank_others c blank = record { a = λ no. blank.a; b = λ no. blank.b }
 
--- what is on the way
-pub blank_way : (rest : List ℕ) (c : Areas) → AreBlank c → IsOnTheWay rest c
-blank_way rest c blank = inl go
-  where
-    go : IsUnformatted c
-    go Head selects = absurd selects
-    go A selects = blank.a
-    go B selects = blank.b
+-- area A is the selected one and new, and B isn't formatted
+record IsWhole (limit : ℕ) (framed : List ℕ) (c : Areas) : Type 0 where
+  here : In A (λ (area : List ℕ). area ≡ 165 ∷ new_rest limit framed) c
+  b : IsBlank c.b
 
-not_both : (head : List ℕ) → Selects A head → Selects B head → ⊥
-not_both [] a b = b
-not_both (x ∷ head) a b = a b
+whole_others : (limit : ℕ) (framed : List ℕ) (c : Areas) → IsWhole limit framed c → OthersAreBlank c
+whole_others limit framed c whole = record { a = λ no. absurd (no whole.here.selected); b = λ no. whole.b }
 
-pub in_way : (rest : List ℕ) (c : Areas) → In A IsBlank c → IsOnTheWay rest c
-in_way rest c blank = inl go
-  where
-    go : IsUnformatted c
-    go Head selects = absurd selects
-    go A selects = blank.here
-    go B selects = absurd (not_both c.head blank.selected selects)
-
-pub shut_way : (rest : List ℕ) (c : Areas) → In A IsGateShut c → IsOnTheWay rest c
-shut_way rest c shut = in_way rest c (record { selected = shut.selected; here = shut_blank c.a shut.here })
-
-pub rest_way : (rest : List ℕ) (c : Areas) → In A (HasRest rest) c → IsOnTheWay rest c
-rest_way rest c has = elim (cases_eq has.here.gate 165) [
-  | inl is_open ↦ inr (record { selected = has.selected; here = has.here.split ∙ ap (λ (g : ℕ). g ∷ rest) is_open })
-  | inr shut ↦ in_way rest c (record { selected = has.selected; here = λ formed. shut (subst IsOpen has.here.split formed.opens) })
+-- a gate that may be any, and these bytes
+opened : (limit : ℕ) (framed : List ℕ) (c : Areas) (a : List ℕ) → c.a ≡ a → Torn 0 1 (0 ∷ new_rest limit framed) a → Selects A c.head → IsBlank c.b → AreBlank c ⊎ IsWhole limit framed c
+opened limit framed c [] is torn selects blank = absurd (omega (arith, torn.no_shorter))
+opened limit framed c (gate ∷ rest) is torn selects blank = elim (cases_eq gate 165) [
+  | inl is_open ↦ inr (record { here = record { selected = selects; here = is ∙ ap (λ (g : ℕ). g ∷ rest) is_open ∙ ap (λ (l : List ℕ). 165 ∷ l) torn.after }; b = blank })
+  | inr shut ↦ inl (record { a = λ formed. shut (subst IsOpen is formed.opens); b = blank })
 ]
 
-pub cut_blanks : (c : Areas) → ACut c → AreBlank c
-cut_blanks c cut = record { a = λ formed. let no : 14 ≤ length c.a = formed.long in omega (arith, no, ap length cut.a); b = cut.b }
+way : (limit : ℕ) (framed : List ℕ) (all c : Areas) → AreBlank all → IsOnTheWay limit framed all c → AreBlank c ⊎ IsWhole limit framed c
+way limit framed all c blank (cutting on) = inl (record {
+  a = blank_cut all.a c.a blank.a on.here;
+  b = subst IsBlank (sym (on.elsewhere B (λ (e : B ≡ A). cc))) blank.b;
+})
+way limit framed all c blank (selecting on) = inl (record {
+  a = let is : c.a ≡ [] = on.elsewhere A (λ (e : A ≡ Head). cc) in short_blank c.a (omega (arith, ap length is));
+  b = subst IsBlank (sym (on.elsewhere B (λ (e : B ≡ Head). cc))) blank.b;
+})
+way limit framed all c blank (shutting on) = inl (record {
+  a = short_blank c.a on.here.no_longer;
+  b = subst IsBlank (sym (on.elsewhere B (λ (e : B ≡ A). cc))) blank.b;
+})
+way limit framed all c blank (writing on) = inl (record {
+  a = shut_blank c.a on.here;
+  b = subst IsBlank (sym (on.elsewhere B (λ (e : B ≡ A). cc))) blank.b;
+})
+way limit framed all c blank (opening on) =
+    opened limit framed c c.a refl on.here (subst (λ (l : List ℕ). Selects A l) (sym (on.elsewhere Head (λ (e : Head ≡ A). cc))) (λ (e : 65 ≡ 66). omega arith))
+    (subst IsBlank (sym (on.elsewhere B (λ (e : B ≡ A). cc))) blank.b)
 
 -- a new area stands for its one body
-new_split : (limit : ℕ) (framed body area : List ℕ) → IsFramed framed body → area ≡ 165 ∷ new_rest limit framed → area ≡ front limit (body ∷ []) ++ 0 ∷ []
+pub new_split : (limit : ℕ) (framed body area : List ℕ) → IsFramed framed body → area ≡ 165 ∷ new_rest limit framed → area ≡ front limit (body ∷ []) ++ 0 ∷ []
 new_split limit framed body area is whole =
     whole ∙ ap (λ (l : List ℕ). 165 ∷ new_rest limit l) is.is
     ∙ sym (append_assoc (header limit) (165 ∷ spelled body) (0 ∷ []))
@@ -130,22 +173,29 @@ new_stands : (limit : ℕ) (framed body area : List ℕ) → IsLimit limit → I
 new_stands limit framed body area in_range is whole =
     record { in_range = in_range; some = (is.some, tt); rest = 0 ∷ []; split = new_split limit framed body area is whole; shut = λ (e : 0 ≡ 165). omega arith }
 
-pub new_area : (limit : ℕ) (framed body area : List ℕ) → IsLimit limit → IsFramed framed body → area ≡ 165 ∷ new_rest limit framed → IsNew limit body area
+new_area : (limit : ℕ) (framed body area : List ℕ) → IsLimit limit → IsFramed framed body → area ≡ 165 ∷ new_rest limit framed → IsNew limit body area
 new_area limit framed body area in_range is whole =
     let stands = new_stands limit framed body area in_range is whole in
     record { stands = stands; gated = record { gate = 0; tail = []; split = new_split limit framed body area is whole; shut = λ (e : 0 ≡ 165). omega arith } }
 
--- two writes behind the gate
-pub rest_written : (a head framed : List ℕ) (limit : ℕ) → a ≡ 0 ∷ [] → head ≡ new_head limit → overwritten (overwritten a 1 head) 14 framed ≡ 0 ∷ new_rest limit framed
-rest_written a head framed limit is named =
-    ap (λ (l : List ℕ). overwritten (overwritten l 1 head) 14 framed) is
-    ∙ ap (λ (l : List ℕ). overwritten (overwritten (0 ∷ []) 1 l) 14 framed) named
-    ∙ ap (λ (l : List ℕ). overwritten l 14 framed) (overwritten_end (0 ∷ []) (new_head limit) 1 refl)
-    ∙ overwritten_end ((0 ∷ []) ++ new_head limit) framed 14 refl
+-- what is laid down
+pub laid_new : (limit : ℕ) (framed body : List ℕ) (all c : Areas) → IsLimit limit → IsFramed framed body → c ≡ laid_down limit framed all → In A (IsNew limit body) c
+laid_new limit framed body all c in_range is same = subst (In A (IsNew limit body)) (sym same) (record {
+  selected = λ (e : 65 ≡ 66). omega arith;
+  here = new_area limit framed body (165 ∷ new_rest limit framed) in_range is refl;
+})
 
--- where the selected area isn't formatted and no other is, none is
-pub all_blank : (c : Areas) → OthersAreBlank c → IsUnformatted c → AreBlank c
-all_blank c others unformed = record {
-  a = λ formed. others.a (λ selects. unformed A selects formed) formed;
-  b = λ formed. others.b (λ selects. unformed B selects formed) formed;
-}
+-- at every moment of a format
+module _ (limit : ℕ) (framed : List ℕ) (old mid new : Meaning) (all : Areas) (others : OthersAreBlank all) (unformed : IsUnformatted all)
+    (leaves : LeavesSince (IsOnTheWay limit framed all) mid new) where
+  blank : AreBlank all
+  blank = all_blank all others unformed
+
+  pub format_since : (body : List ℕ) → IsLimit limit → IsFramed framed body → (c : Areas) → new.since mid.moment c → IsUnformatted c ⊎ In A (IsNew limit body) c
+  format_since body in_range is c since =
+      ⊎_elim (λ (none : AreBlank c). inl (blank_unformatted c none))
+      (λ (whole : IsWhole limit framed c). inr (record { selected = whole.here.selected; here = new_area limit framed body c.a in_range is whole.here.here }))
+      (way limit framed all c blank (leaves c since))
+
+  pub others_since : LeavesSince OthersAreBlank mid new
+  others_since c since = ⊎_elim (blank_others c) (whole_others limit framed c) (way limit framed all c blank (leaves c since))

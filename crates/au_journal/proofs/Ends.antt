@@ -37,6 +37,9 @@ module _ (a b x y : List ℕ) (small : length (spelled b ++ y) < 2 ^ 64) (same :
       (sym (take_at (spelled a) x (8 + length a) (length-spelled a)) ∙ ap (λ (l : List ℕ). take (8 + length a) l) same ∙ take_at (spelled b) y (8 + length a) there)
       ∙ body_of b
 
+pub spelled_once : (a b x y : List ℕ) → length (spelled b ++ y) < 2 ^ 64 → spelled a ++ x ≡ spelled b ++ y → (a ≡ b) × (x ≡ y)
+spelled_once a b x y small same = (body_same a b x y small same, behind_same a b x y small same)
+
 -- frames and what comes behind them, where that isn't an open gate
 frames_once : (bodies others : List (List ℕ)) (rest more : List ℕ) → IsShut rest → IsShut more → length (flat_map frame others ++ more) < 2 ^ 64
     → flat_map frame bodies ++ rest ≡ flat_map frame others ++ more → (bodies ≡ others) × (rest ≡ more)

@@ -1,6 +1,6 @@
 pub mod Created
 pub mod Ends
-pub mod Holding
+pub mod Flipped
 pub mod Leaving
 pub mod Lists
 pub mod Pieces

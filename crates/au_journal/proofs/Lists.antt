@@ -1,5 +1,5 @@
 -- What a torn write leaves of an area, and what a whole one makes of it.
-use Rattle.std.proofs.Common.{◌≡◌, ℕ, ◌+◌, ◌<◌, ◌≤◌, List, [], ◌∷◌, ◌++◌, length, take, drop, get_or, sym, ◌∙◌, ap, arith, append_assoc, length-append, length-drop, take-append-drop}
+use Rattle.std.proofs.Common.{◌≡◌, ℕ, ◌+◌, ◌-◌, ◌<◌, ◌≤◌, List, [], ◌∷◌, ◌++◌, length, take, drop, get_or, sym, ◌∙◌, ap, arith, append_assoc, length-append, length-drop, length-take, take-append-drop, drop-drop}
 use Rattle.std.proofs.lemmas.List.{take_at, drop_at, drop_more, append-nil}
 use Rattle.au_io.specs.Areas.{overwritten, Torn}
 use Rattle.au_journal.specs.Images.{Closed, Staged, Doubted, TornEnd}
@@ -120,3 +120,36 @@ module _ (front : List ℕ) (used : ℕ) (place : used ≡ length front) where
     split = ap (λ (l : List ℕ). l ++ (0 ∷ []) ++ drop (used + 1) d) (take_end d end) ∙ append_assoc front (0 ∷ []) (drop (used + 1) d);
     shut = omega arith;
   }
+
+-- the framed bytes behind the gate, and then the gate
+pub frame_over : (a framed : List ℕ) (used : ℕ) → used < length a → overwritten (overwritten a (used + 1) framed) used (165 ∷ []) ≡ overwritten a used (165 ∷ framed)
+frame_over a framed used short =
+    let front = take used a in
+    let place : used ≡ length front = omega (arith, short, length-take used a) in
+    let gate = get_or a used 0 in
+    let split : a ≡ front ++ gate ∷ drop (used + 1) a = sym (take-append-drop used a) ∙ ap (λ (l : List ℕ). front ++ l) (drop_more a used 0 short) in
+    let mid = overwritten a (used + 1) framed in
+    let tail = framed ++ drop (used + 1 + length framed) a in
+    let split_mid : mid ≡ front ++ gate ∷ tail =
+    append_assoc (take (used + 1) a) framed (drop (used + 1 + length framed) a)
+    ∙ ap (λ (l : List ℕ). l ++ tail) (take_gate front used place a gate (drop (used + 1) a) split) ∙ append_assoc front (gate ∷ []) tail in
+    ap (λ (l : List ℕ). l ++ (165 ∷ []) ++ drop (used + 1) mid) (take_front front used place mid gate tail split_mid)
+    ∙ ap (λ (l : List ℕ). (front ++ 165 ∷ []) ++ l) (drop_gate front used place mid gate tail split_mid)
+    ∙ append_assoc front (165 ∷ []) tail
+    ∙ ap (λ (n : ℕ). front ++ 165 ∷ (framed ++ drop n a)) (let same : used + 1 + length framed ≡ used + length (165 ∷ framed) = omega arith in same)
+    ∙ sym (append_assoc front (165 ∷ framed) (drop (used + length (165 ∷ framed)) a))
+
+-- what is written over a byte that was written at that place
+pub over_again : (a bytes : List ℕ) (used : ℕ) → used ≤ length a → 1 ≤ length bytes → overwritten (overwritten a used (0 ∷ [])) used bytes ≡ overwritten a used bytes
+over_again a bytes used short some =
+    let front = take used a in
+    let place : used ≡ length front = omega (arith, short, length-take used a) in
+    let mid = overwritten a used (0 ∷ []) in
+    let tail = drop (used + 1) a in
+    let split : mid ≡ front ++ 0 ∷ tail = append_assoc front (0 ∷ []) tail in
+    let n = length bytes in
+    ap (λ (l : List ℕ). l ++ bytes ++ drop (used + n) mid) (take_front front used place mid 0 tail split)
+    ∙ ap (λ (l : List ℕ). (front ++ bytes) ++ l)
+    (ap (λ (k : ℕ). drop k mid) (let same : used + n ≡ (used + 1) + (n - 1) = omega (arith, some) in same) ∙ sym (drop-drop (n - 1) (used + 1) mid)
+    ∙ ap (λ (l : List ℕ). drop (n - 1) l) (drop_gate front used place mid 0 tail split) ∙ drop-drop (n - 1) (used + 1) a
+    ∙ ap (λ (k : ℕ). drop k a) (let same : (used + 1) + (n - 1) ≡ used + n = omega (arith, some) in same))

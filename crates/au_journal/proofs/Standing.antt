@@ -1,12 +1,12 @@
 -- What the states between two calls stand for.
-use Rattle.std.proofs.Common.{◌≡◌, ◌≢◌, inl, inr, ℕ, ◌+◌, ◌<◌, Bool, true, false, List, [], ◌∷◌, ◌++◌, length, refl, sym, ◌∙◌, ap, arith, append_assoc, length-append}
+use Rattle.std.proofs.Common.{◌≡◌, ◌≢◌, ◌⊎◌, inl, inr, ℕ, ◌+◌, ◌<◌, Bool, true, false, List, [], ◌∷◌, ◌++◌, length, refl, sym, ◌∙◌, ap, arith, append_assoc, length-append}
 use Rattle.std.proofs.lemmas.Bool.{cases_eq}
 use Rattle.std.proofs.lemmas.List.{append-nil}
 use Rattle.std.proofs.lemmas.List.Concat.{flat_map-append}
 use Rattle.std.specs.Int.{w64, to_be_bytes}
 use Rattle.std.specs.List.{flat_map}
 use Rattle.au_journal.specs.Frames.{spelled, frame, header, front, framed_of, IsLimit, AreSome, IsShut, IsOpen, Stands}
-use Rattle.au_journal.specs.Images.{Closed, Doubted, EndsIn, MayStandFor, StandsForOr, StandsGated}
+use Rattle.au_journal.specs.Images.{Closed, Doubted, EndsIn, StandsAt, StandsGated}
 
 pub front-push : (limit : ℕ) (bodies : List (List ℕ)) (body : List ℕ) → front limit (bodies ++ body ∷ []) ≡ front limit bodies ++ 165 ∷ spelled body
 unfolding front
@@ -54,10 +54,11 @@ module _ (limit : ℕ) (bodies : List (List ℕ)) (in_range : IsLimit limit) (so
   pub closed_gated : (c : List ℕ) → Closed F c → StandsGated limit bodies c
   closed_gated c closed = record { stands = closed_stands c closed; gated = closed }
 
-  pub closed_or : (body c : List ℕ) → Closed F c → StandsForOr limit bodies body c
-  closed_or body c closed = inl (closed_gated c closed)
+  pub closed_at : (bare : Bool) (c : List ℕ) → Closed F c → StandsAt bare limit bodies c
+  closed_at true c closed = inl (closed_gated c closed)
+  closed_at false c closed = closed_gated c closed
 
-  pub doubted_or : (body c : List ℕ) → 0 < length body → Doubted F (framed_of body) c → StandsForOr limit bodies body c
+  pub doubted_or : (body c : List ℕ) → 0 < length body → Doubted F (framed_of body) c → StandsGated limit bodies c ⊎ StandsGated limit (bodies ++ body ∷ []) c
   doubted_or body c more doubted =
       let whole = doubted.split ∙ append_assoc F (doubted.gate ∷ framed_of body) doubted.tail in
       elim (cases_eq doubted.gate 165) [
@@ -71,7 +72,3 @@ module _ (limit : ℕ) (bodies : List (List ℕ)) (in_range : IsLimit limit) (so
             })
         | inr shut ↦ inl (closed_gated c (record { gate = doubted.gate; tail = framed_of body ++ doubted.tail; split = whole; shut = shut }))
       ]
-
-  pub may_stand : (bare : Bool) (body c : List ℕ) → StandsForOr limit bodies body c → MayStandFor bare limit bodies body c
-  may_stand true body c stands = inl stands
-  may_stand false body c stands = stands

@@ -1,14 +1,16 @@
 -- The states between two syncs of a format, each by what every image holds.
-use Rattle.std.specs.Prelude.{◌≡◌, ◌⊎◌, ◌≤◌, ℕ, List, [], ◌∷◌, ◌++◌, take, drop}
+use Rattle.std.specs.Prelude.{◌≡◌, ◌⊎◌, ◌≤◌, ℕ, List, [], ◌∷◌, take}
 use Rattle.au_io.specs.declared.disk.Area.{Area}
-use Rattle.au_io.specs.declared.disk.Area.TheVariants.{A, B}
-use Rattle.au_io.specs.Areas.{Areas, area_of}
+use Rattle.au_io.specs.declared.disk.Area.TheVariants.{Head, A, B}
+use Rattle.au_io.specs.Areas.{Areas, area_of, with_area, Torn, Cut, On}
 use Rattle.au_io.specs.Disk.{Meaning}
 use Rattle.au_io.specs.Faults.{HasRisen}
+use Rattle.au_io.specs.Moments.{Leaves}
 use Rattle.au_journal.specs.declared.formatting.Formatting.{Formatting}
 use Rattle.au_journal.specs.declared.formatting.Formatting.TheVariants as format
-use Rattle.au_journal.specs.Frames.{header}
+use Rattle.au_journal.specs.Frames.{new_rest}
 use Rattle.au_journal.specs.Images.{Selects, In, StandsGated}
+use Rattle.au_journal.specs.Seats.{with_letter}
 use Rattle.au_journal.specs.Walk.{IsFormatted, IsUnformatted}
 
 abbrev pub IsBlank : List ℕ → Type 0
@@ -23,36 +25,42 @@ pub record OthersAreBlank (all : Areas) : Type 0 where
   pub a : (Selects A all.head → ⊥) → IsBlank all.a
   pub b : (Selects B all.head → ⊥) → IsBlank all.b
 
--- no area is formatted
-pub record AreBlank (all : Areas) : Type 0 where
-  pub a : IsBlank all.a
-  pub b : IsBlank all.b
+-- a crash leaves these areas, and nothing else
+abbrev pub IsOnly : Areas → Meaning → Type 0
+IsOnly all m = Leaves (λ c. c ≡ all) m
 
--- area A is cut to nothing, and B isn't formatted
-pub record ACut (all : Areas) : Type 0 where
-  pub a : all.a ≡ []
-  pub b : IsBlank all.b
+-- The states of a format over areas that are all synced. Each is reached by a sync, and is then the only image.
+-- A cut: area A is empty
+abbrev pub a_cut : Areas → Areas
+a_cut all = with_area A [] all
 
--- the first 13 bytes behind the gate of a new area: the name of the format, the limit and an open gate
-abbrev pub new_head : ℕ → List ℕ
-new_head limit = drop 1 (header limit) ++ 165 ∷ []
+-- A selected: and Head has the letter of A
+abbrev pub a_selected : Areas → Areas
+a_selected all = with_letter A (a_cut all)
 
--- what stands behind the gate of a new area
-abbrev pub new_rest : ℕ → List ℕ → List ℕ
-new_rest limit framed = new_head limit ++ framed
+-- Gate shut: A has a closed gate and nothing else
+abbrev pub gate_shut : Areas → Areas
+gate_shut all = with_area A (0 ∷ []) (a_selected all)
+
+-- Rest written: A has all that a new area has, behind a closed gate
+abbrev pub rest_written : ℕ → List ℕ → Areas → Areas
+rest_written limit framed all = with_area A (0 ∷ new_rest limit framed) (a_selected all)
+
+-- and at last behind an open one
+abbrev pub laid_down : ℕ → List ℕ → Areas → Areas
+laid_down limit framed all = with_area A (165 ∷ new_rest limit framed) (a_selected all)
 
 -- the area begins with a closed gate
 abbrev pub IsGateShut : List ℕ → Type 0
 IsGateShut area = take 1 area ≡ 0 ∷ []
 
--- a gate that may be any, and these bytes
-pub record HasRest (rest area : List ℕ) : Type 0 where
-  pub gate : ℕ
-  pub split : area ≡ gate ∷ rest
-
--- while a format goes on: the selected area isn't formatted, or A is selected and whole
-abbrev pub IsOnTheWay : List ℕ → Areas → Type 0
-IsOnTheWay rest all = IsUnformatted all ⊎ In A (λ area. area ≡ 165 ∷ rest) all
+-- what a crash leaves between two of these states: the step from the one to the other made in part
+pub data IsOnTheWay (limit : ℕ) (framed : List ℕ) (all c : Areas) : Type 0 where
+  cutting : On A (Cut 0) all c → IsOnTheWay limit framed all c
+  selecting : On Head (Torn 0 1) (a_cut all) c → IsOnTheWay limit framed all c
+  shutting : On A (Torn 0 1) (a_selected all) c → IsOnTheWay limit framed all c
+  writing : On A (λ _ new. IsGateShut new) (gate_shut all) c → IsOnTheWay limit framed all c
+  opening : On A (Torn 0 1) (rest_written limit framed all) c → IsOnTheWay limit framed all c
 
 -- a new area: it stands for its one body, and a closed gate comes behind
 abbrev pub IsNew : ℕ → List ℕ → List ℕ → Type 0

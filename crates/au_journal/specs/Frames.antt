@@ -1,5 +1,5 @@
 -- Frames in an area: a header, then each frame behind an open gate, then a gate that isn't open. All numbers are big-endian.
-use Rattle.std.specs.Prelude.{◌≡◌, ◌≢◌, ◌<◌, ◌≤◌, ℕ, List, [], ◌∷◌, ◌++◌, length, codes, ⊤}
+use Rattle.std.specs.Prelude.{◌≡◌, ◌≢◌, ◌<◌, ◌≤◌, ℕ, List, [], ◌∷◌, ◌++◌, length, drop, codes, ⊤}
 use Rattle.std.specs.Int.{w32, w64, to_be_bytes}
 use Rattle.std.specs.List.{flat_map}
 
@@ -22,6 +22,14 @@ front limit bodies = header limit ++ flat_map frame bodies
 -- framed bytes of a body: its length, the body and a closed gate
 abbrev pub framed_of : List ℕ → List ℕ
 framed_of body = spelled body ++ 0 ∷ []
+
+-- the first 13 bytes behind the gate of a new area: the name of the format, the limit and an open gate
+abbrev pub new_head : ℕ → List ℕ
+new_head limit = drop 1 (header limit) ++ 165 ∷ []
+
+-- what stands behind the gate of a new area
+abbrev pub new_rest : ℕ → List ℕ → List ℕ
+new_rest limit framed = new_head limit ++ framed
 
 -- the limits that an area may have
 abbrev pub IsLimit : ℕ → Type 0

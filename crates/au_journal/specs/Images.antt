@@ -3,6 +3,7 @@ use Rattle.std.specs.Prelude.{◌≡◌, ◌≢◌, ◌⊎◌, ◌≤◌, ℕ, B
 use Rattle.au_io.specs.declared.disk.Area.{Area}
 use Rattle.au_io.specs.declared.disk.Area.TheVariants.{Head, A, B}
 use Rattle.au_io.specs.Areas.{Areas, area_of}
+use Rattle.au_io.specs.Disk.{Meaning}
 use Rattle.au_journal.specs.Frames.{front, Stands}
 
 -- a closed gate stands behind the front
@@ -16,10 +17,6 @@ pub record Closed (front area : List ℕ) : Type 0 where
 pub record StandsGated (limit : ℕ) (bodies : List (List ℕ)) (area : List ℕ) : Type 0 where
   pub stands : Stands limit bodies area
   pub gated : Closed (front limit bodies) area
-
--- the area holds these bodies, or those and this one, and a closed gate stands behind them
-abbrev pub StandsForOr : ℕ → List (List ℕ) → List ℕ → List ℕ → Type 0
-StandsForOr limit bodies body area = StandsGated limit bodies area ⊎ StandsGated limit (bodies ++ body ∷ []) area
 
 -- behind the closed gate stand these bytes
 pub record Staged (front bytes area : List ℕ) : Type 0 where
@@ -58,7 +55,31 @@ pub record In (area : Area) (P : List ℕ → Type 0) (all : Areas) : Type 0 whe
   pub selected : Selects area all.head
   pub here : P (area_of area all)
 
--- the area holds the bodies, or those and this one; where it ended behind the bodies, a byte of a gate may stand there
-abbrev pub MayStandFor : Bool → ℕ → List (List ℕ) → List ℕ → List ℕ → Type 0
-MayStandFor true limit bodies body area = StandsForOr limit bodies body area ⊎ TornEnd (front limit bodies) area
-MayStandFor false limit bodies body area = StandsForOr limit bodies body area
+-- the area holds the bodies, and a closed gate stands behind them; where it ended behind them, nothing may, or one byte of a gate
+abbrev pub StandsAt : Bool → ℕ → List (List ℕ) → List ℕ → Type 0
+StandsAt true limit bodies area = StandsGated limit bodies area ⊎ TornEnd (front limit bodies) area
+StandsAt false limit bodies area = StandsGated limit bodies area
+
+-- the selected area is this one and holds the bodies, or it is that one and holds the others
+abbrev pub MayStandFor : Bool → ℕ → Area → List (List ℕ) → Area → List (List ℕ) → Areas → Type 0
+MayStandFor bare limit area bodies there others all = In area (StandsAt bare limit bodies) all ⊎ In there (StandsGated limit others) all
+
+-- the other of the two areas that have frames
+abbrev pub other_of : Area → Area
+other_of Head = Head
+other_of A = B
+other_of B = A
+
+-- the byte of Head by which an area is selected
+abbrev pub letter_of : Area → ℕ
+letter_of Head = 65
+letter_of A = 65
+letter_of B = 66
+
+-- a crash leaves of the area what it reads
+abbrev pub IsSafe : Area → Meaning → Type 0
+IsSafe area m = (c : Areas) → m.images c → area_of area c ≡ area_of area m.reads
+
+-- any bytes in place of any
+abbrev pub AnyBytes : List ℕ → List ℕ → Type 0
+AnyBytes old new = ⊤

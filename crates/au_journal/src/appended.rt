@@ -5,7 +5,7 @@
 pub enum Appended {
     /// The body stands, and is safe from a crash.
     Done,
-    /// The disk failed. The body is in doubt until a mend succeeds.
+    /// The disk failed. What was written is in doubt until a mend succeeds.
     Disk,
     /// The area would be `needed` bytes long, with one gate behind the frame, over `limit`.
     Full { needed: u64, limit: u64 },

@@ -1,11 +1,11 @@
 //! The steps of an append, each over one state of the area.
-ghost use Rattle.std.specs.Prelude.{◌≡◌, ◌<◌, ◌≤◌, ◌+◌, ◌^◌, ◌++◌, [], ◌∷◌, List, ℕ, true, false, length, IfOk, IfErr, MatchResult};
+ghost use Rattle.std.specs.Prelude.{◌≡◌, ◌<◌, ◌≤◌, ◌+◌, ◌^◌, ◌++◌, [], ◌∷◌, List, ℕ, true, false, length, IfOk, IfErr, OnOk, MatchResult};
 ghost use Rattle.au_io.specs.Areas.{area_of};
 ghost use Rattle.au_io.specs.Disk.{Passes};
 ghost use Rattle.au_io.specs.Moments.{LeavesSince};
 ghost use Rattle.au_journal.specs.Causes.{SeatCause};
-ghost use Rattle.au_journal.specs.Images.{In, MayStandFor};
-ghost use Rattle.au_journal.specs.Seats.{IsSettled, IsDoubted, IsFramed, advanced, left_in, IsUnmoved};
+ghost use Rattle.au_journal.specs.Images.{IsSafe};
+ghost use Rattle.au_journal.specs.Seats.{AppendDoubts, IsSettled, IsDoubted, IsFramed, MayLeave, advanced, left_in, IsUnmoved, with_frame, with_gate};
 
 use crate::gates::{close_gate, open_gate, stage};
 use crate::{Doubt, Seat};
@@ -19,10 +19,13 @@ pub(crate) fn add_frame<D: Disk>(disk: &mut D, seat: Seat, framed: &[u8]) -> Res
     ensures appended { D.told → (bodies : List (List ℕ)) (body : List ℕ) → IsFramed framed.now body → IsSettled (D.meaning disk.old) seat bodies
         → IfOk result (λ new. IsSettled (D.meaning disk.new) new (bodies ++ body ∷ [])) }
     ensures doubted { D.told → (bodies : List (List ℕ)) (body : List ℕ) → IsFramed framed.now body → IsSettled (D.meaning disk.old) seat bodies
-        → IfErr result (λ new. IsDoubted (D.meaning disk.new) new bodies body) }
+        → IfErr result (λ new. IsDoubted (D.meaning disk.new) new bodies (bodies ++ body ∷ [])) }
     ensures any_moment { D.told → (bodies : List (List ℕ)) (body : List ℕ) → IsFramed framed.now body → IsSettled (D.meaning disk.old) seat bodies
-        → LeavesSince (In seat.area (MayStandFor false seat.limit bodies body)) (D.meaning disk.old) (D.meaning disk.new) }
+        → LeavesSince (MayLeave seat bodies seat.area (bodies ++ body ∷ [])) (D.meaning disk.old) (D.meaning disk.new) }
+    ensures reads { D.told → OnOk result ((D.meaning disk.new).reads ≡ with_frame seat framed.now (D.meaning disk.old).reads) }
+    ensures safe { OnOk result (IsSafe seat.area (D.meaning disk.new)) }
     ensures advances { IfOk result (λ new. new ≡ advanced (length framed.now) seat) }
+    ensures in_doubt { IfErr result (λ new. AppendDoubts new.doubt) }
     ensures rests { IfErr result (IsUnmoved seat) }
     ensures short { IfOk result (λ new. new.used ≤ 2 ^ 62) }
     ensures time { Passes (D.meaning disk.old) (D.meaning disk.new) }
@@ -57,11 +60,13 @@ pub(crate) fn close_end<D: Disk>(disk: &mut D, seat: Seat) -> Result<Seat, Seat>
     requires stands { D.told → (bodies : List (List ℕ)) × IsSettled (D.meaning disk.old) seat bodies }
     ensures closed { D.told → (bodies : List (List ℕ)) → IsSettled (D.meaning disk.old) seat bodies
         → IfOk result (λ new. IsSettled (D.meaning disk.new) new bodies) }
-    ensures doubted { D.told → (bodies : List (List ℕ)) (body : List ℕ) → IsSettled (D.meaning disk.old) seat bodies
-        → IfErr result (λ new. IsDoubted (D.meaning disk.new) new bodies body) }
-    ensures any_moment { D.told → (bodies : List (List ℕ)) (body : List ℕ) → IsSettled (D.meaning disk.old) seat bodies
-        → LeavesSince (In seat.area (MayStandFor true seat.limit bodies body)) (D.meaning disk.old) (D.meaning disk.new) }
+    ensures doubted { D.told → (bodies others : List (List ℕ)) → IsSettled (D.meaning disk.old) seat bodies
+        → IfErr result (λ new. IsDoubted (D.meaning disk.new) new bodies others) }
+    ensures any_moment { D.told → (bodies others : List (List ℕ)) → IsSettled (D.meaning disk.old) seat bodies
+        → LeavesSince (MayLeave seat bodies seat.area others) (D.meaning disk.old) (D.meaning disk.new) }
+    ensures reads { D.told → OnOk result ((D.meaning disk.new).reads ≡ with_gate seat (D.meaning disk.old).reads) }
     ensures advances { IfOk result (λ new. new ≡ advanced 0 seat) }
+    ensures in_doubt { IfErr result (λ new. AppendDoubts new.doubt) }
     ensures rests { IfErr result (λ new. new ≡ left_in Doubt.Edge true seat) }
     ensures time { Passes (D.meaning disk.old) (D.meaning disk.new) }
     ensures cost { (D.meaning disk.new).written ≤ (D.meaning disk.old).written + 1 }

@@ -9,14 +9,12 @@ ghost use Rattle.au_journal.specs.Images.{Selects};
 ghost use Rattle.au_journal.specs.Walk.{IsFormatted, IsNamed, HeadDamage, IsStill, IsUnformatted};
 
 use crate::gates::OPEN;
+use crate::synced::LETTER_B;
 use au_base::limits::{JOURNAL_LIMIT_MAX, JOURNAL_LIMIT_MIN};
 use au_io::{Area, Disk, Failed};
 
 /// The length of an area's head: its gate, the name of the format, the limit and the first gate.
 pub(crate) const HEAD_BYTES: usize = 14;
-
-/// The letter that selects area B.
-const LETTER_B: u8 = 0x42;
 
 /// Syncs the three areas.
 pub(crate) fn sync_all<D: Disk>(disk: &mut D) -> Result<(), Failed>

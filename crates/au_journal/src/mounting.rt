@@ -1,5 +1,5 @@
 //! Mounting a disk, and walking over what stands there.
-ghost use Rattle.std.specs.Prelude.{◌≡◌, ◌≤◌, ◌+◌, ◌^◌, ◌++◌, [], ◌∷◌, ℕ, List, Option, length, take, false, true, IfOk, IfErr, OnOk, OnErr, MatchOption, MatchResult};
+ghost use Rattle.std.specs.Prelude.{◌≡◌, ◌≢◌, ◌≤◌, ◌+◌, ◌^◌, ◌++◌, [], ◌∷◌, ℕ, List, Option, length, take, false, true, IfOk, IfErr, OnOk, OnErr, MatchOption, MatchResult};
 ghost use Rattle.au_io.specs.Areas.{area_of};
 ghost use Rattle.au_io.specs.Disk.{Stays, HasCause};
 ghost use Rattle.au_journal.specs.Causes.{FaultCause, WalkCause};
@@ -45,6 +45,7 @@ impl<D: Disk> Journal<D> {
             (λ n. IsBefore (D.meaning (disk_of self.new)) (seat_of self.new) n bodies)) }
         ensures why { D.told → (bodies : List (List ℕ)) (walked : IsWalked (D.meaning (disk_of self.old)) (seat_of self.old) bodies)
             → IfErr result (WalkSays walked.rest (seat_of self.old).area (seat_of self.old).used) }
+        ensures never_unformatted { IfErr result (λ why. why ≢ MountFault.Unformatted) }
         ensures ended { IfOk result (λ found. MatchOption found ((seat_of self.new).ended ≡ true) (λ n. (seat_of self.new).reach ≡ (seat_of self.new).used + 9 + n)) }
         ensures still { OnErr result (seat_of self.new ≡ seat_of self.old) }
         ensures same { ((seat_of self.new).area ≡ (seat_of self.old).area) × ((seat_of self.new).limit ≡ (seat_of self.old).limit)
@@ -84,6 +85,7 @@ impl<D: Disk> Journal<D> {
             → OnOk result (IsWalked (D.meaning (disk_of self.new)) (seat_of self.new) (bodies ++ room.new ∷ [])) }
         ensures why { D.told → (bodies : List (List ℕ)) → IsBefore (D.meaning (disk_of self.old)) (seat_of self.old) (length room.old) bodies
             → IfErr result (λ why. why ≡ MountFault.Disk) }
+        ensures never_unformatted { IfErr result (λ why. why ≢ MountFault.Unformatted) }
         ensures still { OnErr result (seat_of self.new ≡ seat_of self.old) }
         ensures same { ((seat_of self.new).area ≡ (seat_of self.old).area) × ((seat_of self.new).limit ≡ (seat_of self.old).limit)
             × ((seat_of self.new).doubt ≡ (seat_of self.old).doubt) }
@@ -115,11 +117,19 @@ impl<D: Disk> Journal<D> {
         self.seat.used
     }
 
-    /// The present area: the one that the mount found selected.
+    /// The present area: the one that the mount found selected; each `flip` that is done changes it to
+    /// the other.
     pub fn area(&self) -> Area
         ensures { result ≡ (seat_of self.now).area }
     {
         self.seat.area
+    }
+
+    /// How far the last append or flip came, where it failed and no mend has succeeded since.
+    pub fn doubt(&self) -> Doubt
+        ensures { result ≡ (seat_of self.now).doubt }
+    {
+        self.seat.doubt
     }
 
     /// The disk, as it is.

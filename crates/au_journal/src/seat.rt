@@ -9,7 +9,7 @@ pub struct Seat {
     pub(crate) area: Area,
     /// Its limit in bytes.
     pub(crate) limit: u32,
-    /// Its size when it was mounted.
+    /// The size of the mounted area when it was mounted.
     pub(crate) size: u64,
     /// The used length: where the next gate is.
     pub(crate) used: u64,
@@ -19,6 +19,6 @@ pub struct Seat {
     pub(crate) ended: bool,
     /// The area ends at the used length, with no gate there.
     pub(crate) bare: bool,
-    /// How far the last append came.
+    /// How far the last append or flip came.
     pub(crate) doubt: Doubt,
 }

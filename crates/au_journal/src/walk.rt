@@ -1,5 +1,5 @@
 //! One step of a walk over the frames of an area.
-ghost use Rattle.std.specs.Prelude.{◌≡◌, ◌≤◌, ◌+◌, ◌^◌, ℕ, length, drop, take, IfOk, IfErr, MatchOption, ⊤};
+ghost use Rattle.std.specs.Prelude.{◌≡◌, ◌≢◌, ◌≤◌, ◌+◌, ◌^◌, ℕ, length, drop, take, IfOk, IfErr, MatchOption, ⊤};
 ghost use Rattle.std.specs.Int.{w64, to_be_bytes};
 ghost use Rattle.au_io.specs.Areas.{area_of};
 ghost use Rattle.au_io.specs.Disk.{Stays};
@@ -31,6 +31,7 @@ pub(crate) fn length_at<D: Disk>(
         (λ n. HasFrame n (drop used (area_of area (D.meaning disk.old).reads)))) }
     ensures fits { IfOk result (λ found. MatchOption found ⊤ (λ n. used + 9 + n ≤ size)) }
     ensures why { D.told → size ≡ length (area_of area (D.meaning disk.old).reads) → IfErr result (WalkSays (drop used (area_of area (D.meaning disk.old).reads)) area used) }
+    ensures never_unformatted { IfErr result (λ why. why ≢ MountFault.Unformatted) }
     ensures shown { D.told → Shows window.new (area_of area (D.meaning disk.new).reads) }
     ensures stays { Stays (D.meaning disk.old) (D.meaning disk.new) }
     ensures cause { WalkCause result (D.faults disk.old) (D.faults disk.new) }

@@ -16,10 +16,11 @@ use Rattle.au_engine.specs.History.{AreSteps, Entry}
 use Rattle.au_engine.specs.State.{State}
 use Rattle.au_store.specs.Recovery.{RecoversTo, RecoversToEither, ReplayedTo}
 use Rattle.au_store.specs.Standing.{Holds, IsInDoubt}
-use Rattle.au_store.specs.Steps.{IsAfter, StepLeaves, event_at}
-use Rattle.au_store.specs.Stored.{IsKeptOn, IsStoodOn}
+use Rattle.au_store.specs.Doubts.{IsAfter, IsStoodOn}
+use Rattle.au_store.specs.Steps.{StepLeaves, event_at}
+use Rattle.au_store.specs.Stored.{IsKeptOn}
 use Rattle.au_main.specs.Answers.{Answer, Made, Unmended, said_of, steps_of}
-use Rattle.au_main.specs.OnDisk.{AreFaults, IsTried, CameBy, RecoversAlong, IsUncertain, RecoversAfter, StandsFor, IsOnDisk, MakesOnDisk, StepsOnDisk}
+use Rattle.au_main.specs.OnDisk.{AreUnmended, IsTried, CameBy, RecoversAlong, IsUncertain, RecoversAfter, StandsFor, IsOnDisk, MakesOnDisk, StepsOnDisk}
 
 -- ---- what a run came by
 
@@ -53,37 +54,32 @@ CameBy-tried m n answers client ask reading said kept reached is =
 
 -- ---- the step in doubt
 
--- a fault is no step
-no_step : (a : Answer) → said_of a ≡ Disk → steps_of a ≡ []
-no_step (Made client ask reading (Replied reply)) is = absurd (let no : Replied reply ≡ Disk = is in cc)
-no_step (Made client ask reading Disk) is = refl
-no_step (Made client ask reading (Full needed limit)) is = refl
-no_step (Made client ask reading Memory) is = refl
-no_step (Unmended client ask) is = refl
+-- what couldn't mend is no step
+no_steps : (answers : List Answer) → AreUnmended answers → flat_map steps_of answers ≡ []
+no_steps [] unmended = refl
+no_steps (Made client ask reading said ∷ answers) unmended = absurd unmended
+no_steps (Unmended client ask ∷ answers) unmended = no_steps answers unmended
 
-no_steps : (answers : List Answer) → AreFaults answers → flat_map steps_of answers ≡ []
-no_steps [] faults = refl
-no_steps (a ∷ answers) faults = ap (λ (l : List Entry). l ++ flat_map steps_of answers) (no_step a faults.0) ∙ no_steps answers faults.1
+AreUnmended-push : (answers : List Answer) (client : ClientNo) (ask : Ask) → AreUnmended answers → AreUnmended (answers ++ Unmended client ask ∷ [])
+AreUnmended-push [] client ask unmended = tt
+AreUnmended-push (Made other first reading said ∷ answers) client ask unmended = absurd unmended
+AreUnmended-push (Unmended other first ∷ answers) client ask unmended = AreUnmended-push answers client ask unmended
 
-AreFaults-push : (answers : List Answer) (a : Answer) → AreFaults answers → said_of a ≡ Disk → AreFaults (answers ++ a ∷ [])
-AreFaults-push [] a faults is = (is, tt)
-AreFaults-push (first ∷ answers) a faults is = (faults.0, AreFaults-push answers a faults.1 is)
-
-IsUncertain-more : (m : State) (answers : List Answer) (a : Answer) (kept : Kept) → IsUncertain m answers kept → said_of a ≡ Disk → IsUncertain m (answers ++ a ∷ []) kept
-IsUncertain-more m answers a kept un is = record {
+IsUncertain-more : (m : State) (answers : List Answer) (client : ClientNo) (ask : Ask) (kept : Kept) → IsUncertain m answers kept → IsUncertain m (answers ++ Unmended client ask ∷ []) kept
+IsUncertain-more m answers client ask kept un = let a = Unmended client ask in record {
   before = un.before;
   client = un.client;
   ask = un.ask;
   reading = un.reading;
   since = un.since ++ a ∷ [];
   split = ap (λ (l : List Answer). l ++ a ∷ []) un.split ∙ append_assoc un.before (Made un.client un.ask un.reading Disk ∷ un.since) (a ∷ []);
-  faults = AreFaults-push un.since a un.faults is;
+  unmended = AreUnmended-push un.since client ask un.unmended;
   is_after = un.is_after;
 }
 
 IsUncertain-last : (m : State) (answers : List Answer) (client : ClientNo) (ask : Ask) (reading : ℕ) (kept : Kept) → IsAfter m (event_at client ask reading) kept
     → IsUncertain m (answers ++ Made client ask reading Disk ∷ []) kept
-IsUncertain-last m answers client ask reading kept is = record { before = answers; client = client; ask = ask; reading = reading; since = []; split = refl; faults = tt; is_after = is }
+IsUncertain-last m answers client ask reading kept is = record { before = answers; client = client; ask = ask; reading = reading; since = []; split = refl; unmended = tt; is_after = is }
 
 -- the run came by what is kept after the step in doubt
 CameBy-uncertain : (m n : State) (answers : List Answer) (kept : Kept) → AreSteps m (flat_map steps_of answers) n → IsUncertain n answers kept → CameBy m answers kept
@@ -91,7 +87,7 @@ CameBy-uncertain m n answers kept reached un =
     let made = Made un.client un.ask un.reading Disk in
     let none : flat_map steps_of answers ≡ flat_map steps_of un.before =
     ap (λ (l : List Answer). flat_map steps_of l) un.split ∙ flat_map-append steps_of un.before (made ∷ un.since)
-    ∙ ap (λ (l : List Entry). flat_map steps_of un.before ++ l) (no_steps un.since un.faults) ∙ append-nil (flat_map steps_of un.before) in
+    ∙ ap (λ (l : List Entry). flat_map steps_of un.before ++ l) (no_steps un.since un.unmended) ∙ append-nil (flat_map steps_of un.before) in
     record {
       before = un.before;
       rest = made ∷ un.since;
@@ -132,13 +128,13 @@ module _ (m n o : State) (answers : List Answer) (first old new : Meaning) (befo
       disk.stands.which
 
   -- what was in doubt still is, or nothing was
-  doubt_stays : (a : Answer) → said_of a ≡ Disk → o ≡ n → IsStoodOn n.kept disk.stands.doubted new after → StandsFor o (answers ++ a ∷ []) new after
-  doubt_stays a is same stood = subst (λ (s : State). StandsFor s (answers ++ a ∷ []) new after) (sym same) (record {
+  doubt_stays : (client : ClientNo) (ask : Ask) → o ≡ n → IsStoodOn n.kept disk.stands.doubted new after → StandsFor o (answers ++ Unmended client ask ∷ []) new after
+  doubt_stays client ask same stood = subst (λ (s : State). StandsFor s (answers ++ Unmended client ask ∷ []) new after) (sym same) (record {
     doubted = disk.stands.doubted;
     stood = stood;
     which = ⊎_elim
         (λ (same : disk.stands.doubted ≡ n.kept). inl same)
-        (λ (un : IsUncertain n answers disk.stands.doubted). inr (IsUncertain-more n answers a disk.stands.doubted un is))
+        (λ (un : IsUncertain n answers disk.stands.doubted). inr (IsUncertain-more n answers client ask disk.stands.doubted un))
         disk.stands.which;
   })
 
@@ -190,10 +186,7 @@ module _ (m n o : State) (answers : List Answer) (first old new : Meaning) (befo
   a_fault client ask reading same makes = record {
     time = both_pass first old new disk.time time;
     any_moment = moments (Made client ask reading Disk) (made_moments client ask reading Disk (makes.any_moment disk.stands.doubted disk.stands.stood));
-    stands = ⊎_elim
-        (λ (stood : IsStoodOn n.kept disk.stands.doubted new after). doubt_stays (Made client ask reading Disk) refl same stood)
-        (λ (next : (kept : Kept) × IsAfter n (event_at client ask reading) kept × IsStoodOn n.kept kept new after). doubt_comes client ask reading next.0 same next.1 next.2)
-        (makes.doubted disk.stands.doubted disk.stands.stood refl);
+    stands = let next = makes.doubts refl in doubt_comes client ask reading next.0 same next.1 next.2;
   }
 
   -- one step more
@@ -205,7 +198,7 @@ module _ (m n o : State) (answers : List Answer) (first old new : Meaning) (befo
   IsOnDisk-more (Unmended client ask) same steps = record {
     time = both_pass first old new disk.time time;
     any_moment = moments (Unmended client ask) (unmended_moments (Unmended client ask) (steps.any_moment disk.stands.doubted disk.stands.stood));
-    stands = doubt_stays (Unmended client ask) refl (same refl) (steps.doubted disk.stands.doubted disk.stands.stood);
+    stands = doubt_stays client ask (same refl) (steps.doubted disk.stands.doubted disk.stands.stood);
   }
 
 -- at the last moment

@@ -14,8 +14,9 @@ use Rattle.au_engine.specs.Step.{Event}
 use Rattle.rec_codec.specs.declared.frame.Frame.{Frame}
 use Rattle.au_script.specs.declared.lines.ScriptLine.TheVariants as line
 use Rattle.au_script.specs.Lines.{Says, SaysNothing, SaysOneThing}
-use Rattle.au_store.specs.Steps.{Exceeds, FitsUnder, IsUnmended, StepCause, StepDoubts, StepLeaves, StepMoves, StepsBy, event_at}
-use Rattle.au_store.specs.Stored.{Stored, IsKeptOn, IsStoodOn}
+use Rattle.au_store.specs.Steps.{Exceeds, FitsUnder, IsTried, IsUnmended, StepCause, StepLeaves, StepMoves, StepsBy, event_at}
+use Rattle.au_store.specs.Doubts.{IsStoodOn}
+use Rattle.au_store.specs.Stored.{Stored, IsKeptOn}
 use Rattle.au_main.specs.Answers.{Made, Unmended, FitsIn, IsFaulted, ReadAll, SaidGoes, line_of, place_of, said_of}
 use Rattle.au_main.specs.Built.{IsBuilt, IsBuiltLine, IsNoScriptLine, IsScriptLine}
 use Rattle.au_main.specs.Means.{Means}
@@ -58,27 +59,26 @@ pub answers_by : {D C : Type 0} (means : Means D C) (s t : Stored D C) (client :
     → StepsBy s.state (event_at client ask t.reading) said t.state
     → StepMoves s.state (event_at client ask t.reading) t.state said s.seat t.seat
     → ((needed limit : ℕ) → said ≡ Full needed limit → Exceeds s.state (event_at client ask t.reading) s.seat needed limit)
-    → Reads (means.ticking s.clock) (means.ticking t.clock) t.reading ⊎ IsUnmended means.told means.meaning s t said
+    → IsTried means.told means.meaning means.ticking (event_at client ask t.reading) s t said ⊎ IsUnmended means.told means.meaning s t said
     → (said ≢ Disk → t.seat.doubt ≡ Settled)
     → (means.told → said ≢ Disk → IsKeptOn t.state.kept (means.meaning t.disk) t.seat)
-    → (means.told → (doubted : Kept) → IsStoodOn s.state.kept doubted (means.meaning s.disk) s.seat → said ≡ Disk → StepDoubts s.state (event_at client ask t.reading) doubted (means.meaning t.disk) t.seat)
     → (means.told → (doubted : Kept) → IsStoodOn s.state.kept doubted (means.meaning s.disk) s.seat
     → LeavesSince (StepLeaves s.state (event_at client ask t.reading) doubted) (means.meaning s.disk) (means.meaning t.disk))
     → Passes (means.meaning s.disk) (means.meaning t.disk)
     → StepCause said (means.faults s.disk) (means.faults t.disk)
     → AnswersBy means s t ask said
-answers_by means s t client ask said first step moves full (inl read) settled kept doubted leaves time cause = (
+answers_by means s t client ask said first step moves full (inl tried) settled kept leaves time cause = (
   Made client ask t.reading said,
   record {
     asks = ap (λ n. (n, ask)) first;
-    read = read_one (means.ticking s.clock) (means.ticking t.clock) t.reading read;
+    read = read_one (means.ticking s.clock) (means.ticking t.clock) t.reading tried.read;
     goes = goes_said means s t (event_at client ask t.reading) said step moves full cause;
-    on_disk = λ told. record { settled = settled; kept = kept told; doubted = doubted told; any_moment = leaves told };
+    on_disk = λ told. record { settled = settled; kept = kept told; doubts = tried.doubts told; any_moment = leaves told };
     time = time;
   },
   refl,
 )
-answers_by means s t client ask said first step moves full (inr unmended) settled kept doubted leaves time cause = (
+answers_by means s t client ask said first step moves full (inr unmended) settled kept leaves time cause = (
   Unmended client ask,
   record {
     asks = ap (λ n. (n, ask)) first;

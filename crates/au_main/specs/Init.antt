@@ -10,10 +10,10 @@ use Rattle.au_store.specs.Creating.{CreateLeaves, IsMade}
 use Rattle.au_main.specs.declared.status.Status.{Status}
 use Rattle.au_main.specs.declared.status.Status.TheVariants.{Done, Usage, ReadFault, WriteFault, DiskFault, Unformatted, Formatted, Damaged, BadLine, TooLong, LobbyFault, Memory, Worn}
 
--- the disk wasn't formatted, and it is now: where no other area was formatted, all that a crash may leave is the new store
+-- the disk wasn't formatted, and it is now: all that a crash may leave is the new store
 pub record IsCreated (told : Type 0) (password : List ℕ) (limit : ℕ) (old new : Meaning) (before now : ℕ) : Type 0 where
   pub blank : told → IsUnformatted old.reads
-  pub made : told → Leaves OthersAreBlank old → Leaves (IsMade limit (opening password)) new
+  pub made : told → Leaves (IsMade limit (opening password)) new
   pub well : now ≡ before
 
 -- the disk was formatted, and is as it was
@@ -39,8 +39,9 @@ InitTo LobbyFault told password limit old new before now = ⊥
 InitTo Worn told password limit old new before now = ⊥
 
 -- a store was to be made on the disk; a crash at any moment leaves what it could leave before, areas that aren't formatted,
--- or the new store
+-- or the new store. What isn't selected stays unformatted, so that a store that couldn't be made can be made again
 pub record HasInit {D : Type 0} (told : Type 0) (meaning : D → Meaning) (faults : D → ℕ) (status : Status) (password : List ℕ) (limit : ℕ) (disk last : D) : Type 0 where
   pub ends : InitTo status told password limit (meaning disk) (meaning last) (faults disk) (faults last)
   pub untouched : status ≡ Memory → last ≡ disk
+  pub again : told → Leaves OthersAreBlank (meaning disk) → LeavesSince OthersAreBlank (meaning disk) (meaning last)
   pub any_moment : told → Leaves OthersAreBlank (meaning disk) → LeavesSince (CreateLeaves (meaning disk) (opening password)) (meaning disk) (meaning last)

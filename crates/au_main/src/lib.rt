@@ -17,6 +17,3 @@ mod words;
 
 pub use command::top;
 pub use status::Status;
-
-#[cfg(test)]
-mod tests;

@@ -7,7 +7,7 @@ use Rattle.au_base.specs.declared.table.TableName.{TableName}
 use Rattle.au_base.specs.Actions as actions
 use Rattle.au_base.specs.Privileges as privileges
 use Rattle.au_priv.specs.Changing.{with_admin, without}
-use Rattle.au_priv.specs.Halving.{IsPlaceOf}
+use Rattle.au_priv.specs.descent.Halving.{IsPlaceOf}
 use Rattle.au_priv.specs.Holding.{grants_object, grants_privilege, grants_role}
 use Rattle.au_priv.specs.Order.{fields_before, is_in_order, object_fields, role_fields, system_fields}
 use Rattle.au_priv.specs.Rights.{Name, ObjectEntry, RoleEntry, SystemEntry}

@@ -10,7 +10,7 @@ use Rattle.au_base.specs.declared.table.TableName.{TableName}
 use Rattle.au_base.specs.Actions as actions
 use Rattle.au_base.specs.Privileges as privileges
 use Rattle.au_priv.specs.Changing.{role_to}
-use Rattle.au_priv.specs.Halving.{IsPlaceOf}
+use Rattle.au_priv.specs.descent.Halving.{IsPlaceOf}
 use Rattle.au_priv.specs.Holding.{grants_role, grants_privilege, grants_any_table, grants_object, grants_some_object, is_any_table, same_privilege}
 use Rattle.au_priv.specs.Order.{is_in_order, object_before, object_fields, role_before, role_fields, system_before, system_fields}
 use Rattle.au_priv.specs.Rights.{Name, ObjectEntry, RoleEntry, SystemEntry}

@@ -9,7 +9,7 @@ use Rattle.std.specs.Cmp.{IsTotalOrder}
 use Rattle.std.specs.Cmp.Lexicographic.{slice_cmp}
 use Rattle.std.proofs.lemmas.Bool.{and_parts, cases_lt}
 use Rattle.std.proofs.lemmas.Cmp.{lists_total, nat_cmp_total}
-use Rattle.au_priv.specs.Halving.{IsPlaceOf}
+use Rattle.au_priv.specs.descent.Halving.{IsPlaceOf}
 use Rattle.au_priv.specs.Order.{fields_before, is_in_order}
 use Rattle.au_priv.proofs.Members.{any_from, any_to}
 use Rattle.au_priv.proofs.Ordered.{same_texts}
@@ -113,7 +113,7 @@ front_at fields these xs k i d ordered place within front =
       ],
     )
 
-read_back : {X : Type 0} (xs : List X) (k : ℕ) (d : X) → k < length xs → Contains xs (get_or xs k d)
+pub read_back : {X : Type 0} (xs : List X) (k : ℕ) (d : X) → k < length xs → Contains xs (get_or xs k d)
 read_back [] k d within = absurd (omega arith)
 read_back (x ∷ xs) zero d within = (0, within, refl)
 read_back (x ∷ xs) (suc k) d within = (let has = read_back xs k d (omega arith) in (suc k, within, again xs k d (omega arith)))

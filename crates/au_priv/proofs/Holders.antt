@@ -1,13 +1,15 @@
 -- What a search through the queued grants of roles says of who holds a right.
-use Rattle.std.proofs.Common.{◌≡◌, ◌≤◌, ◌<◌, ◌+◌, ℕ, Bool, true, false, inl, inr, List, [], ◌∷◌, ◌++◌, refl, sym, subst, ◌∙◌, arith}
+use Rattle.std.proofs.Common.{◌≡◌, ◌≤◌, ◌<◌, ◌+◌, ℕ, Bool, true, false, inl, inr, List, [], ◌∷◌, ◌++◌, get_or, refl, sym, subst, ◌∙◌, arith}
 use Rattle.std.specs.List.{list_any}
+use Rattle.std.specs.Str.{bytes_eq}
 use Rattle.std.proofs.lemmas.Bool.{cases_lt}
 use Rattle.au_priv.specs.Changing.{role_to}
 use Rattle.au_priv.specs.Holding.{HasRight, IsGranted}
 use Rattle.au_priv.specs.declared.right.Sought.{Sought}
 use Rattle.au_priv.specs.Rights.{Grants, Name, RoleEntry, IsRoleGranted, IsChain, HoldsRole}
-use Rattle.au_priv.specs.Search.{EndAt, HasByRole, IsFirstGrant, IsGrantedBehind, IsReach, grantee_at, queued_at, role_at}
+use Rattle.au_priv.specs.descent.Search.{EndAt, HasByRole, IsFirstGrant, IsGrantedBehind, IsReach, grantee_at, queued_at, role_at}
 use Rattle.au_priv.proofs.Entries.{same_name-refl}
+use Rattle.au_priv.proofs.Halving.{read_back}
 use Rattle.au_priv.proofs.Members.{any_to}
 use Rattle.au_priv.proofs.Reached.{between_granted, granted_between, held_queued, queued_held}
 
@@ -73,3 +75,13 @@ pub held_nowhere : (roles : List RoleEntry) (user : Name) (queue : List ℕ) (co
     → ((k : ℕ) → 0 ≤ k → k < count → ¬ IsRoleGranted roles (grantee_at roles (queued_at queue k)) role) → HoldsRole roles user role → ⊥
 held_nowhere roles user queue count role reach none holds =
     let found = held_queued roles user queue count role reach holds in none found.0 (omega arith) found.1 found.2
+
+-- who is granted no role reaches nothing
+pub none_reached : (roles : List RoleEntry) (user : Name) → list_any (role_to user) roles ≡ false → IsReach roles user [] 0
+none_reached roles user none = record {
+  within = omega arith;
+  first = λ k less. absurd (omega (arith, less));
+  held = λ k less. absurd (omega (arith, less));
+  start = λ i less same. absurd (not_both _ none (any_to (role_to user) roles (get_or roles i ([], [], false)) (read_back roles i ([], [], false) less) (subst (λ (n : Name). bytes_eq n user ≡ true) (sym same) (same_name-refl user))));
+  closed = λ k role less granted. absurd (omega (arith, less));
+}

@@ -6,7 +6,7 @@ use Rattle.au_base.specs.declared.privilege.Privilege.{Privilege}
 use Rattle.au_base.specs.declared.table.TableName.{TableName}
 use Rattle.au_base.specs.Actions as actions
 use Rattle.au_base.specs.Privileges as privileges
-use Rattle.au_priv.specs.Halving.{IsPlaceOf}
+use Rattle.au_priv.specs.descent.Halving.{IsPlaceOf}
 use Rattle.au_priv.specs.Order.{fields_before, object_before, object_fields, placed, role_before, role_fields, system_before, system_fields}
 use Rattle.au_priv.specs.Rights.{Name, ObjectEntry, RoleEntry, SystemEntry}
 
@@ -29,23 +29,20 @@ inserted fields entry xs k place =
     let parts = cut (λ x. fields_before (fields x) (fields entry)) xs k place.0 (λ i d less. place.1.0 i d (omega arith) less) (λ i d from to. place.1.1 i d from to) in
     λ j. sym parts.0 j ++ entry ∷ sym parts.1 j
 
--- the same of what was copied and of a lent list
-pub system_put : (grantee copy : Name) (privilege : Privilege) (admin : Bool) (xs lent after : List SystemEntry) (k : ℕ) → copy ≡ grantee → lent ≡ xs
-    → IsPlaceOf system_fields (grantee ∷ (privileges.code_of privilege ∷ []) ∷ []) lent k → after ≡ insert xs k (copy, privilege, admin) → after ≡ placed system_before (grantee, privilege, admin) xs
-system_put grantee copy privilege admin xs lent after k is same place makes =
-    makes ∙ ap (λ (n : Name). insert xs k (n, privilege, admin)) is
-    ∙ inserted system_fields (grantee, privilege, admin) xs k (subst (λ (ys : List SystemEntry). IsPlaceOf system_fields (grantee ∷ (privileges.code_of privilege ∷ []) ∷ []) ys k) same place)
+-- the same of a lent list
+pub system_put : (grantee : Name) (privilege : Privilege) (admin : Bool) (xs lent after : List SystemEntry) (k : ℕ) → lent ≡ xs
+    → IsPlaceOf system_fields (grantee ∷ (privileges.code_of privilege ∷ []) ∷ []) lent k → after ≡ insert xs k (grantee, privilege, admin) → after ≡ placed system_before (grantee, privilege, admin) xs
+system_put grantee privilege admin xs lent after k same place makes =
+    makes ∙ inserted system_fields (grantee, privilege, admin) xs k (subst (λ (ys : List SystemEntry). IsPlaceOf system_fields (grantee ∷ (privileges.code_of privilege ∷ []) ∷ []) ys k) same place)
 
-pub role_put : (grantee copy role text granted : Name) (admin : Bool) (xs lent after : List RoleEntry) (k : ℕ) → copy ≡ grantee → granted ≡ role → text ≡ role → lent ≡ xs
-    → IsPlaceOf role_fields (grantee ∷ text ∷ []) lent k → after ≡ insert xs k (copy, granted, admin) → after ≡ placed role_before (grantee, role, admin) xs
-role_put grantee copy role text granted admin xs lent after k is other read same place makes =
-    makes ∙ ap (λ (n : Name). insert xs k (n, granted, admin)) is ∙ ap (λ (n : Name). insert xs k (grantee, n, admin)) other
-    ∙ inserted role_fields (grantee, role, admin) xs k
+pub role_put : (grantee role text : Name) (admin : Bool) (xs lent after : List RoleEntry) (k : ℕ) → text ≡ role → lent ≡ xs
+    → IsPlaceOf role_fields (grantee ∷ text ∷ []) lent k → after ≡ insert xs k (grantee, role, admin) → after ≡ placed role_before (grantee, role, admin) xs
+role_put grantee role text admin xs lent after k read same place makes =
+    makes ∙ inserted role_fields (grantee, role, admin) xs k
     (subst (λ (ys : List RoleEntry). IsPlaceOf role_fields (grantee ∷ role ∷ []) ys k) same (subst (λ (n : Name). IsPlaceOf role_fields (grantee ∷ n ∷ []) lent k) read place))
 
-pub object_put : (grantee copy : Name) (table on : TableName) (action : Action) (xs lent after : List ObjectEntry) (k : ℕ) → copy ≡ grantee → on ≡ table → lent ≡ xs
-    → IsPlaceOf object_fields (grantee ∷ table.owner ∷ table.name ∷ (actions.code_of action ∷ []) ∷ []) lent k → after ≡ insert xs k (copy, on, action) → after ≡ placed object_before (grantee, table, action) xs
-object_put grantee copy table on action xs lent after k is other same place makes =
-    makes ∙ ap (λ (n : Name). insert xs k (n, on, action)) is ∙ ap (λ (t : TableName). insert xs k (grantee, t, action)) other
-    ∙ inserted object_fields (grantee, table, action) xs k
+pub object_put : (grantee : Name) (table : TableName) (action : Action) (xs lent after : List ObjectEntry) (k : ℕ) → lent ≡ xs
+    → IsPlaceOf object_fields (grantee ∷ table.owner ∷ table.name ∷ (actions.code_of action ∷ []) ∷ []) lent k → after ≡ insert xs k (grantee, table, action) → after ≡ placed object_before (grantee, table, action) xs
+object_put grantee table action xs lent after k same place makes =
+    makes ∙ inserted object_fields (grantee, table, action) xs k
     (subst (λ (ys : List ObjectEntry). IsPlaceOf object_fields (grantee ∷ table.owner ∷ table.name ∷ (actions.code_of action ∷ []) ∷ []) ys k) same place)

@@ -14,4 +14,5 @@ pub mod Ordered
 pub mod Reached
 pub mod Refusals
 pub mod Regranted
+pub mod Rooms
 pub mod Walks

@@ -32,7 +32,7 @@ fewer_at : {X : Type 0} (x : X) (rest xs : List X) (b : Bool) → length rest �
 fewer_at x rest xs true le = omega (arith, le)
 fewer_at x rest xs false le = omega (arith, le)
 
-fewer : {X : Type 0} (test : X → Bool) (xs : List X) → length (filter test xs) ≤ length xs
+pub fewer : {X : Type 0} (test : X → Bool) (xs : List X) → length (filter test xs) ≤ length xs
 fewer test [] = omega arith
 fewer test (x ∷ xs) = fewer_at x (filter test xs) xs (test x) (fewer test xs)
 
@@ -58,12 +58,12 @@ placed_length before entry xs =
     let all = joined_length (filter (λ other. before other entry) xs) (entry ∷ filter (λ other. not (before other entry)) xs) in
     omega (arith, whole, all)
 
-granted_length : {X Y : Type 0} (before : X × Y × Bool → X × Y × Bool → Bool) (test : X × Y × Bool → Bool) (grant : X × Y × Bool) (xs : List (X × Y × Bool)) (change : GrantChange) (b : Bool)
+pub granted_length : {X Y : Type 0} (before : X × Y × Bool → X × Y × Bool → Bool) (test : X × Y × Bool → Bool) (grant : X × Y × Bool) (xs : List (X × Y × Bool)) (change : GrantChange) (b : Bool)
     → length (cond b (map (with_admin test grant.2) xs) (placed before grant xs)) ≤ length xs + length (cond (not b) (change ∷ []) [])
 granted_length before test grant xs change true = (let same = as_many (with_admin test grant.2) xs in omega (arith, same))
 granted_length before test grant xs change false = (let more = placed_length before grant xs in omega (arith, more))
 
-object_length : (grant : ObjectEntry) (xs : List ObjectEntry) (change : GrantChange) (b : Bool) → length (cond b xs (placed object_before grant xs)) ≤ length xs + length (cond (not b) (change ∷ []) [])
+pub object_length : (grant : ObjectEntry) (xs : List ObjectEntry) (change : GrantChange) (b : Bool) → length (cond b xs (placed object_before grant xs)) ≤ length xs + length (cond (not b) (change ∷ []) [])
 object_length grant xs change true = omega arith
 object_length grant xs change false = (let more = placed_length object_before grant xs in omega (arith, more))
 
@@ -84,7 +84,7 @@ applied_count (ObjectGrant grantee table action) grants =
 applied_count (ObjectRevoke grantee table action) grants = (let a = fewer (λ e. not (grants_object grantee table action e)) grants.object in omega (arith, a))
 applied_count (TableGone table) grants = (let a = fewer (λ e. not (names_table table e)) grants.object in omega (arith, a))
 
-one_length : (change : GrantChange) (b : Bool) → length (cond b (change ∷ []) []) ≤ 1
+pub one_length : (change : GrantChange) (b : Bool) → length (cond b (change ∷ []) []) ≤ 1
 one_length change true = omega arith
 one_length change false = omega arith
 

@@ -2,10 +2,10 @@
 use Rattle.std.proofs.Common.{◌≡◌, ◌≤◌, ◌<◌, ◌+◌, ℕ, zero, suc, Bool, true, false, not, inl, inr, List, [], ◌∷◌, ◌++◌, length, get_or, replicate, slice_set, refl, sym, ap, subst, ◌∙◌, ◌⊎◌, arith}
 use Rattle.std.specs.Str.{bytes_eq}
 use Rattle.std.proofs.lemmas.Bool.{cases_lt}
-use Rattle.au_priv.specs.Halving.{IsPlaceOf}
+use Rattle.au_priv.specs.descent.Halving.{IsPlaceOf}
 use Rattle.au_priv.specs.Order.{fields_before, is_in_order, role_before, role_fields}
 use Rattle.au_priv.specs.Rights.{Name, RoleEntry, IsRoleGranted, IsChain, IsHolder, HoldsRole}
-use Rattle.au_priv.specs.Search.{AreSeen, EndAt, IsFirstGrant, IsQueued, IsReach, IsSearch, IsSeen, WentOn, grantee_at, mark_at, mark_count, queued_at, role_at}
+use Rattle.au_priv.specs.descent.Search.{AreSeen, EndAt, IsFirstGrant, IsQueued, IsReach, IsSearch, IsSeen, WentOn, grantee_at, mark_at, mark_count, queued_at, role_at}
 use Rattle.au_priv.proofs.Chains.{holder_then, last}
 use Rattle.au_priv.proofs.Entries.{same_name-to}
 use Rattle.au_priv.proofs.Halving.{before_then, front_at, front_between, front_not_before, order_at, same_read}

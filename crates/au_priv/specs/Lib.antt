@@ -1,11 +1,10 @@
 pub mod Allowing
-pub mod Asking
 pub mod Changing
 pub mod Deciding
-pub mod Halving
 pub mod Holding
 pub mod Order
 pub mod Pairs
 pub mod Rights
-pub mod Search
+pub mod Staging
 pub mod Walking
+pub mod descent

@@ -1,14 +1,19 @@
 //! What a user may do with a table.
-ghost use Rattle.std.specs.Prelude.{◌≡◌, ◌↔◌, IsTrue, Some};
+ghost use Rattle.std.specs.Prelude.{◌≡◌, ◌≢◌, ◌≤◌, ◌↔◌, IsTrue, Some, length};
 ghost use Rattle.std.specs.Option.{option_map};
+ghost use Rattle.au_base.specs.Limits.{GRANTS};
 ghost use Rattle.au_priv.specs.declared.allowed.Allowed.{Allowed};
 ghost use Rattle.au_priv.specs.Allowing.{AllowedIs, AllowedOnTable, AllowedOnTrail, IsRefusal, HasSomething, HoldsSomeAnyTable, ReadsTrail, any_table_privilege, dual_answer};
+ghost use Rattle.au_priv.specs.descent.Search.{IsReach};
 
 use crate::allowed::Allowed;
+use crate::direct::{is_granted, is_grantee};
 use crate::grants::Grants;
-use crate::holding::has_right;
+use crate::holding::{has_found, has_right};
+use crate::reach::reach;
 use crate::right::Sought;
 use au_base::built_in::{AUDIT_ADMIN, AUDIT_VIEWER};
+use au_base::limits::GRANTS;
 use au_base::{Action, Code, Name, Privilege, TableName};
 
 /// What the user may do with the table, and by what.
@@ -50,21 +55,116 @@ fn reads_trail(grants: &Grants, user: &Name) -> bool
         || has_right(grants, user, Sought::Role(AUDIT_VIEWER))
 }
 
+// The search for the user's roles is made once for all that is asked, and only where the user has
+// some role and the right isn't granted directly.
 fn on_table(grants: &Grants, user: &Name, table: &TableName, action: Action) -> Allowed
     ensures { AllowedOnTable grants.now user.now table.now action result }
 {
     if *user == table.owner {
         return Allowed::Owner;
     }
-    if has_right(grants, user, Sought::Object(&*table, action)) {
+    if is_granted(grants, user, Sought::Object(&*table, action)) {
+        return Allowed::Object;
+    }
+    let roles = grants.role_grants();
+    if !is_grantee(roles, user) {
+        return on_table_found(grants, user, &[], 0, table, action);
+    }
+    if roles.len() <= 1_000 {
+        on_table_by_few_roles(grants, user, table, action)
+    } else {
+        on_table_by_many_roles(grants, user, table, action)
+    }
+}
+
+fn on_table_by_few_roles(grants: &Grants, user: &Name, table: &TableName, action: Action) -> Allowed
+    requires other { user.now ≢ table.now.owner }
+    requires few { length grants.now.role ≤ 1000 }
+    ensures { AllowedOnTable grants.now user.now table.now action result }
+{
+    let mut marks = [false; 1_000];
+    let mut queue = [0; 1_000];
+    let roles = grants.role_grants();
+    let count = reach(roles, user, &mut marks[..roles.len()], &mut queue);
+    on_table_found(grants, user, &queue, count, table, action)
+}
+
+fn on_table_by_many_roles(
+    grants: &Grants,
+    user: &Name,
+    table: &TableName,
+    action: Action,
+) -> Allowed
+    requires other { user.now ≢ table.now.owner }
+    requires few { length grants.now.role ≤ GRANTS }
+    ensures { AllowedOnTable grants.now user.now table.now action result }
+{
+    let mut marks = [false; GRANTS];
+    let mut queue = [0; GRANTS];
+    let roles = grants.role_grants();
+    let count = reach(roles, user, &mut marks[..roles.len()], &mut queue);
+    on_table_found(grants, user, &queue, count, table, action)
+}
+
+fn on_table_found(
+    grants: &Grants,
+    user: &Name,
+    queue: &[usize],
+    count: usize,
+    table: &TableName,
+    action: Action,
+) -> Allowed
+    requires other { user.now ≢ table.now.owner }
+    requires reach { IsReach grants.now.role user.now queue.now count }
+    ensures { AllowedOnTable grants.now user.now table.now action result }
+{
+    if has_found(grants, user, queue, count, Sought::Object(&*table, action)) {
         return Allowed::Object;
     }
     match any_table(action) {
-        Some(privilege) if has_right(grants, user, Sought::Privilege(privilege)) => {
+        Some(privilege) if has_found(grants, user, queue, count, Sought::Privilege(privilege)) => {
             Allowed::System(privilege)
         }
-        _ => Allowed::Refused(refusal(grants, user, table)),
+        _ => Allowed::Refused(refusal_found(grants, user, queue, count, table)),
     }
+}
+
+fn refusal_found(
+    grants: &Grants,
+    user: &Name,
+    queue: &[usize],
+    count: usize,
+    table: &TableName,
+) -> Code
+    requires { IsReach grants.now.role user.now queue.now count }
+    ensures { IsRefusal grants.now user.now table.now result }
+{
+    if has_something_found(grants, user, queue, count, table) {
+        Code::PRIVILEGE_MISSING
+    } else {
+        Code::NO_SUCH_TABLE
+    }
+}
+
+fn has_something_found(
+    grants: &Grants,
+    user: &Name,
+    queue: &[usize],
+    count: usize,
+    table: &TableName,
+) -> bool
+    requires { IsReach grants.now.role user.now queue.now count }
+    ensures { IsTrue result ↔ HasSomething grants.now user.now table.now }
+{
+    has_found(grants, user, queue, count, Sought::SomeObject(&*table))
+        || any_table_found(grants, user, queue, count)
+}
+
+fn any_table_found(grants: &Grants, user: &Name, queue: &[usize], count: usize) -> bool
+    requires { IsReach grants.now.role user.now queue.now count }
+    ensures { IsTrue result ↔ HoldsSomeAnyTable grants.now user.now }
+{
+    has_found(grants, user, queue, count, Sought::AnyTable)
 }
 
 fn any_table(action: Action) -> Option<Privilege>
@@ -83,21 +183,35 @@ fn any_table(action: Action) -> Option<Privilege>
 pub fn refusal(grants: &Grants, user: &Name, table: &TableName) -> Code
     ensures { IsRefusal grants.now user.now table.now result }
 {
-    if has_something(grants, user, table) {
-        Code::PRIVILEGE_MISSING
+    let roles = grants.role_grants();
+    if !is_grantee(roles, user) {
+        return refusal_found(grants, user, &[], 0, table);
+    }
+    if roles.len() <= 1_000 {
+        refusal_by_few_roles(grants, user, table)
     } else {
-        Code::NO_SUCH_TABLE
+        refusal_by_many_roles(grants, user, table)
     }
 }
 
-fn has_something(grants: &Grants, user: &Name, table: &TableName) -> bool
-    ensures { IsTrue result ↔ HasSomething grants.now user.now table.now }
+fn refusal_by_few_roles(grants: &Grants, user: &Name, table: &TableName) -> Code
+    requires { length grants.now.role ≤ 1000 }
+    ensures { IsRefusal grants.now user.now table.now result }
 {
-    has_right(grants, user, Sought::SomeObject(&*table)) || holds_some_any_table(grants, user)
+    let mut marks = [false; 1_000];
+    let mut queue = [0; 1_000];
+    let roles = grants.role_grants();
+    let count = reach(roles, user, &mut marks[..roles.len()], &mut queue);
+    refusal_found(grants, user, &queue, count, table)
 }
 
-fn holds_some_any_table(grants: &Grants, user: &Name) -> bool
-    ensures { IsTrue result ↔ HoldsSomeAnyTable grants.now user.now }
+fn refusal_by_many_roles(grants: &Grants, user: &Name, table: &TableName) -> Code
+    requires { length grants.now.role ≤ GRANTS }
+    ensures { IsRefusal grants.now user.now table.now result }
 {
-    has_right(grants, user, Sought::AnyTable)
+    let mut marks = [false; GRANTS];
+    let mut queue = [0; GRANTS];
+    let roles = grants.role_grants();
+    let count = reach(roles, user, &mut marks[..roles.len()], &mut queue);
+    refusal_found(grants, user, &queue, count, table)
 }

@@ -1,25 +1,24 @@
-//! Grants after changes.
-ghost use Rattle.std.specs.Prelude.{◌≡◌, IfOk, IsTrue, map};
-ghost use Rattle.std.specs.List.{list_any};
+//! Changes made in vectors of grants.
+ghost use Rattle.std.specs.Prelude.{◌≡◌, ◌<◌, ◌≤◌, ◌∷◌, [], IfOk, IsTrue, OnOk, map, vec_capacity, vec_len};
+ghost use Rattle.std.specs.List.{insert, list_any};
 ghost use Rattle.au_priv.specs.Changing.{applied, applied_all, without, with_admin, with_grant, with_object, system_to, role_to, object_to, names_role, names_table};
 ghost use Rattle.au_priv.specs.Holding.{grants_privilege, grants_role, grants_object};
 ghost use Rattle.au_priv.specs.Order.{AreInOrder, is_in_order, object_before, placed, role_before, system_before};
+ghost use Rattle.au_priv.specs.descent.Editing.{HasRoom, KeepsCapacity, listed};
 
 use crate::change::GrantChange;
 use crate::direct::{
-    has_object, has_privilege, has_role, is_object_grant, is_role_grant, is_same_privilege,
-    is_same_table, is_system_grant,
+    has_object, has_privilege, has_role, is_object_grant, is_role_grant, is_system_grant,
 };
 use crate::lists::GrantLists;
-use crate::order::put_at;
 use crate::places::{object_place, role_place, system_place};
-use au_base::{Action, List, Memory, Name, Privilege, TableName};
+use au_base::{Action, Memory, Name, Privilege, TableName, is_same_privilege, is_same_table};
 
 /// The grants after the changes, in their order.
 pub fn after_all(grants: GrantLists, changes: &[GrantChange]) -> Result<GrantLists, Memory>
-    requires { AreInOrder grants }
-    ensures after { IfOk result (λ after. after ≡ applied_all changes.now grants) }
-    ensures order { IfOk result AreInOrder }
+    requires { AreInOrder (listed grants) }
+    ensures after { IfOk result (λ after. listed after ≡ applied_all changes.now (listed grants)) }
+    ensures order { IfOk result (λ after. AreInOrder (listed after)) }
 {
     let mut after = grants;
     for change in changes {
@@ -28,168 +27,134 @@ pub fn after_all(grants: GrantLists, changes: &[GrantChange]) -> Result<GrantLis
     Ok(after)
 }
 
-/// The grants after the change.
-pub fn after_change(grants: GrantLists, change: &GrantChange) -> Result<GrantLists, Memory>
-    requires { AreInOrder grants }
-    ensures { IfOk result (λ after. after ≡ applied change.now grants) }
+fn after_change(grants: GrantLists, change: &GrantChange) -> Result<GrantLists, Memory>
+    requires { AreInOrder (listed grants) }
+    ensures { IfOk result (λ after. listed after ≡ applied change.now (listed grants)) }
+{
+    let change = change.clone()?;
+    let mut after = with_room_for(grants, &change)?;
+    make(&mut after, change);
+    Ok(after)
+}
+
+// The grants, with room for one that the change adds.
+fn with_room_for(grants: GrantLists, change: &GrantChange) -> Result<GrantLists, Memory>
+    ensures same { IfOk result (λ roomy. listed roomy ≡ listed grants) }
+    ensures room { IfOk result (HasRoom (change.now ∷ [])) }
+{
+    let mut roomy = grants;
+    match change {
+        GrantChange::SystemGrant(..) => roomy.system.reserve(1)?,
+        GrantChange::RoleGrant(..) => roomy.role.reserve(1)?,
+        GrantChange::ObjectGrant(..) => roomy.object.reserve(1)?,
+        _ => {}
+    }
+    Ok(roomy)
+}
+
+/// Makes the changes in their order. There is room for the grants that they add, and the call
+/// takes no memory.
+pub fn make_all(lists: &mut GrantLists, changes: Vec<GrantChange>)
+    requires order { AreInOrder (listed lists.old) }
+    requires room { HasRoom changes.items lists.old }
+    ensures after { listed lists.new ≡ applied_all changes.items (listed lists.old) }
+    ensures order { AreInOrder (listed lists.new) }
+{
+    let mut rest = changes.into_iter();
+    while let Some(change) = rest.next() {
+        make(lists, change);
+    }
+}
+
+/// Makes the change. There is room for a grant that it adds, and the call takes no memory.
+pub fn make(lists: &mut GrantLists, change: GrantChange)
+    requires order { AreInOrder (listed lists.old) }
+    requires room { HasRoom (change ∷ []) lists.old }
+    ensures after { listed lists.new ≡ applied change (listed lists.old) }
+    ensures capacity { KeepsCapacity lists.old lists.new }
 {
     match change {
-        GrantChange::UserGone(user) => Ok(without_user(grants, user)),
-        GrantChange::RoleGone(role) => Ok(without_role(grants, role)),
-        GrantChange::TableGone(table) => Ok(without_table(grants, table)),
+        GrantChange::UserGone(user) => drop_user(lists, &user),
+        GrantChange::RoleGone(role) => drop_role(lists, &role),
+        GrantChange::TableGone(table) => drop_on_table(&mut lists.object, &table),
         GrantChange::SystemGrant(grantee, privilege, admin) => {
-            with_system(grants, grantee, *privilege, *admin)
+            grant_privilege(&mut lists.system, grantee, privilege, admin)
         }
         GrantChange::SystemRevoke(grantee, privilege) => {
-            Ok(without_system(grants, grantee, *privilege))
+            drop_privilege(&mut lists.system, &grantee, privilege)
         }
-        GrantChange::RoleGrant(grantee, role, admin) => { with_role(grants, grantee, role, *admin) }
-        GrantChange::RoleRevoke(grantee, role) => Ok(without_role_grant(grants, grantee, role)),
+        GrantChange::RoleGrant(grantee, role, admin) => {
+            grant_role(&mut lists.role, grantee, role, admin)
+        }
+        GrantChange::RoleRevoke(grantee, role) => {
+            drop_role_grant(&mut lists.role, &grantee, &role)
+        }
         GrantChange::ObjectGrant(grantee, table, action) => {
-            with_object_grant(grants, grantee, table, *action)
+            grant_object(&mut lists.object, grantee, table, action)
         }
         GrantChange::ObjectRevoke(grantee, table, action) => {
-            Ok(without_object_grant(grants, grantee, table, *action))
+            drop_object_grant(&mut lists.object, &grantee, &table, action)
         }
     }
 }
 
-fn without_user(grants: GrantLists, user: &Name) -> GrantLists
-    ensures { result ≡ applied (GrantChange.UserGone user.now) grants }
+fn drop_user(lists: &mut GrantLists, user: &Name)
+    ensures after { listed lists.new ≡ applied (GrantChange.UserGone user.now) (listed lists.old) }
+    ensures capacity { KeepsCapacity lists.old lists.new }
 {
-    let GrantLists {
-        system,
-        role,
-        object,
-    } = grants;
-    GrantLists {
-        system: without_system_to(system, user),
-        role: without_role_to(role, user),
-        object: without_object_to(object, user),
-    }
+    drop_system_to(&mut lists.system, user);
+    drop_role_to(&mut lists.role, user);
+    drop_object_to(&mut lists.object, user);
 }
 
-fn without_role(grants: GrantLists, name: &Name) -> GrantLists
-    ensures { result ≡ applied (GrantChange.RoleGone name.now) grants }
+fn drop_role(lists: &mut GrantLists, role: &Name)
+    ensures after { listed lists.new ≡ applied (GrantChange.RoleGone role.now) (listed lists.old) }
+    ensures capacity { KeepsCapacity lists.old lists.new }
 {
-    let GrantLists {
-        system,
-        role,
-        object,
-    } = grants;
-    GrantLists {
-        system: without_system_to(system, name),
-        role: without_role_named(role, name),
-        object: without_object_to(object, name),
-    }
-}
-
-fn without_system_to(
-    system: List<(Name, Privilege, bool)>,
-    name: &Name,
-) -> List<(Name, Privilege, bool)>
-    ensures { result ≡ without (system_to name.now) system }
-{
-    let mut entries = system.into_vec();
-    drop_system_to(&mut entries, name);
-    List::from_vec(entries)
+    drop_system_to(&mut lists.system, role);
+    drop_role_named(&mut lists.role, role);
+    drop_object_to(&mut lists.object, role);
 }
 
 fn drop_system_to(entries: &mut Vec<(Name, Privilege, bool)>, name: &Name)
-    ensures { entries.new.items ≡ without (system_to name.now) entries.old.items }
+    ensures items { entries.new.items ≡ without (system_to name.now) entries.old.items }
+    ensures capacity { vec_capacity entries.new ≡ vec_capacity entries.old }
 {
     entries.retain(|entry| entry.0 != *name);
-}
-
-fn without_role_to(role: List<(Name, Name, bool)>, name: &Name) -> List<(Name, Name, bool)>
-    ensures { result ≡ without (role_to name.now) role }
-{
-    let mut entries = role.into_vec();
-    drop_role_to(&mut entries, name);
-    List::from_vec(entries)
 }
 
 fn drop_role_to(entries: &mut Vec<(Name, Name, bool)>, name: &Name)
-    ensures { entries.new.items ≡ without (role_to name.now) entries.old.items }
+    ensures items { entries.new.items ≡ without (role_to name.now) entries.old.items }
+    ensures capacity { vec_capacity entries.new ≡ vec_capacity entries.old }
 {
     entries.retain(|entry| entry.0 != *name);
-}
-
-fn without_object_to(
-    object: List<(Name, TableName, Action)>,
-    name: &Name,
-) -> List<(Name, TableName, Action)>
-    ensures { result ≡ without (object_to name.now) object }
-{
-    let mut entries = object.into_vec();
-    drop_object_to(&mut entries, name);
-    List::from_vec(entries)
 }
 
 fn drop_object_to(entries: &mut Vec<(Name, TableName, Action)>, name: &Name)
-    ensures { entries.new.items ≡ without (object_to name.now) entries.old.items }
+    ensures items { entries.new.items ≡ without (object_to name.now) entries.old.items }
+    ensures capacity { vec_capacity entries.new ≡ vec_capacity entries.old }
 {
     entries.retain(|entry| entry.0 != *name);
 }
 
-fn without_role_named(role: List<(Name, Name, bool)>, name: &Name) -> List<(Name, Name, bool)>
-    ensures { result ≡ without (names_role name.now) role }
-{
-    let mut entries = role.into_vec();
-    drop_role_named(&mut entries, name);
-    List::from_vec(entries)
-}
-
 fn drop_role_named(entries: &mut Vec<(Name, Name, bool)>, name: &Name)
-    ensures { entries.new.items ≡ without (names_role name.now) entries.old.items }
+    ensures items { entries.new.items ≡ without (names_role name.now) entries.old.items }
+    ensures capacity { vec_capacity entries.new ≡ vec_capacity entries.old }
 {
     entries.retain(|entry| !(entry.0 == *name || entry.1 == *name));
 }
 
-fn without_table(grants: GrantLists, table: &TableName) -> GrantLists
-    ensures { result ≡ applied (GrantChange.TableGone table.now) grants }
-{
-    let GrantLists {
-        system,
-        role,
-        object,
-    } = grants;
-    let mut entries = object.into_vec();
-    drop_on_table(&mut entries, table);
-    GrantLists {
-        system,
-        role,
-        object: List::from_vec(entries),
-    }
-}
-
 fn drop_on_table(entries: &mut Vec<(Name, TableName, Action)>, table: &TableName)
-    ensures { entries.new.items ≡ without (names_table table.now) entries.old.items }
+    ensures items { entries.new.items ≡ without (names_table table.now) entries.old.items }
+    ensures capacity { vec_capacity entries.new ≡ vec_capacity entries.old }
 {
     entries.retain(|entry| !is_same_table(&entry.1, table));
 }
 
-fn without_system(grants: GrantLists, grantee: &Name, privilege: Privilege) -> GrantLists
-    requires { AreInOrder grants }
-    ensures { result ≡ applied (GrantChange.SystemRevoke grantee.now privilege) grants }
-{
-    let GrantLists {
-        system,
-        role,
-        object,
-    } = grants;
-    let mut entries = system.into_vec();
-    drop_privilege(&mut entries, grantee, privilege);
-    GrantLists {
-        system: List::from_vec(entries),
-        role,
-        object,
-    }
-}
-
 fn drop_privilege(entries: &mut Vec<(Name, Privilege, bool)>, grantee: &Name, privilege: Privilege)
-    requires { IsTrue (is_in_order system_before entries.old.items) }
-    ensures { entries.new.items ≡ without (grants_privilege grantee.now privilege) entries.old.items }
+    requires order { IsTrue (is_in_order system_before entries.old.items) }
+    ensures items { entries.new.items ≡ without (grants_privilege grantee.now privilege) entries.old.items }
+    ensures capacity { vec_capacity entries.new ≡ vec_capacity entries.old }
 {
     let place = system_place(entries.as_slice(), grantee, privilege);
     if place < entries.len() && is_system_grant(&entries[place], grantee, privilege) {
@@ -197,55 +162,15 @@ fn drop_privilege(entries: &mut Vec<(Name, Privilege, bool)>, grantee: &Name, pr
     }
 }
 
-fn without_role_grant(grants: GrantLists, grantee: &Name, name: &Name) -> GrantLists
-    requires { AreInOrder grants }
-    ensures { result ≡ applied (GrantChange.RoleRevoke grantee.now name.now) grants }
-{
-    let GrantLists {
-        system,
-        role,
-        object,
-    } = grants;
-    let mut entries = role.into_vec();
-    drop_role_grant(&mut entries, grantee, name);
-    GrantLists {
-        system,
-        role: List::from_vec(entries),
-        object,
-    }
-}
-
 fn drop_role_grant(entries: &mut Vec<(Name, Name, bool)>, grantee: &Name, name: &Name)
-    requires { IsTrue (is_in_order role_before entries.old.items) }
-    ensures { entries.new.items ≡ without (grants_role grantee.now name.now) entries.old.items }
+    requires order { IsTrue (is_in_order role_before entries.old.items) }
+    ensures items { entries.new.items ≡ without (grants_role grantee.now name.now) entries.old.items }
+    ensures capacity { vec_capacity entries.new ≡ vec_capacity entries.old }
 {
     let role = name.as_str();
     let place = role_place(entries.as_slice(), grantee, role);
     if place < entries.len() && is_role_grant(&entries[place], grantee, role) {
         drop(entries.remove(place));
-    }
-}
-
-fn without_object_grant(
-    grants: GrantLists,
-    grantee: &Name,
-    table: &TableName,
-    action: Action,
-) -> GrantLists
-    requires { AreInOrder grants }
-    ensures { result ≡ applied (GrantChange.ObjectRevoke grantee.now table.now action) grants }
-{
-    let GrantLists {
-        system,
-        role,
-        object,
-    } = grants;
-    let mut entries = object.into_vec();
-    drop_object_grant(&mut entries, grantee, table, action);
-    GrantLists {
-        system,
-        role,
-        object: List::from_vec(entries),
     }
 }
 
@@ -255,8 +180,9 @@ fn drop_object_grant(
     table: &TableName,
     action: Action,
 )
-    requires { IsTrue (is_in_order object_before entries.old.items) }
-    ensures { entries.new.items ≡ without (grants_object grantee.now table.now action) entries.old.items }
+    requires order { IsTrue (is_in_order object_before entries.old.items) }
+    ensures items { entries.new.items ≡ without (grants_object grantee.now table.now action) entries.old.items }
+    ensures capacity { vec_capacity entries.new ≡ vec_capacity entries.old }
 {
     let place = object_place(entries.as_slice(), grantee, table, action);
     if place < entries.len() && is_object_grant(&entries[place], grantee, table, action) {
@@ -264,56 +190,35 @@ fn drop_object_grant(
     }
 }
 
-fn with_system(
-    grants: GrantLists,
-    grantee: &Name,
+fn grant_privilege(
+    entries: &mut Vec<(Name, Privilege, bool)>,
+    grantee: Name,
     privilege: Privilege,
     admin: bool,
-) -> Result<GrantLists, Memory>
-    requires { AreInOrder grants }
-    ensures { IfOk result (λ after. after ≡ applied (GrantChange.SystemGrant grantee.now privilege admin) grants) }
+)
+    requires order { IsTrue (is_in_order system_before entries.old.items) }
+    requires room { vec_len entries.old < vec_capacity entries.old }
+    ensures items { entries.new.items ≡ with_grant system_before (grants_privilege grantee privilege) (grantee, privilege, admin) entries.old.items }
+    ensures capacity { vec_capacity entries.new ≡ vec_capacity entries.old }
 {
-    let GrantLists {
-        system,
-        role,
-        object,
-    } = grants;
-    let system = if has_privilege(system.as_slice(), grantee, privilege) {
-        with_privilege_admin(system, grantee, privilege, admin)
+    if has_privilege(entries.as_slice(), &grantee, privilege) {
+        set_privilege_admin(entries, &grantee, privilege, admin);
     } else {
-        with_new_privilege(system, grantee, privilege, admin)?
-    };
-    Ok(GrantLists {
-        system,
-        role,
-        object,
-    })
-}
-
-fn with_privilege_admin(
-    system: List<(Name, Privilege, bool)>,
-    grantee: &Name,
-    privilege: Privilege,
-    admin: bool,
-) -> List<(Name, Privilege, bool)>
-    requires { IsTrue (is_in_order system_before system) }
-    ensures { result ≡ map (with_admin (grants_privilege grantee.now privilege) admin) system }
-{
-    let mut entries = system.into_vec();
-    set_privilege_admin(&mut entries, grantee, privilege, admin);
-    List::from_vec(entries)
+        add_privilege(entries, grantee, privilege, admin);
+    }
 }
 
 fn set_privilege_admin(
-    entries: &mut [(Name, Privilege, bool)],
+    entries: &mut Vec<(Name, Privilege, bool)>,
     grantee: &Name,
     privilege: Privilege,
     admin: bool,
 )
-    requires { IsTrue (is_in_order system_before entries.old) }
-    ensures { entries.new ≡ map (with_admin (grants_privilege grantee.now privilege) admin) entries.old }
+    requires order { IsTrue (is_in_order system_before entries.old.items) }
+    ensures items { entries.new.items ≡ map (with_admin (grants_privilege grantee.now privilege) admin) entries.old.items }
+    ensures capacity { vec_capacity entries.new ≡ vec_capacity entries.old }
 {
-    let place = system_place(&*entries, grantee, privilege);
+    let place = system_place(entries.as_slice(), grantee, privilege);
     if place < entries.len() {
         set_admin_of_privilege(&mut entries[place], grantee, privilege, admin);
     }
@@ -332,66 +237,40 @@ fn set_admin_of_privilege(
     }
 }
 
-fn with_new_privilege(
-    system: List<(Name, Privilege, bool)>,
-    grantee: &Name,
+fn add_privilege(
+    entries: &mut Vec<(Name, Privilege, bool)>,
+    grantee: Name,
     privilege: Privilege,
     admin: bool,
-) -> Result<List<(Name, Privilege, bool)>, Memory>
-    requires { IsTrue (is_in_order system_before system) }
-    ensures { IfOk result (λ after. after ≡ placed system_before (grantee.now, privilege, admin) system) }
+)
+    requires order { IsTrue (is_in_order system_before entries.old.items) }
+    requires room { vec_len entries.old < vec_capacity entries.old }
+    ensures items { entries.new.items ≡ placed system_before (grantee, privilege, admin) entries.old.items }
+    ensures capacity { vec_capacity entries.new ≡ vec_capacity entries.old }
 {
-    let place = system_place(system.as_slice(), grantee, privilege);
-    let to = grantee.clone()?;
-    let after = put_at(system, place, (to, privilege, admin))?;
-    Ok(after)
+    let place = system_place(entries.as_slice(), &grantee, privilege);
+    insert_at(entries, place, (grantee, privilege, admin));
 }
 
-fn with_role(
-    grants: GrantLists,
-    grantee: &Name,
-    name: &Name,
-    admin: bool,
-) -> Result<GrantLists, Memory>
-    requires { AreInOrder grants }
-    ensures { IfOk result (λ after. after ≡ applied (GrantChange.RoleGrant grantee.now name.now admin) grants) }
+fn grant_role(entries: &mut Vec<(Name, Name, bool)>, grantee: Name, name: Name, admin: bool)
+    requires order { IsTrue (is_in_order role_before entries.old.items) }
+    requires room { vec_len entries.old < vec_capacity entries.old }
+    ensures items { entries.new.items ≡ with_grant role_before (grants_role grantee name) (grantee, name, admin) entries.old.items }
+    ensures capacity { vec_capacity entries.new ≡ vec_capacity entries.old }
 {
-    let GrantLists {
-        system,
-        role,
-        object,
-    } = grants;
-    let role = if has_role(role.as_slice(), grantee, name.as_str()) {
-        with_role_admin(role, grantee, name, admin)
+    if has_role(entries.as_slice(), &grantee, name.as_str()) {
+        set_role_admin(entries, &grantee, &name, admin);
     } else {
-        with_new_role(role, grantee, name, admin)?
-    };
-    Ok(GrantLists {
-        system,
-        role,
-        object,
-    })
+        add_role(entries, grantee, name, admin);
+    }
 }
 
-fn with_role_admin(
-    role: List<(Name, Name, bool)>,
-    grantee: &Name,
-    name: &Name,
-    admin: bool,
-) -> List<(Name, Name, bool)>
-    requires { IsTrue (is_in_order role_before role) }
-    ensures { result ≡ map (with_admin (grants_role grantee.now name.now) admin) role }
+fn set_role_admin(entries: &mut Vec<(Name, Name, bool)>, grantee: &Name, name: &Name, admin: bool)
+    requires order { IsTrue (is_in_order role_before entries.old.items) }
+    ensures items { entries.new.items ≡ map (with_admin (grants_role grantee.now name.now) admin) entries.old.items }
+    ensures capacity { vec_capacity entries.new ≡ vec_capacity entries.old }
 {
-    let mut entries = role.into_vec();
-    set_role_admin(&mut entries, grantee, name, admin);
-    List::from_vec(entries)
-}
-
-fn set_role_admin(entries: &mut [(Name, Name, bool)], grantee: &Name, name: &Name, admin: bool)
-    requires { IsTrue (is_in_order role_before entries.old) }
-    ensures { entries.new ≡ map (with_admin (grants_role grantee.now name.now) admin) entries.old }
-{
-    let place = role_place(&*entries, grantee, name.as_str());
+    let place = role_place(entries.as_slice(), grantee, name.as_str());
     if place < entries.len() {
         set_admin_of_role(&mut entries[place], grantee, name, admin);
     }
@@ -405,59 +284,54 @@ fn set_admin_of_role(entry: &mut (Name, Name, bool), grantee: &Name, name: &Name
     }
 }
 
-fn with_new_role(
-    role: List<(Name, Name, bool)>,
-    grantee: &Name,
-    name: &Name,
-    admin: bool,
-) -> Result<List<(Name, Name, bool)>, Memory>
-    requires { IsTrue (is_in_order role_before role) }
-    ensures { IfOk result (λ after. after ≡ placed role_before (grantee.now, name.now, admin) role) }
+fn add_role(entries: &mut Vec<(Name, Name, bool)>, grantee: Name, name: Name, admin: bool)
+    requires order { IsTrue (is_in_order role_before entries.old.items) }
+    requires room { vec_len entries.old < vec_capacity entries.old }
+    ensures items { entries.new.items ≡ placed role_before (grantee, name, admin) entries.old.items }
+    ensures capacity { vec_capacity entries.new ≡ vec_capacity entries.old }
 {
-    let place = role_place(role.as_slice(), grantee, name.as_str());
-    let to = grantee.clone()?;
-    let granted = name.clone()?;
-    let after = put_at(role, place, (to, granted, admin))?;
-    Ok(after)
+    let place = role_place(entries.as_slice(), &grantee, name.as_str());
+    insert_at(entries, place, (grantee, name, admin));
 }
 
-fn with_object_grant(
-    grants: GrantLists,
-    grantee: &Name,
-    table: &TableName,
+fn grant_object(
+    entries: &mut Vec<(Name, TableName, Action)>,
+    grantee: Name,
+    table: TableName,
     action: Action,
-) -> Result<GrantLists, Memory>
-    requires { AreInOrder grants }
-    ensures { IfOk result (λ after. after ≡ applied (GrantChange.ObjectGrant grantee.now table.now action) grants) }
+)
+    requires order { IsTrue (is_in_order object_before entries.old.items) }
+    requires room { vec_len entries.old < vec_capacity entries.old }
+    ensures items { entries.new.items ≡ with_object (grantee, table, action) entries.old.items }
+    ensures capacity { vec_capacity entries.new ≡ vec_capacity entries.old }
 {
-    if has_object(grants.object.as_slice(), grantee, table, action) {
-        return Ok(grants);
+    if !has_object(entries.as_slice(), &grantee, &table, action) {
+        add_object(entries, grantee, table, action);
     }
-    let GrantLists {
-        system,
-        role,
-        object,
-    } = grants;
-    let object = with_new_object(object, grantee, table, action)?;
-    Ok(GrantLists {
-        system,
-        role,
-        object,
-    })
 }
 
-fn with_new_object(
-    object: List<(Name, TableName, Action)>,
-    grantee: &Name,
-    table: &TableName,
+fn add_object(
+    entries: &mut Vec<(Name, TableName, Action)>,
+    grantee: Name,
+    table: TableName,
     action: Action,
-) -> Result<List<(Name, TableName, Action)>, Memory>
-    requires { IsTrue (is_in_order object_before object) }
-    ensures { IfOk result (λ after. after ≡ placed object_before (grantee.now, table.now, action) object) }
+)
+    requires order { IsTrue (is_in_order object_before entries.old.items) }
+    requires room { vec_len entries.old < vec_capacity entries.old }
+    ensures items { entries.new.items ≡ placed object_before (grantee, table, action) entries.old.items }
+    ensures capacity { vec_capacity entries.new ≡ vec_capacity entries.old }
 {
-    let place = object_place(object.as_slice(), grantee, table, action);
-    let to = grantee.clone()?;
-    let on = table.clone()?;
-    let after = put_at(object, place, (to, on, action))?;
-    Ok(after)
+    let place = object_place(entries.as_slice(), &grantee, &table, action);
+    insert_at(entries, place, (grantee, table, action));
+}
+
+// Inserts the entry at the place.
+fn insert_at<T: Drop>(entries: &mut Vec<T>, place: usize, entry: T)
+    requires place { place ≤ vec_len entries.old }
+    requires room { vec_len entries.old < vec_capacity entries.old }
+    ensures items { entries.new.items ≡ insert entries.old.items place entry }
+    ensures capacity { vec_capacity entries.new ≡ vec_capacity entries.old }
+{
+    let inserted = entries.insert(place, entry);
+    drop(inserted);
 }

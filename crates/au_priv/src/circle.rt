@@ -2,7 +2,7 @@
 ghost use Rattle.std.specs.Prelude.{◌≡◌, ◌≤◌, ◌<◌, ◌↔◌, IfOk, IsTrue, length};
 ghost use Rattle.au_priv.specs.Order.{is_in_order, role_before};
 ghost use Rattle.au_priv.specs.Rights.{HoldsRole, IsHolder, IsRoleGranted};
-ghost use Rattle.au_priv.specs.Search.{IsFirstGrant, IsReach, grantee_at, role_at};
+ghost use Rattle.au_priv.specs.descent.Search.{IsFirstGrant, IsReach, grantee_at, role_at};
 
 use crate::direct::is_grantee;
 use crate::reach::{end_of_grants, reach, role_of};

@@ -3,7 +3,7 @@ ghost use Rattle.std.specs.Prelude.{◌≡◌, ◌↔◌, ◌⊎◌, ◌++◌, �
 ghost use Rattle.std.specs.List.{Contains};
 ghost use Rattle.au_base.specs.declared.code.Code.{Code};
 ghost use Rattle.au_base.specs.declared.privilege.Privilege.{Privilege};
-ghost use Rattle.au_priv.specs.Asking.{AreAnyHeld, any_of};
+ghost use Rattle.au_priv.specs.descent.Asking.{AreAnyHeld, any_of};
 ghost use Rattle.au_priv.specs.Deciding.{Administers, Decides, DecidesOnTable, DecidesPairs, DecidesRights, FirstRefused, IsBuiltIn, IsNoRole, IsUsed, IsUsedOnTable, Needs, NoneRefused, RefusesGrantee, RefusesRight, RefusesTable, any_right};
 ghost use Rattle.au_priv.specs.Pairs.{object_pair, pairs, right_pair};
 ghost use Rattle.au_priv.specs.Rights.{HoldsPrivilege};

@@ -2,14 +2,16 @@
 ghost use Rattle.std.specs.Prelude.{◌≡◌, ◌↔◌, IsTrue};
 ghost use Rattle.std.specs.List.{list_any};
 ghost use Rattle.au_priv.specs.Changing.{role_to};
-ghost use Rattle.au_priv.specs.Holding.{IsGranted, same_table, same_privilege, same_action, grants_role, grants_privilege, grants_any_table, grants_object, grants_some_object};
+ghost use Rattle.au_priv.specs.Holding.{IsGranted, grants_role, grants_privilege, grants_any_table, grants_object, grants_some_object};
 ghost use Rattle.au_priv.specs.Order.{is_in_order, object_before, role_before, system_before};
 ghost use Rattle.au_priv.specs.Walking.{grants_privilege_as, grants_role_as};
 
 use crate::grants::Grants;
 use crate::places::{first_object_place, first_role_place, object_place, role_place, system_place};
 use crate::right::Sought;
-use au_base::{Action, Name, Privilege, TableName};
+use au_base::{
+    Action, Name, Privilege, TableName, is_same_action, is_same_privilege, is_same_table,
+};
 
 /// Whether the right is granted to the holder directly.
 pub fn is_granted(grants: &Grants, holder: &Name, right: Sought<'_>) -> bool
@@ -183,25 +185,4 @@ fn is_grant_on(entry: &(Name, TableName, Action), grantee: &Name, table: &TableN
     ensures { result ≡ grants_some_object grantee.now table.now entry.now }
 {
     entry.0 == *grantee && is_same_table(&entry.1, table)
-}
-
-/// Whether both are one table's name.
-pub fn is_same_table(a: &TableName, b: &TableName) -> bool
-    ensures { result ≡ same_table a.now b.now }
-{
-    a.owner == b.owner && a.name == b.name
-}
-
-/// Whether both are one privilege.
-pub fn is_same_privilege(a: Privilege, b: Privilege) -> bool
-    ensures { result ≡ same_privilege a b }
-{
-    a.code() == b.code()
-}
-
-/// Whether both are one action.
-pub fn is_same_action(a: Action, b: Action) -> bool
-    ensures { result ≡ same_action a b }
-{
-    a.code() == b.code()
 }

@@ -11,7 +11,7 @@ use crate::circle::is_circle;
 use crate::grants::Grants;
 use crate::lists::GrantLists;
 use au_base::limits::GRANTS;
-use au_base::{Action, Memory, Name, Privilege, TableName};
+use au_base::{Action, List, Memory, Name, Privilege, TableName};
 use std::alloc::Global;
 use std::marker::Model;
 
@@ -25,12 +25,13 @@ pub struct GrantDraft {
 impl Model for GrantDraft {
     ghost use Rattle.au_priv.specs.Order.{AreInOrder};
     ghost use Rattle.au_priv.specs.Rights.{Grants as AllGrants};
+    ghost use Rattle.au_priv.specs.descent.Editing.{listed};
 
     ghost Value = { AllGrants };
 
-    ghost view = { λ d. d.lists };
+    ghost view = { λ d. listed d.lists };
 
-    ghost invariant = { λ d. AreInOrder d.lists };
+    ghost invariant = { λ d. AreInOrder (listed d.lists) };
 }
 
 impl GrantDraft {
@@ -45,9 +46,9 @@ impl GrantDraft {
         } = grants;
         GrantDraft {
             lists: GrantLists {
-                system,
-                role,
-                object,
+                system: system.into_vec(),
+                role: role.into_vec(),
+                object: object.into_vec(),
             },
         }
     }
@@ -85,9 +86,9 @@ impl GrantDraft {
             object,
         } = lists;
         Grants {
-            system,
-            role,
-            object,
+            system: List::from_vec(system),
+            role: List::from_vec(role),
+            object: List::from_vec(object),
         }
     }
 

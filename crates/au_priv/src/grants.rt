@@ -7,6 +7,7 @@ ghost use Rattle.au_priv.specs.Allowing.{AllowedIs, IsRefusal};
 ghost use Rattle.au_priv.specs.Changing.{applied_all};
 ghost use Rattle.au_priv.specs.Deciding.{Decides};
 ghost use Rattle.au_priv.specs.Order.{is_in_order, object_before, role_before, system_before};
+ghost use Rattle.au_priv.specs.Staging.{Fits};
 ghost use Rattle.au_priv.specs.Rights.{AdministersPrivilege, AdministersRole, HasNoCircle, HoldsPrivilege, HoldsRole, IsHolder, IsRoleGranted, grant_count};
 
 use crate::allowed::Allowed;
@@ -196,21 +197,23 @@ impl Grants {
         decide(alloc, case, statement)
     }
 
-    /// Makes the grants ready that there are after the changes, in their order, where these are
-    /// 100,000 at most. The present ones stay as they are until `settle`.
-    pub fn stage(&mut self, changes: &[GrantChange]) -> Result<StagedGrants, Memory>
+    /// Makes the changes ready to be made in their order, where there are 100,000 grants at most
+    /// then. The grants stay as they are until `settle`; no grant is copied.
+    pub fn stage(&mut self, alloc: Global, changes: &[GrantChange]) -> Result<StagedGrants, Memory>
         requires few { grant_count (applied_all changes.now self.old) ≤ GRANTS }
-        ensures staged { IfOk result (λ staged. staged ≡ applied_all changes.now self.old) }
+        ensures changes { IfOk result (λ staged. staged.changes ≡ changes.now) }
+        ensures fits { IfOk result (λ staged. Fits staged self.new) }
         ensures unchanged { self.new ≡ self.old }
     {
-        let after = GrantDraft::of(self.clone()?).after(changes)?;
-        Ok(StagedGrants::new(after.into_grants()))
+        StagedGrants::of(alloc, &*self, changes)
     }
 
-    /// Makes the staged grants the present ones. It takes no memory.
+    /// Makes the staged changes in their order. It takes no memory. The grants are those that the
+    /// changes were staged on: `stage` says that what it gave fits them.
     pub fn settle(&mut self, staged: StagedGrants)
-        ensures { self.new ≡ staged }
+        requires fits { Fits staged self.old }
+        ensures { self.new ≡ applied_all staged.changes self.old }
     {
-        *self = staged.into_grants();
+        staged.make_on(self);
     }
 }

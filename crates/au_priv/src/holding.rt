@@ -2,7 +2,7 @@
 ghost use Rattle.std.specs.Prelude.{◌≤◌, ◌↔◌, IsTrue, length};
 ghost use Rattle.au_base.specs.Limits.{GRANTS};
 ghost use Rattle.au_priv.specs.Holding.{HasRight, IsGranted};
-ghost use Rattle.au_priv.specs.Search.{HasByRole, IsFirstGrant, IsGrantedBehind, IsReach, grantee_at};
+ghost use Rattle.au_priv.specs.descent.Search.{HasByRole, IsFirstGrant, IsGrantedBehind, IsReach, grantee_at};
 
 use crate::circle::is_granted_to_some;
 use crate::direct::{is_granted, is_grantee};
@@ -73,9 +73,42 @@ fn has_by_search(
 {
     let roles = grants.role_grants();
     let count = reach(roles, user, &mut marks[..roles.len()], queue);
+    has_by_found(grants, user, &*queue, count, right)
+}
+
+/// Whether the right is granted to the user or to a role that the user holds, of whose roles a
+/// search has filled the queue.
+pub fn has_found(
+    grants: &Grants,
+    user: &Name,
+    queue: &[usize],
+    count: usize,
+    right: Sought<'_>,
+) -> bool
+    requires { IsReach grants.now.role user.now queue.now count }
+    ensures { IsTrue result ↔ HasRight grants.now user.now right.entry }
+{
+    if is_granted(grants, user, right) {
+        return true;
+    }
+    has_by_found(grants, user, queue, count, right)
+}
+
+fn has_by_found(
+    grants: &Grants,
+    user: &Name,
+    queue: &[usize],
+    count: usize,
+    right: Sought<'_>,
+) -> bool
+    requires direct { ¬ IsGranted grants.now user.now right }
+    requires reach { IsReach grants.now.role user.now queue.now count }
+    ensures { IsTrue result ↔ HasByRole grants.now user.now right.entry }
+{
+    let roles = grants.role_grants();
     match right {
-        Sought::Role(role) => is_granted_to_some(roles, user, &*queue, count, role),
-        _ => some_lead_to(grants, user, &*queue, count, right),
+        Sought::Role(role) => is_granted_to_some(roles, user, queue, count, role),
+        _ => some_lead_to(grants, user, queue, count, right),
     }
 }
 

@@ -10,15 +10,17 @@ mod decided;
 mod deciding;
 mod direct;
 mod draft;
+mod edits;
 mod grants;
 mod holding;
+mod kind;
 mod laws;
 mod lists;
-mod order;
 mod pair;
 mod places;
 mod reach;
 mod right;
+mod room;
 mod staged;
 mod walking;
 

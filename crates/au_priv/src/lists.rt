@@ -1,19 +1,11 @@
-//! Lists of grants that changes are made of.
-use au_base::{Action, List, Name, Privilege, TableName};
-use std::marker::Model;
+//! Vectors of grants that changes are made in.
 
-/// The lists of grants, to which `GrantDraft` adds that they are in order.
+use au_base::{Action, Name, Privilege, TableName};
+
+/// The grants of each kind, in vectors whose room contracts see.
 #[derive(Debug, Drop)]
 pub struct GrantLists {
-    pub system: List<(Name, Privilege, bool)>,
-    pub role: List<(Name, Name, bool)>,
-    pub object: List<(Name, TableName, Action)>,
-}
-
-impl Model for GrantLists {
-    ghost use Rattle.au_priv.specs.Rights.{Grants as AllGrants};
-
-    ghost Value = { AllGrants };
-
-    ghost view = { λ g. record { system = g.system; role = g.role; object = g.object } };
+    pub system: Vec<(Name, Privilege, bool)>,
+    pub role: Vec<(Name, Name, bool)>,
+    pub object: Vec<(Name, TableName, Action)>,
 }

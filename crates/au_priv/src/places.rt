@@ -2,7 +2,7 @@
 ghost use Rattle.std.specs.Prelude.{◌≡◌, ◌∷◌, [], IsTrue};
 ghost use Rattle.au_base.specs.Actions as actions;
 ghost use Rattle.au_base.specs.Privileges as privileges;
-ghost use Rattle.au_priv.specs.Halving.{IsPlaceOf};
+ghost use Rattle.au_priv.specs.descent.Halving.{IsPlaceOf};
 ghost use Rattle.au_priv.specs.Order.{fields_before, is_in_order, object_before, object_fields, role_before, role_fields, system_before, system_fields};
 
 use au_base::{Action, Name, Privilege, TableName};

@@ -3,7 +3,7 @@
 ghost use Rattle.std.specs.Prelude.{◌≡◌, ◌≤◌, ◌<◌, IsTrue, false, length, true};
 ghost use Rattle.au_priv.specs.Order.{is_in_order, role_before};
 ghost use Rattle.au_priv.specs.Rights.{IsRoleGranted, Name as Bytes};
-ghost use Rattle.au_priv.specs.Search.{EndAt, IsFirstGrant, IsReach, IsSearch, IsSeen, WentOn, grantee_at, mark_at, role_at};
+ghost use Rattle.au_priv.specs.descent.Search.{EndAt, IsFirstGrant, IsReach, IsSearch, IsSeen, WentOn, grantee_at, mark_at, role_at};
 
 use crate::places::first_role_place;
 use au_base::Name;

@@ -1,36 +1,58 @@
-//! Grants that are ready to be settled.
-ghost use Rattle.std.specs.Prelude.{◌≡◌};
+//! Changes of grants that are ready to be made.
+ghost use Rattle.std.specs.Prelude.{◌≡◌, IfOk, length};
+ghost use Rattle.au_priv.specs.Changing.{applied_all};
+ghost use Rattle.au_priv.specs.Staging.{Fits};
 
+use crate::change::GrantChange;
+use crate::edits::Edits;
 use crate::grants::Grants;
+use au_base::Memory;
+use std::alloc::Global;
 use std::marker::Model;
+use std::mem;
 
-/// The grants that `Grants::settle` makes the present ones. Contracts see the grants.
+/// Changes that `Grants::settle` makes with no memory. Contracts see the changes, and how many
+/// grants of each kind there were when they were staged.
 #[derive(Debug, Drop)]
 pub struct StagedGrants {
-    after: Grants,
+    edits: Edits,
+    /// What stands in the place of the grants while they are changed.
+    placeholder: Grants,
 }
 
 impl Model for StagedGrants {
-    ghost use Rattle.au_priv.specs.declared.grants.Grants.{Grants};
+    ghost use Rattle.au_priv.specs.Staging.{Staged};
+    ghost use Rattle.au_priv.specs.descent.Editing.{AreSpared};
 
-    ghost Value = { Grants };
+    ghost Value = { Staged };
 
-    ghost view = { λ s. s.after };
+    ghost view = { λ s. record { changes = s.edits.changes.items; system = s.edits.system.count; role = s.edits.role.count; object = s.edits.object.count } };
+
+    ghost invariant = { λ s. AreSpared s.edits };
 }
 
 impl StagedGrants {
-    /// These grants, ready to be settled. It takes no memory.
-    pub(crate) fn new(after: Grants) -> StagedGrants
-        ensures { result ≡ after }
+    /// The changes, ready to be made on these grants.
+    pub(crate) fn of(
+        alloc: Global,
+        grants: &Grants,
+        changes: &[GrantChange],
+    ) -> Result<StagedGrants, Memory>
+        ensures { IfOk result (λ staged. staged ≡ record { changes = changes.now; system = length grants.now.system; role = length grants.now.role; object = length grants.now.object }) }
     {
-        StagedGrants { after }
+        Ok(StagedGrants {
+            edits: Edits::of(alloc, grants, changes)?,
+            placeholder: Grants::new(alloc),
+        })
     }
 
-    /// The grants. It takes no memory.
-    pub(crate) fn into_grants(self) -> Grants
-        ensures { result ≡ self }
+    /// Makes the changes on the grants. It takes no memory.
+    pub(crate) fn make_on(self, grants: &mut Grants)
+        requires { Fits self grants.old }
+        ensures { grants.new ≡ applied_all self.changes grants.old }
     {
-        let StagedGrants { after } = self;
-        after
+        let StagedGrants { edits, placeholder } = self;
+        let present = mem::replace(grants, placeholder);
+        *grants = edits.made(present);
     }
 }

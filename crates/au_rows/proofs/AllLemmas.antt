@@ -51,7 +51,6 @@ pub ended-none : (e : Ending) (by : ClientNo) (changes : List Unsettled) (places
 ended-none e by changes places slots order whole covered = record {
   order = order;
   whole = whole;
-  left = λ h. h;
   open_tables = λ tables h. h;
   numbered = λ h. h;
   rows = refl;
@@ -77,7 +76,6 @@ module _ (e : Ending) (by : ClientNo) (change : Unsettled) (rest changes : List 
   ended-step row = record {
     order = row.order;
     whole = row.whole;
-    left = λ h. row.left (so_far.left h);
     open_tables = λ tables h. row.open_tables tables (so_far.open_tables tables h);
     numbered = λ h. row.numbered (so_far.numbered h);
     rows = row.rows ∙ so_far.rows;

@@ -112,7 +112,7 @@ module _ (e : Ending) (by : ClientNo) (slots : List (Option Version)) where
           no-more (is_by by (owner_in t n ps)) is (ap (λ (o : Option Place). is_by by (option_and_then place_owner o)) (none-after t n p ps f later))
 
 module _ (e : Ending) (by : ClientNo) (changes : List Unsettled) (old new : List Place) (before after : List (Option Version))
-    (sound : Sound old before changes) (done : EndedBefore e by [] changes old before new after) where
+    (sound : Sound old before changes) (done : EndedBefore e by [] changes old before new after) (left : list_all place_left new ≡ true) where
   nobodys : (t : ℕ) (n : RowNo) → is_by by (owner_in t n new) ≡ true → ⊥
   nobodys t n is = let no : false ≡ true = done.ahead t n is in cc
 
@@ -170,7 +170,7 @@ module _ (e : Ending) (by : ClientNo) (changes : List Unsettled) (old new : List
   closed = let kept = kept_go changes sound.logged sound.owned in record {
     order = done.order;
     whole = done.whole;
-    left = done.left sound.left;
+    left = left;
     numbered = done.numbered sound.numbered;
     logged = kept.logged;
     owned = kept.owned;
@@ -193,7 +193,7 @@ module _ (e : Ending) (by : ClientNo) (changes : List Unsettled) (old new : List
       was (inr none) = let both : None ≡ Some version = sym none ∙ is in absurd (cc)
 
   pub closed-held : map (held_of after) new ≡ all_ended e by (map (held_of before) old)
-  closed-held = sym (none-ended e by after new done.order (done.left sound.left) done.whole nobodys) ∙ done.rows
+  closed-held = sym (none-ended e by after new done.order left done.whole nobodys) ∙ done.rows
 
   pub closed-changes : map (change_of after) (filter (unsettled_others by) changes) ≡ changes_of_others by (map (change_of before) changes)
   closed-changes = (kept_go changes sound.logged sound.owned).shown

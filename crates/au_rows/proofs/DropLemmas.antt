@@ -57,7 +57,7 @@ count-filter p q (x ∷ xs) = let rest = count-filter p q xs in step (q x) rest
     step true rest = grind (arith, common_steps)
     step false rest = grind (arith, common_steps)
 
-order-filter : (q : Place → Bool) (places : List Place) → in_order places ≡ true → in_order (filter q places) ≡ true
+pub order-filter : (q : Place → Bool) (places : List Place) → in_order places ≡ true → in_order (filter q places) ≡ true
 order-filter q [] h = refl
 order-filter q (p ∷ places) h =
     let later : list_all (is_before p) places ≡ true = grind arith in

@@ -13,20 +13,19 @@ use Rattle.au_base.specs.declared.numbers.ClientNo.{ClientNo}
 use Rattle.au_rows.specs.declared.ending.Ending.{Ending}
 use Rattle.au_rows.specs.declared.ending.Ending.TheVariants.{Settle, Undo}
 use Rattle.au_rows.specs.declared.place.Place.{Place}
-use Rattle.au_rows.specs.declared.table.Table.{Table}
 use Rattle.au_rows.specs.declared.version.Version.{Version}
 use Rattle.au_rows.specs.Edits.{edited, found}
 use Rattle.au_rows.specs.Ends.{IsGone, RowEnded, SlotDropped, OnlyFrees, is_bare, is_clear, is_loose_version, is_loose_slot}
 use Rattle.au_rows.specs.Held.{Held, row_ended, is_left, is_by, all_ended, is_this}
-use Rattle.au_rows.specs.Kept.{is_version, is_apart, content_at, held_of, is_kept, is_whole, if_left, owner_in, place_at, place_ended, place_from, place_in, place_left, place_names, place_numbered, place_open, place_shown, slot_ended, SameElsewhere}
+use Rattle.au_rows.specs.Kept.{is_version, is_apart, content_at, held_of, is_kept, is_whole, owner_in, place_at, place_ended, place_from, place_in, place_names, place_numbered, place_open, place_shown, slot_ended, SameElsewhere}
 use Rattle.au_rows.specs.Order.{is_before, in_order}
 use Rattle.au_rows.specs.Stored.{Frees}
 use Rattle.au_rows.specs.Chains.{is_slot}
 use Rattle.au_rows.proofs.ChainLemmas.{slot-named}
-use Rattle.au_rows.proofs.UsedLemmas.{any-edited, named-left, not-vacant, some-before}
+use Rattle.au_rows.proofs.UsedLemmas.{any-edited, not-vacant, or-left, some-before}
 use Rattle.au_rows.proofs.EditLemmas.{all_edited}
-use Rattle.au_rows.proofs.FoundLemmas.{count-edited, none-after, found-written, found-erased, found-other-written, found-other-erased}
-use Rattle.au_rows.proofs.OrderLemmas.{written-order, erased-order}
+use Rattle.au_rows.proofs.FoundLemmas.{count-edited, none-after, found-written, found-other-written}
+use Rattle.au_rows.proofs.OrderLemmas.{written-order}
 
 -- one version of a row goes
 pub goes : (old new : List (Option Version)) (key table number : ℕ)
@@ -178,6 +177,9 @@ found-table table number places p e = let at = found-at (place_from table number
 pub found-number : (table : ℕ) (number : RowNo) (places : List Place) (p : Place) → place_in table number places ≡ Some p → p.number.0 ≡ number.0
 found-number table number places p e = let at = found-at (place_from table number) (place_at table number) places p e in grind (arith, common_steps)
 
+pub alone : {X : Type 0} (p : X → Bool) (x : X) → p x ≡ true → list_all p (x ∷ []) ≡ true
+alone p x h = rw h refl
+
 -- the changes of a place's owner end, and this slot becomes the committed one
 module _ (old new : List (Option Version)) (places : List Place) (p : Place) (slot : Option ℕ) (e : Ending) (by : ClientNo)
     (order : in_order places ≡ true) (whole : list_all (is_whole old) places ≡ true) (there : place_in p.table p.number places ≡ Some p)
@@ -189,7 +191,7 @@ module _ (old new : List (Option Version)) (places : List Place) (p : Place) (sl
   place s = record { table = p.table; number = p.number; settled = s; owner = None; newest = None }
 
   abbrev after : Option ℕ → List Place
-  after s = edited (place_from p.table p.number) (place_at p.table p.number) places (if_left (place s))
+  after s = edited (place_from p.table p.number) (place_at p.table p.number) places (place s ∷ [])
 
   abbrev held : List (Option Version) → Option ℕ → Held
   held slots s = record { table = p.table; number = p.number; settled = content_at slots s; owner = None; newest = None }
@@ -200,25 +202,24 @@ module _ (old new : List (Option Version)) (places : List Place) (p : Place) (sl
   ends-append : (slots : List (Option Version)) (ps qs : List Place) → ends slots (ps ++ qs) ≡ ends slots ps ++ ends slots qs
   ends-append slots ps qs = rw (map-append, map-append, filter-append) refl
 
-  own : (s : Option ℕ) → content_at new s ≡ content_at old s → ends new (if_left (place s)) ≡ filter is_left (held old s ∷ [])
-  own None c = refl
-  own (Some k) c = ap (λ (o : Option (List Cell)). filter is_left ((record { table = p.table; number = p.number; settled = o; owner = None; newest = None }) ∷ [])) c
+  own : (s : Option ℕ) → content_at new s ≡ content_at old s → ends new (place s ∷ []) ≡ filter is_left (held old s ∷ [])
+  own s c = ap (λ (o : Option (List Cell)). filter is_left ((record { table = p.table; number = p.number; settled = o; owner = None; newest = None }) ∷ [])) c
 
   in_front : ends old (p ∷ []) ≡ filter is_left (held old slot ∷ [])
   in_front = ap (λ (r : Held). filter is_left (r ∷ [])) row
 
   rows_by : (q : Place) (qs : List Place) (b a : Bool) → place_from p.table p.number q ≡ b → place_at p.table p.number q ≡ a
       → is_whole old q ≡ true → list_all (is_before q) qs ≡ true → list_all (is_whole old) qs ≡ true
-      → (place_in p.table p.number qs ≡ Some p → ends new (edited (place_from p.table p.number) (place_at p.table p.number) qs (if_left (place slot))) ≡ ends old qs)
+      → (place_in p.table p.number qs ≡ Some p → ends new (edited (place_from p.table p.number) (place_at p.table p.number) qs (place slot ∷ [])) ≡ ends old qs)
       → place_in p.table p.number (q ∷ qs) ≡ Some p
-      → ends new (edited (place_from p.table p.number) (place_at p.table p.number) (q ∷ qs) (if_left (place slot))) ≡ ends old (q ∷ qs)
+      → ends new (edited (place_from p.table p.number) (place_at p.table p.number) (q ∷ qs) (place slot ∷ [])) ≡ ends old (q ∷ qs)
   rows_by q qs true true f a w later ws rest is =
       let found : Some q ≡ Some p = rw (f, a) at is in
       let q_is : q ≡ p = cc in
       let qt : q.table ≡ p.table = ap (λ (x : Place). x.table) q_is in
       let qn : q.number.0 ≡ p.number.0 = ap (λ (x : Place). x.number.0) q_is in
       rw (f, a) (
-      ends-append new (if_left (place slot)) qs
+      ends-append new (place slot ∷ []) qs
       ∙ ap₂ (λ (xs ys : List Held). xs ++ ys) (own slot content ∙ sym in_front) (ap (λ (hs : List Held). filter is_left (map (row_ended e by) hs)) (rest-stays old new p.table p.number.0 same q qs qt qn later ws))
       ∙ sym (ends-append old (p ∷ []) qs)
       ∙ ap (λ (x : Place). ends old (x ∷ qs)) (sym q_is)
@@ -228,13 +229,13 @@ module _ (old new : List (Option Version)) (places : List Place) (p : Place) (sl
       let later_is : place_in p.table p.number qs ≡ Some p = rw f at is in
       let first = place-stays old new p.table p.number.0 same q (not_from old new p.table p.number.0 same p.number refl q f) w in
       rw f (
-      ends-append new (q ∷ []) (edited (place_from p.table p.number) (place_at p.table p.number) qs (if_left (place slot)))
+      ends-append new (q ∷ []) (edited (place_from p.table p.number) (place_at p.table p.number) qs (place slot ∷ []))
       ∙ ap₂ (λ (xs ys : List Held). xs ++ ys) (ap (λ (h : Held). filter is_left (row_ended e by h ∷ [])) first) (rest later_is)
       ∙ sym (ends-append old (q ∷ []) qs)
       )
 
   rows_go : (qs : List Place) → in_order qs ≡ true → list_all (is_whole old) qs ≡ true → place_in p.table p.number qs ≡ Some p
-      → ends new (edited (place_from p.table p.number) (place_at p.table p.number) qs (if_left (place slot))) ≡ ends old qs
+      → ends new (edited (place_from p.table p.number) (place_at p.table p.number) qs (place slot ∷ [])) ≡ ends old qs
   rows_go [] o ws is = cc
   rows_go (q ∷ qs) o ws is =
       let later : list_all (is_before q) qs ≡ true = grind arith in
@@ -273,66 +274,49 @@ module _ (old new : List (Option Version)) (places : List Place) (p : Place) (sl
       let others : list_all (is_whole old) qs ≡ true = grind arith in
       whole_by q qs (place_from p.table p.number q) (place_at p.table p.number q) refl refl first later others news n (whole_go news n qs rest others) is
 
-  new_whole : (s : Option ℕ) → is_kept new p.table p.number.0 s ≡ true → list_all (is_whole new) (if_left (place s)) ≡ true
-  new_whole None k = refl
-  new_whole (Some slot) k = rw k refl
-
-  new_left : (s : Option ℕ) → list_all place_left (if_left (place s)) ≡ true
-  new_left None = refl
-  new_left (Some slot) = refl
-
-  new_open : (tables : List (Option Table)) (s : Option ℕ) → place_open tables p ≡ true → list_all (place_open tables) (if_left (place s)) ≡ true
-  new_open tables None h = refl
-  new_open tables (Some slot) h = rw h refl
-
-  new_numbered : (s : Option ℕ) → place_numbered p ≡ true → list_all place_numbered (if_left (place s)) ≡ true
-  new_numbered None h = refl
-  new_numbered (Some slot) h = rw h refl
+  new_whole : (s : Option ℕ) → is_kept new p.table p.number.0 s ≡ true → list_all (is_whole new) (place s ∷ []) ≡ true
+  new_whole s k = rw (k, apart-none s) refl
 
   new_order : (s : Option ℕ) → in_order (after s) ≡ true
-  new_order None = erased-order p.table p.number places order
-  new_order (Some slot) = written-order p.table p.number (place (Some slot)) refl refl places order
+  new_order s = written-order p.table p.number (place s) refl refl places order
 
   new_others : (s : Option ℕ) (t : ℕ) (n : RowNo) → is_this p.table p.number t n ≡ false → place_in t n (after s) ≡ place_in t n places
-  new_others None t n ne = found-other-erased p.table p.number t n ne places order
-  new_others (Some slot) t n ne = found-other-written p.table p.number t n ne places (place (Some slot)) refl refl order
+  new_others s t n ne = found-other-written p.table p.number t n ne places (place s) refl refl order
 
   new_here : (s : Option ℕ) → is_bare (place_in p.table p.number (after s)) ≡ true
-  new_here None = ap is_bare (found-erased p.table p.number places order)
-  new_here (Some slot) = ap is_bare (found-written p.table p.number places (place (Some slot)) refl refl)
+  new_here s = ap is_bare (found-written p.table p.number places (place s) refl refl)
 
-  new_shown : (s : Option ℕ) → count_by place_shown (if_left (place s)) ≤ 1
+  new_shown : (s : Option ℕ) → count_by place_shown (place s ∷ []) ≤ 1
   new_shown None = omega arith
   new_shown (Some slot) = omega arith
 
   pub ended-with : RowEnded e p.table p.number by places old (after slot) new
   ended-with = record {
     order = new_order slot;
-    whole = whole_go (if_left (place slot)) (new_whole slot kept) places order whole there;
-    left = λ h. all_edited place_left (place_from p.table p.number) (place_at p.table p.number) places (if_left (place slot)) h (new_left slot);
-    open_tables = λ tables h. all_edited (place_open tables) (place_from p.table p.number) (place_at p.table p.number) places (if_left (place slot)) h
-        (new_open tables slot (found_passes (place_open tables) (place_from p.table p.number) (place_at p.table p.number) places p h there));
-    numbered = λ h. all_edited place_numbered (place_from p.table p.number) (place_at p.table p.number) places (if_left (place slot)) h
-        (new_numbered slot (found_passes place_numbered (place_from p.table p.number) (place_at p.table p.number) places p h there));
+    whole = whole_go (place slot ∷ []) (new_whole slot kept) places order whole there;
+    open_tables = λ tables h. all_edited (place_open tables) (place_from p.table p.number) (place_at p.table p.number) places (place slot ∷ []) h
+        (alone (place_open tables) (place slot) (found_passes (place_open tables) (place_from p.table p.number) (place_at p.table p.number) places p h there));
+    numbered = λ h. all_edited place_numbered (place_from p.table p.number) (place_at p.table p.number) places (place slot ∷ []) h
+        (alone place_numbered (place slot) (found_passes place_numbered (place_from p.table p.number) (place_at p.table p.number) places p h there));
     rows = rows_go places order whole there;
     elsewhere = same;
     frees = frees;
     others = new_others slot;
     here = inl (new_here slot);
-    shown = let most = count-edited place_shown (place_from p.table p.number) (place_at p.table p.number) places (if_left (place slot)) in let one = new_shown slot in omega arith;
+    shown = let most = count-edited place_shown (place_from p.table p.number) (place_at p.table p.number) places (place slot ∷ []) in let one = new_shown slot in omega arith;
     keeps = λ s some names.
-        any-edited (place_names s) (place_from p.table p.number) (place_at p.table p.number) places (if_left (place slot)) names
+        any-edited (place_names s) (place_from p.table p.number) (place_at p.table p.number) places (place slot ∷ []) names
         (λ q is here.
         let both : Some p ≡ Some q = sym there ∙ is in
         let same : p ≡ q = cc in
-        named-left (place slot) slot s refl (goes s some (ap (λ (x : Place). is_slot s x.settled) same ∙ here)));
+        or-left (is_slot s slot) false (goes s some (ap (λ (x : Place). is_slot s x.settled) same ∙ here)));
   }
 
 -- the changes of a place's owner end
 pub ended-row : (old new : List (Option Version)) (places : List Place) (p : Place) (e : Ending) (by : ClientNo)
     → in_order places ≡ true → list_all (is_whole old) places ≡ true → place_in p.table p.number places ≡ Some p
     → is_by by p.owner ≡ true → Frees old new (slot_ended e p)
-    → RowEnded e p.table p.number by places old (edited (place_from p.table p.number) (place_at p.table p.number) places (if_left (place_ended e p))) new
+    → RowEnded e p.table p.number by places old (edited (place_from p.table p.number) (place_at p.table p.number) places (place_ended e p ∷ [])) new
 ended-row old new places p Settle by order whole there isby f =
     let wp = found_passes (is_whole old) (place_from p.table p.number) (place_at p.table p.number) places p whole there in
     let settled : is_kept old p.table p.number.0 p.settled ≡ true = grind arith in
@@ -358,7 +342,6 @@ pub kept-row : (slots : List (Option Version)) (places : List Place) (table : �
 kept-row slots places table number e by order whole other = record {
   order = order;
   whole = whole;
-  left = λ h. h;
   open_tables = λ tables h. h;
   numbered = λ h. h;
   rows = refl;
@@ -465,7 +448,6 @@ pub then-dropped : (e : Ending) (table : ℕ) (number : RowNo) (by : ClientNo) (
 then-dropped e table number by old new before mid after r d = record {
   order = r.order;
   whole = d.whole;
-  left = r.left;
   open_tables = r.open_tables;
   numbered = r.numbered;
   rows = ap (all_ended e by) d.held ∙ r.rows;

@@ -68,43 +68,8 @@ module _ (table : ℕ) (number : RowNo) where
       go [] = rw (first, here) refl
       go (p ∷ ps) = step p ps (place_from table number p) refl (go ps)
 
-  -- the row that is taken away isn't found
-  pub found-erased : (places : List Place) → in_order places ≡ true
-      → place_in table number (edited (place_from table number) (place_at table number) places []) ≡ None
-  found-erased [] o = refl
-  found-erased (p ∷ ps) o =
-      let later : list_all (is_before p) ps ≡ true = grind arith in
-      let rest : in_order ps ≡ true = grind arith in
-      step (place_from table number p) (place_at table number p) refl refl later (found-erased ps rest)
-    where
-      step : (b a : Bool) → place_from table number p ≡ b → place_at table number p ≡ a → list_all (is_before p) ps ≡ true
-          → place_in table number (edited (place_from table number) (place_at table number) ps []) ≡ None
-          → place_in table number (edited (place_from table number) (place_at table number) (p ∷ ps) []) ≡ None
-      step true true f a later rest = rw (f, a) (none-after table number p ps f later)
-      step true false f a later rest = rw (f, a, f, a) refl
-      step false a f at later rest = rw (f, f) rest
-
   module _ (t : ℕ) (n : RowNo) (ne : is_this table number t n ≡ false) where
     -- another row is found as before
-    pub found-other-erased : (places : List Place) → in_order places ≡ true
-        → place_in t n (edited (place_from table number) (place_at table number) places []) ≡ place_in t n places
-    found-other-erased [] o = refl
-    found-other-erased (p ∷ ps) o =
-        let later : list_all (is_before p) ps ≡ true = grind arith in
-        let rest : in_order ps ≡ true = grind arith in
-        step (place_from table number p) (place_at table number p) (place_from t n p) refl refl refl later (found-other-erased ps rest)
-      where
-        not_this : place_at table number p ≡ true → place_at t n p ≡ false
-        not_this a = grind (arith, common_steps)
-
-        step : (b a c : Bool) → place_from table number p ≡ b → place_at table number p ≡ a → place_from t n p ≡ c → list_all (is_before p) ps ≡ true
-            → place_in t n (edited (place_from table number) (place_at table number) ps []) ≡ place_in t n ps
-            → place_in t n (edited (place_from table number) (place_at table number) (p ∷ ps) []) ≡ place_in t n (p ∷ ps)
-        step true true true f a c later rest = rw (f, a, c, not_this a) (none-after t n p ps c later)
-        step true true false f a c later rest = rw (f, a, c) refl
-        step true false c f a e later rest = rw (f, a) refl
-        step false a c f at e later rest = rw f (ap (λ o. cond (place_from t n p) (cond (place_at t n p) (Some p) None) o) rest)
-
     pub found-other-written : (places : List Place) (y : Place) → y.table ≡ table → y.number.0 ≡ number.0 → in_order places ≡ true
         → place_in t n (edited (place_from table number) (place_at table number) places (y ∷ [])) ≡ place_in t n places
     found-other-written places y yt yn o = go places o

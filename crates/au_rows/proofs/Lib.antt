@@ -1,5 +1,6 @@
 pub mod AgreeLemmas
 pub mod AllLemmas
+pub mod ApartLemmas
 pub mod ChainLemmas
 pub mod ClosingLemmas
 pub mod DropLemmas
@@ -8,11 +9,14 @@ pub mod EndLemmas
 pub mod FoundLemmas
 pub mod IndexLemmas
 pub mod KeyLemmas
+pub mod LaneLemmas
 pub mod LinkLemmas
 pub mod NumberLemmas
 pub mod OrderLemmas
+pub mod OtherLemmas
 pub mod PutLemmas
 pub mod SoughtLemmas
+pub mod SweepLemmas
 pub mod TableLemmas
 pub mod TakenLemmas
 pub mod UnderLemmas

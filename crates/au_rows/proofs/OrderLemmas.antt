@@ -1,5 +1,5 @@
 -- What the order of the places gives, and what keeps it.
-use Rattle.std.proofs.Common.{◌≡◌, ℕ, zero, suc, ◌<◌, ◌≤◌, Bool, true, false, cond, List, [], ◌∷◌, length, get_or, refl, arith, Option}
+use Rattle.std.proofs.Common.{◌≡◌, ℕ, zero, suc, ◌<◌, ◌≤◌, Bool, true, false, List, [], ◌∷◌, length, get_or, refl, arith, Option}
 use Rattle.std.specs.List.{list_all}
 use Rattle.std.proofs.lemmas.Grind.{common_steps}
 use Rattle.au_base.specs.declared.numbers.RowNo.{RowNo}
@@ -94,18 +94,3 @@ with_place-order table number by slot places o = edited-order table number _ ref
 pub written-order : (table : ℕ) (number : RowNo) (y : Place) → y.table ≡ table → y.number.0 ≡ number.0 → (places : List Place)
     → in_order places ≡ true → in_order (edited (place_from table number) (place_at table number) places (y ∷ [])) ≡ true
 written-order table number y t n places o = edited-order table number y t n places o
-
--- a place that is taken away keeps the order
-pub erased-order : (table : ℕ) (number : RowNo) (places : List Place)
-    → in_order places ≡ true → in_order (edited (place_from table number) (place_at table number) places []) ≡ true
-erased-order table number [] o = refl
-erased-order table number (p ∷ ps) o =
-    let later : list_all (is_before p) ps ≡ true = grind arith in
-    let rest : in_order ps ≡ true = grind arith in
-    by_tests (place_from table number p) (place_at table number p) later rest (erased-order table number ps rest)
-  where
-    by_tests : (b a : Bool) → list_all (is_before p) ps ≡ true → in_order ps ≡ true → in_order (edited (place_from table number) (place_at table number) ps []) ≡ true
-        → in_order (cond b (cond a ps (p ∷ ps)) (p ∷ edited (place_from table number) (place_at table number) ps [])) ≡ true
-    by_tests true true l r e = r
-    by_tests true false l r e = rw (l, r) refl
-    by_tests false a l r e = rw (all_edited (is_before p) (place_from table number) (place_at table number) ps [] l refl, e) refl

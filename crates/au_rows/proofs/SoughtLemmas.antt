@@ -47,7 +47,7 @@ hash-of-key table number (p ∷ places) key cells some has = stored-key cells ta
 nothing-in : {X : Type 0} (x : X) → Contains [] x → ⊥
 nothing-in x h = let lt = h.1 in omega arith
 
-row-number : (a b : RowNo) → a.0 ≡ b.0 → a ≡ b
+pub row-number : (a b : RowNo) → a.0 ≡ b.0 → a ≡ b
 row-number a b e = ap (λ (x : ℕ). let n : RowNo = record { 0 = x } in n) e
 
 -- the place of the version's row
@@ -115,7 +115,7 @@ module _ (slots : List (Option Version)) (by : ClientNo) where
         go (inl same) = (ap (λ (r : RowNo × List Cell). r.0) (sym same), ap (λ (r : RowNo × List Cell). Some r.1) same)
         go (inr more) = absurd (nothing-in row more)
 
-    shown-is : (q : Place) (row : RowNo × List Cell) → Contains (shown_to t by (held_of slots q)) row → ((q.table == t) ≡ true) × (row.0 ≡ q.number) × (seen_by by (held_of slots q) ≡ Some row.1)
+    pub shown-is : (q : Place) (row : RowNo × List Cell) → Contains (shown_to t by (held_of slots q)) row → ((q.table == t) ≡ true) × (row.0 ≡ q.number) × (seen_by by (held_of slots q) ≡ Some row.1)
     shown-is q row h = go (q.table == t) refl h
       where
         go : (b : Bool) → (q.table == t) ≡ b → Contains (cond b (entry q.number (seen_by by (held_of slots q))) []) row → ((q.table == t) ≡ true) × (row.0 ≡ q.number) × (seen_by by (held_of slots q) ≡ Some row.1)
@@ -161,11 +161,19 @@ module _ (slots : List (Option Version)) (by : ClientNo) where
             view-has places version.number p version.cells (ap (λ (x : ℕ). place_in x version.number places) (sym m.0) ∙ e)
             (content-seen p ∙ in-slot slots (slot_seen by p) slot version (slot-named slot (slot_seen by p) h) is)
 
-    -- where none is found, no row of the view has the key
-    pub under-none : (places : List Place) (key_places : List ℕ) (key : List Cell) → in_order places ≡ true → list_all (is_whole slots) places ≡ true → IsIndexedBy t key_places slots → (key_places ≡ [] → ⊥)
-        → ((slot : ℕ) (version : Version) → get_or slots slot None ≡ Some version → version.hash ≡ key_hash t key → IsMatch Seen places t key_places key by slot version → ⊥)
-        → (row : RowNo × List Cell) → Contains (view_of t by (map (held_of slots) places)) row → HasKey key_places key (Some row.1) → ⊥
-    under-none places key_places key order whole indexed keyed none row h has =
+    -- a version that is found under the key, of this row
+    pub record Matched (places : List Place) (key_places : List ℕ) (key : List Cell) (row : RowNo × List Cell) : Type 0 where
+      pub slot : ℕ
+      pub version : Version
+      pub there : get_or slots slot None ≡ Some version
+      pub hashed : version.hash ≡ key_hash t key
+      pub matches : IsMatch Seen places t key_places key by slot version
+      pub numbered : version.number.0 ≡ row.0.0
+
+    -- a row of the view that has the key has such a version
+    pub matched : (places : List Place) (key_places : List ℕ) (key : List Cell) → in_order places ≡ true → list_all (is_whole slots) places ≡ true → IsIndexedBy t key_places slots → (key_places ≡ [] → ⊥)
+        → (row : RowNo × List Cell) → Contains (view_of t by (map (held_of slots) places)) row → HasKey key_places key (Some row.1) → Matched places key_places key row
+    matched places key_places key order whole indexed keyed row h has =
         let place = view-from places order row h in
         let p = place.0 in
         let found = content-slot slots (slot_seen by p) row.1 (sym (content-seen p) ∙ place.2) in
@@ -177,7 +185,21 @@ module _ (slots : List (Option Version)) (by : ClientNo) where
         let there : place_in version.table version.number places ≡ Some p = ap₂ (λ (a b : ℕ). place_in a (record { 0 = b }) places) table number ∙ place.1 in
         let has_it = subst (λ (cells : List Cell). HasKey key_places key (Some cells)) (sym found.4) has in
         let seen : is_sought Seen by found.0 (place_in version.table version.number places) ≡ true = ap (is_sought Seen by found.0) there ∙ (ap (is_slot found.0) found.2 ∙ number-itself found.0) in
-        none found.0 version found.3 (indexed found.0 version found.3 table ∙ (ap (λ (x : ℕ). version_hash x version.number.0 key_places version.cells) table ∙ hash-of-key t version.number.0 key_places key version.cells keyed has_it)) (table, has_it, seen)
+        record {
+          slot = found.0;
+          version = version;
+          there = found.3;
+          hashed = indexed found.0 version found.3 table ∙ (ap (λ (x : ℕ). version_hash x version.number.0 key_places version.cells) table ∙ hash-of-key t version.number.0 key_places key version.cells keyed has_it);
+          matches = (table, has_it, seen);
+          numbered = number;
+        }
+
+    -- where none is found, no row of the view has the key
+    pub under-none : (places : List Place) (key_places : List ℕ) (key : List Cell) → in_order places ≡ true → list_all (is_whole slots) places ≡ true → IsIndexedBy t key_places slots → (key_places ≡ [] → ⊥)
+        → ((slot : ℕ) (version : Version) → get_or slots slot None ≡ Some version → version.hash ≡ key_hash t key → IsMatch Seen places t key_places key by slot version → ⊥)
+        → (row : RowNo × List Cell) → Contains (view_of t by (map (held_of slots) places)) row → HasKey key_places key (Some row.1) → ⊥
+    under-none places key_places key order whole indexed keyed none row h has =
+        let m = matched places key_places key order whole indexed keyed row h has in none m.slot m.version m.there m.hashed m.matches
 
 -- the owner of another client's row
 owner-others : (by c : ClientNo) (w : Option ClientNo) → is_by c w ≡ true → (is_some w && not (is_by by w)) ≡ true → not (c.0 == by.0) ≡ true

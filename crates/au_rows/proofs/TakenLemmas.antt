@@ -69,7 +69,6 @@ module _ (by : ClientNo) (change : Unsettled) (old new : List Unsettled) (t : Ta
   taken-first e changes places places' before after d = record {
     order = d.order;
     whole = d.whole;
-    left = d.left;
     open_tables = d.open_tables;
     numbered = d.numbered;
     rows = d.rows;
@@ -109,7 +108,6 @@ pub ended-all : (e : Ending) (by : ClientNo) (rest changes : List Unsettled) (pl
 ended-all e by rest changes places places' before after none d = record {
   order = d.order;
   whole = d.whole;
-  left = d.left;
   open_tables = d.open_tables;
   numbered = d.numbered;
   rows = d.rows;

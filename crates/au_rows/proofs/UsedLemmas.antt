@@ -11,7 +11,7 @@ use Rattle.au_rows.specs.declared.version.Version.{Version}
 use Rattle.au_rows.specs.Chains.{is_slot}
 use Rattle.au_rows.specs.Edits.{edited, found}
 use Rattle.au_rows.specs.Ends.{OnlyFrees, is_bare, is_clear}
-use Rattle.au_rows.specs.Kept.{if_left, is_apart, owned_place, place_at, place_from, place_in, place_names, place_owner, settled_slot, with_place}
+use Rattle.au_rows.specs.Kept.{is_apart, owned_place, place_at, place_from, place_in, place_names, place_owner, settled_slot, with_place}
 
 pub or-left : (a b : Bool) → a ≡ true → (a || b) ≡ true
 or-left a b h = rw h refl
@@ -69,14 +69,6 @@ any-parts f q g (x ∷ xs) all h = step (q x) refl (or-cases (f x) (list_any f x
         both true e (inl kept) = inl (rw e (or-right (f x) (list_any f (filter q xs)) kept))
         both false e (inl kept) = inl (rw e kept)
         both c e (inr gone) = inr (or-right (g x) (list_any g xs) gone)
-
--- a place that is left names its committed content
-pub named-left : (place : Place) (s : Option ℕ) (slot : ℕ) → place.settled ≡ s → is_slot slot s ≡ true → list_any (place_names slot) (if_left place) ≡ true
-named-left place None slot e h = cc
-named-left place (Some settled) slot e h =
-    let some : is_some place.settled ≡ true = ap is_some e in
-    let here : is_slot slot place.settled ≡ true = ap (is_slot slot) e ∙ h in
-    rw some (rw here refl)
 
 pub bare-unowned : (o : Option Place) → is_bare o ≡ true → option_and_then place_owner o ≡ None
 bare-unowned None h = refl

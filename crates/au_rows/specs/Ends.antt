@@ -9,7 +9,7 @@ use Rattle.au_rows.specs.declared.table.Table.{Table}
 use Rattle.au_rows.specs.declared.unsettled.Unsettled.{Unsettled}
 use Rattle.au_rows.specs.declared.version.Version.{Version}
 use Rattle.au_rows.specs.Held.{all_ended, is_by, is_this}
-use Rattle.au_rows.specs.Kept.{AllUsed, SameElsewhere, change_names, held_of, is_apart, is_used, is_version, is_whole, owner_in, place_in, place_left, place_names, place_numbered, place_open, place_shown, unsettled_others}
+use Rattle.au_rows.specs.Kept.{AllUsed, SameElsewhere, change_names, held_of, is_apart, is_used, is_version, is_whole, owner_in, place_in, place_names, place_numbered, place_open, place_shown, unsettled_others}
 use Rattle.au_rows.specs.Order.{in_order}
 
 -- the change is the client's
@@ -77,7 +77,6 @@ pub record SlotDropped (table : ℕ) (number : RowNo) (places : List Place) (bef
 pub record RowEnded (ending : Ending) (table : ℕ) (number : RowNo) (by : ClientNo) (old : List Place) (before : List (Option Version)) (new : List Place) (after : List (Option Version)) : Type 0 where
   pub order : in_order new ≡ true
   pub whole : list_all (is_whole after) new ≡ true
-  pub left : list_all place_left old ≡ true → list_all place_left new ≡ true
   pub open_tables : (tables : List (Option Table)) → list_all (place_open tables) old ≡ true → list_all (place_open tables) new ≡ true
   pub numbered : list_all place_numbered old ≡ true → list_all place_numbered new ≡ true
   pub rows : all_ended ending by (map (held_of after) new) ≡ all_ended ending by (map (held_of before) old)
@@ -106,7 +105,6 @@ is_used_still by rest changes places slot =
 pub record EndedBefore (ending : Ending) (by : ClientNo) (rest : List Unsettled) (changes : List Unsettled) (old : List Place) (before : List (Option Version)) (new : List Place) (after : List (Option Version)) : Type 0 where
   pub order : in_order new ≡ true
   pub whole : list_all (is_whole after) new ≡ true
-  pub left : list_all place_left old ≡ true → list_all place_left new ≡ true
   pub open_tables : (tables : List (Option Table)) → list_all (place_open tables) old ≡ true → list_all (place_open tables) new ≡ true
   pub numbered : list_all place_numbered old ≡ true → list_all place_numbered new ≡ true
   pub rows : all_ended ending by (map (held_of after) new) ≡ all_ended ending by (map (held_of before) old)

@@ -1,5 +1,5 @@
 -- The rows of all tables: what is committed of each, and what open transactions have made of them.
-use Rattle.std.specs.Prelude.{◌≡◌, ℕ, ◌<◌, List, [], ◌∷◌, ◌++◌, Bool, true, false, not, ◌==◌, ◌&&◌, ◌||◌, nat_le, nat_lt, is_some, if◌then◌else◌, Option, None, Some, map, filter, length, max, slice_get, slice_index, slice_index_or, ◌⊎◌}
+use Rattle.std.specs.Prelude.{◌≡◌, ◌≢◌, ℕ, ◌<◌, List, [], ◌∷◌, ◌++◌, Bool, true, false, not, ◌==◌, ◌&&◌, ◌||◌, nat_le, nat_lt, is_some, if◌then◌else◌, Option, None, Some, map, filter, length, max, slice_get, slice_index, slice_index_or, ◌⊎◌}
 use Rattle.std.specs.List.{Contains, position_or_len}
 use Rattle.std.specs.Option.{option_and_then, option_map}
 use Rattle.std.specs.Str.{bytes_eq}
@@ -242,3 +242,11 @@ is_of_other table change = not (change.table == table)
 abbrev pub IsUnder : Contents → ℕ → List Cell → ClientNo → RowNo × List Cell → Type 0
 IsUnder contents table key by row =
     Contains (view_of table by contents.held) row × HasKey (key_of table contents.tables) key (Some row.1)
+
+-- another row of the view than this one has the key
+abbrev pub IsOtherIn : List (RowNo × List Cell) → List ℕ → List Cell → RowNo → RowNo → Type 0
+IsOtherIn view places key row other = (other ≢ row) × (cells : List Cell) × Contains view (other, cells) × HasKey places key (Some cells)
+
+-- another row of the table than this one is one that the client sees, and its key is this
+abbrev pub IsUnderOther : Contents → ℕ → List Cell → RowNo → ClientNo → RowNo → Type 0
+IsUnderOther contents table key row by other = IsOtherIn (view_of table by contents.held) (key_of table contents.tables) key row other

@@ -3,6 +3,7 @@ use Rattle.std.specs.Prelude.{◌≡◌, ℕ, List, [], ◌∷◌, Bool, true, f
 use Rattle.std.specs.List.{list_all, list_any}
 use Rattle.std.specs.Option.{option_and_then, option_map}
 use Rattle.au_base.specs.declared.cell.Cell.{Cell}
+use Rattle.au_base.specs.declared.table.TableName.{TableName}
 use Rattle.au_base.specs.declared.numbers.RowNo.{RowNo}
 use Rattle.au_base.specs.declared.numbers.ClientNo.{ClientNo}
 use Rattle.au_rows.specs.Edits.{edited, found}
@@ -14,7 +15,7 @@ use Rattle.au_rows.specs.declared.unsettled.Unsettled.{Unsettled}
 use Rattle.au_rows.specs.declared.version.Version.{Version}
 use Rattle.au_rows.specs.Chains.{is_slot}
 use Rattle.au_rows.specs.Hash.{version_hash}
-use Rattle.au_rows.specs.Held.{Held, Change, is_from, is_this, is_by, key_of, or_else}
+use Rattle.au_rows.specs.Held.{Held, Change, is_from, is_named, is_this, is_by, key_of, or_else}
 use Rattle.au_rows.specs.Order.{in_order}
 
 -- the content in a slot
@@ -111,10 +112,6 @@ abbrev pub slot_ended : Ending → Place → Option ℕ
 slot_ended Settle place = place.settled
 slot_ended Undo place = None
 
--- the place, where something of its row is left
-abbrev pub if_left : Place → List Place
-if_left place = if is_some place.settled then place ∷ [] else []
-
 -- versions of other rows stay
 abbrev pub SameElsewhere : List (Option Version) → List (Option Version) → ℕ → ℕ → Type 0
 SameElsewhere old new table number =
@@ -207,6 +204,11 @@ abbrev pub IsIndexed : List (Option Table) → List (Option Version) → Type 0
 IsIndexed tables slots =
     (slot : ℕ) (version : Version) → slice_index_or slots slot None ≡ Some version
     → version.hash ≡ version_hash version.table version.number.0 (key_of version.table tables) version.cells
+
+-- no two tables have the same name
+abbrev pub AreApart : List (Option Table) → Type 0
+AreApart tables =
+    (name : TableName) (t u : ℕ) → is_named name (slice_index_or tables t None) ≡ true → is_named name (slice_index_or tables u None) ≡ true → t ≡ u
 
 -- how places, slots and unsettled changes stand to each other
 pub record Sound (places : List Place) (slots : List (Option Version)) (changes : List Unsettled) : Type 0 where

@@ -1,5 +1,5 @@
--- The changes of open transactions in the order in which they were made, each naming its client's change before it.
-use Rattle.std.specs.Prelude.{◌≡◌, ◌<◌, ◌≤◌, ◌==◌, ◌++◌, ℕ, Bool, true, List, [], ◌∷◌, Option, Some, None, slice_index_or}
+-- The changes of open transactions in the order in which they were made, each naming its lane's change before it.
+use Rattle.std.specs.Prelude.{◌≡◌, ◌<◌, ◌≤◌, ◌==◌, ◌++◌, ◌%◌, ℕ, Bool, true, false, List, [], ◌∷◌, Option, Some, None, slice_index_or}
 use Rattle.au_base.specs.declared.numbers.ClientNo.{ClientNo}
 use Rattle.au_rows.specs.declared.entry.Entry.{Entry}
 use Rattle.au_rows.specs.declared.unsettled.Unsettled.{Unsettled}
@@ -16,25 +16,44 @@ live [] = []
 live (None ∷ entries) = live entries
 live (Some entry ∷ entries) = entry.change ∷ live entries
 
-abbrev pub client_of : Entry → ℕ
-client_of entry = entry.change.by.0
+-- the lane of a client, which it shares with clients whose numbers have the same rest
+abbrev pub lane_in : ClientNo → ℕ
+lane_in by = by.0 % 4096
 
--- where a client's newest change is kept
-abbrev pub top_in : Option (Option ℕ) → Option ℕ
-top_in None = None
-top_in (Some top) = top
+abbrev pub lane_of : Entry → ℕ
+lane_of entry = lane_in entry.change.by
 
--- of the first entries, a client's newest one is named, and each names its client's one before it
+-- of the first entries, a lane's newest one is named, and each names its lane's one before it
 pub record Linked (entries : List (Option Entry)) (tops : ℕ → Option ℕ) (count : ℕ) : Type 0 where
   pub topped : (at : ℕ) (entry : Entry) → at < count → slice_index_or entries at None ≡ Some entry
-      → (top : ℕ) × (tops (client_of entry) ≡ Some top) × (at ≤ top)
+      → (top : ℕ) × (tops (lane_of entry) ≡ Some top) × (at ≤ top)
   pub linked : (at under : ℕ) (entry other : Entry) → at < count → under < at
-      → slice_index_or entries at None ≡ Some entry → slice_index_or entries under None ≡ Some other → client_of other ≡ client_of entry
+      → slice_index_or entries at None ≡ Some entry → slice_index_or entries under None ≡ Some other → lane_of other ≡ lane_of entry
       → (below : ℕ) × (entry.below ≡ Some below) × (under ≤ below)
-  pub tops_there : (client top : ℕ) → tops client ≡ Some top
-      → (top < count) × (entry : Entry) × (slice_index_or entries top None ≡ Some entry) × (client_of entry ≡ client)
+  pub tops_there : (lane top : ℕ) → tops lane ≡ Some top
+      → (top < count) × (entry : Entry) × (slice_index_or entries top None ≡ Some entry) × (lane_of entry ≡ lane)
   pub belows_there : (at below : ℕ) (entry : Entry) → at < count → slice_index_or entries at None ≡ Some entry → entry.below ≡ Some below
-      → (below < at) × (other : Entry) × (slice_index_or entries below None ≡ Some other) × (client_of other ≡ client_of entry)
+      → (below < at) × (other : Entry) × (slice_index_or entries below None ≡ Some other) × (lane_of other ≡ lane_of entry)
+
+-- the entry at the index, where there is one, is of the client
+abbrev pub is_own_entry : ClientNo → Option Entry → Bool
+is_own_entry by None = false
+is_own_entry by (Some entry) = entry.change.by.0 == by.0
+
+-- the entry below it in its lane
+abbrev pub below_in : Option Entry → Option ℕ
+below_in None = None
+below_in (Some entry) = entry.below
+
+-- an entry, the one below it in its lane, which is the client's, and where they are kept
+pub record Above (by : ClientNo) (entries : List (Option Entry)) (above : ℕ) : Type 0 where
+  pub upper : Entry
+  pub here : ℕ
+  pub lower : Entry
+  pub there : slice_index_or entries above None ≡ Some upper
+  pub names : upper.below ≡ Some here
+  pub below : slice_index_or entries here None ≡ Some lower
+  pub own : (lower.change.by.0 == by.0) ≡ true
 
 -- one change is gone, which is the client's, and the others keep their order
 pub record Taken (by : ClientNo) (change : Unsettled) (old new : List Unsettled) : Type 0 where

@@ -1,10 +1,10 @@
 -- What is sought under a key.
-use Rattle.std.specs.Prelude.{◌≡◌, ℕ, List, Bool, true, false, not, ◌&&◌, is_some, if◌then◌else◌, Option, None, Some, slice_index_or}
+use Rattle.std.specs.Prelude.{◌≡◌, ℕ, List, Bool, true, false, not, ◌==◌, ◌&&◌, is_some, if◌then◌else◌, Option, None, Some, slice_index_or}
 use Rattle.au_base.specs.declared.cell.Cell.{Cell}
 use Rattle.au_base.specs.declared.numbers.ClientNo.{ClientNo}
 use Rattle.au_rows.specs.declared.place.Place.{Place}
 use Rattle.au_rows.specs.declared.sought.Sought.{Sought}
-use Rattle.au_rows.specs.declared.sought.Sought.TheVariants.{Seen, Locked}
+use Rattle.au_rows.specs.declared.sought.Sought.TheVariants.{Seen, Other, Locked}
 use Rattle.au_rows.specs.declared.version.Version.{Version}
 use Rattle.au_rows.specs.Chains.{is_slot}
 use Rattle.au_rows.specs.Hash.{version_hash}
@@ -19,6 +19,7 @@ slot_seen by place = if is_by by place.owner then place.newest else place.settle
 abbrev pub is_sought : Sought → ClientNo → ℕ → Option Place → Bool
 is_sought sought by slot None = false
 is_sought Seen by slot (Some place) = is_slot slot (slot_seen by place)
+is_sought (Other row) by slot (Some place) = is_slot slot (slot_seen by place) && not (place.number.0 == row.0)
 is_sought Locked by slot (Some place) = is_some place.owner && not (is_by by place.owner)
 
 -- the version is of the table, has the key, and is as it is sought

@@ -1,14 +1,13 @@
 //! The changes of all open transactions.
-ghost use Rattle.std.specs.Prelude.{◌≡◌, ◌+◌, ◌<◌, ◌≤◌, ◌++◌, ◌∷◌, [], IfNone, IfSome, OnOk, false, length};
+ghost use Rattle.std.specs.Prelude.{◌≡◌, ◌+◌, ◌<◌, ◌≤◌, ◌++◌, ◌∷◌, [], IfNone, IfOk, IfSome, OnOk, false, length};
 ghost use Rattle.std.specs.List.{list_any};
 ghost use Rattle.au_rows.specs.Ends.{is_own};
 ghost use Rattle.au_rows.specs.Links.{Taken, live};
 
 use crate::entry::Entry;
-use crate::links::{add, make_room, make_way, take_newest};
+use crate::links::{add, make_room, make_way, no_tops, take_newest};
 use crate::unsettled::Unsettled;
 use au_base::{ClientNo, Memory};
-use indexmap::IndexMap;
 use std::alloc::Global;
 use std::marker::Model;
 
@@ -18,8 +17,8 @@ use std::marker::Model;
 pub struct Changes {
     /// The changes, and the places of those that are gone.
     entries: Vec<Option<Entry>>,
-    /// Where each client's newest change is kept.
-    tops: IndexMap<u64, Option<usize>>,
+    /// Where each lane's newest change is kept.
+    tops: Vec<Option<usize>>,
 }
 
 impl Model for Changes {
@@ -27,25 +26,25 @@ impl Model for Changes {
 
     ghost Value = { Listed };
 
-    ghost use Rattle.std.specs.Prelude.{◌-◌, ◌+◌, ◌≤◌, length, min, nat_eq, vec_len, vec_capacity};
-    ghost use Rattle.indexmap.specs.IndexMap.{get, index_map_len, spare};
-    ghost use Rattle.au_rows.specs.Links.{Linked, live, top_in};
+    ghost use Rattle.std.specs.Prelude.{◌≡◌, ◌-◌, None, length, slice_index_or, vec_len, vec_capacity};
+    ghost use Rattle.au_rows.specs.Links.{Linked, live};
 
-    ghost view = { λ c. record { listed = live c.entries.items; room = min (vec_capacity c.entries) (spare c.tops + index_map_len c.tops) - length (live c.entries.items) } };
+    ghost view = { λ c. record { listed = live c.entries.items; room = vec_capacity c.entries - length (live c.entries.items) } };
 
-    ghost invariant = { λ c. Linked c.entries.items (λ client. top_in (get nat_eq c.tops client)) (vec_len c.entries) × (length (live c.entries.items) ≤ spare c.tops + index_map_len c.tops) };
+    ghost invariant = { λ c. Linked c.entries.items (λ lane. slice_index_or c.tops.items lane None) (vec_len c.entries) × (vec_len c.tops ≡ 4096) };
 }
 
 impl Changes {
     /// No change, and no room.
-    pub(crate) fn new(alloc: Global) -> Self
-        ensures listed { result.listed ≡ [] }
-        ensures room { result.room ≡ 0 }
+    pub(crate) fn new(alloc: Global) -> Result<Self, Memory>
+        ensures listed { IfOk result (λ changes. changes.listed ≡ []) }
+        ensures room { IfOk result (λ changes. changes.room ≡ 0) }
     {
-        Changes {
+        let tops = no_tops(alloc)?;
+        Ok(Changes {
             entries: Vec::new(alloc),
-            tops: IndexMap::new(alloc),
-        }
+            tops,
+        })
     }
 
     /// Makes room for so many more changes.

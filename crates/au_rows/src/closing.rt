@@ -1,9 +1,9 @@
 //! The end of all changes of a client.
-ghost use Rattle.std.specs.Prelude.{◌≡◌, ◌+◌, ◌≤◌, List, Option, length, true, map, vec_len, vec_capacity};
+ghost use Rattle.std.specs.Prelude.{◌≡◌, ◌+◌, ◌≤◌, List, Option, false, filter, length, true, map, vec_len, vec_capacity};
 ghost use Rattle.std.specs.List.{count_by, list_all};
 ghost use Rattle.au_rows.specs.declared.table.Table.{Table};
 ghost use Rattle.au_rows.specs.Held.{all_ended, changes_of_others};
-ghost use Rattle.au_rows.specs.Kept.{IsIndexed, Sound, change_of, held_of, place_open, place_shown};
+ghost use Rattle.au_rows.specs.Kept.{IsIndexed, Sound, change_of, held_of, place_left, place_open, place_shown};
 
 use crate::changes::Changes;
 use crate::ending::Ending;
@@ -11,6 +11,34 @@ use crate::ends::end_all;
 use crate::place::Place;
 use crate::versions::Versions;
 use au_base::ClientNo;
+
+/// Whether something is left of the place's row.
+fn is_left(place: &Place) -> bool
+    ensures { result ≡ place_left place.now }
+{
+    place.settled.is_some() || place.owner.is_some()
+}
+
+/// Takes the places away of whose rows nothing is left.
+fn keep_left(places: &mut Vec<Place>)
+    ensures items { places.new.items ≡ filter place_left places.old.items }
+    ensures len { vec_len places.new ≤ vec_len places.old }
+    ensures capacity { vec_capacity places.new ≡ vec_capacity places.old }
+{
+    places.retain(|place| is_left(place));
+}
+
+/// Takes the places away of whose rows nothing is left, in one pass, where there are such places.
+fn sweep(places: &mut Vec<Place>, bare: bool)
+    requires { bare ≡ false → list_all place_left places.old.items ≡ true }
+    ensures items { places.new.items ≡ filter place_left places.old.items }
+    ensures len { vec_len places.new ≤ vec_len places.old }
+    ensures capacity { vec_capacity places.new ≡ vec_capacity places.old }
+{
+    if bare {
+        keep_left(places);
+    }
+}
 
 /// Ends all changes of the client.
 pub(crate) fn end_changes(
@@ -31,5 +59,6 @@ pub(crate) fn end_changes(
     ensures len { vec_len places.new ≤ vec_len places.old }
     ensures capacity { vec_capacity places.old ≤ vec_capacity places.new }
 {
-    end_all(places, versions, changes, by, ending);
+    let bare = end_all(places, versions, changes, by, ending);
+    sweep(places, bare);
 }

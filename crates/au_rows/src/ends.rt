@@ -1,16 +1,16 @@
 //! The end of a client's changes, row by row.
-ghost use Rattle.std.specs.Prelude.{◌≡◌, ◌+◌, ◌≤◌, [], filter, length, true, vec_len, vec_capacity};
+ghost use Rattle.std.specs.Prelude.{◌≡◌, ◌+◌, ◌≤◌, [], ◌∷◌, false, filter, length, not, true, vec_len, vec_capacity};
 ghost use Rattle.std.specs.List.{list_all};
 ghost use Rattle.au_rows.specs.Edits.{edited};
 ghost use Rattle.au_rows.specs.Ends.{EndedBefore, IsCovered, IsGone, RowEnded, SlotDropped, is_clear, is_loose};
-ghost use Rattle.au_rows.specs.Kept.{if_left, is_apart, is_logged, is_owned, is_whole, place_at, place_ended, place_from, place_in, slot_ended, unsettled_others};
+ghost use Rattle.au_rows.specs.Kept.{is_apart, is_logged, is_owned, is_whole, place_at, place_ended, place_from, place_in, place_left, slot_ended, unsettled_others};
 ghost use Rattle.au_rows.specs.Order.{in_order};
 ghost use Rattle.au_rows.specs.Stored.{Frees};
 
 use crate::changes::Changes;
 use crate::ending::Ending;
 use crate::place::Place;
-use crate::places::{erase, find, write};
+use crate::places::{find, write};
 use crate::unsettled::Unsettled;
 use crate::versions::Versions;
 use au_base::ClientNo;
@@ -44,11 +44,12 @@ fn replaced(place: Place, ending: Ending) -> Option<usize>
     }
 }
 
-/// Ends the changes of a place's owner. Nothing that is left of the row takes the place away.
-fn end_place(places: &mut Vec<Place>, versions: &mut Versions, place: Place, ending: Ending)
+/// Ends the changes of a place's owner, and answers whether nothing is left of the row.
+fn end_place(places: &mut Vec<Place>, versions: &mut Versions, place: Place, ending: Ending) -> bool
     requires order { in_order places.old.items ≡ true }
     requires there { place_in place.table place.number places.old.items ≡ Some place }
-    ensures items { places.new.items ≡ edited (place_from place.table place.number) (place_at place.table place.number) places.old.items (if_left (place_ended ending place)) }
+    ensures items { places.new.items ≡ edited (place_from place.table place.number) (place_at place.table place.number) places.old.items (place_ended ending place ∷ []) }
+    ensures bare { result ≡ not (place_left (place_ended ending place)) }
     ensures frees { Frees versions.old.slots versions.new.slots (slot_ended ending place) }
     ensures room { versions.old.room ≤ versions.new.room }
     ensures len { vec_len places.new ≤ vec_len places.old }
@@ -56,50 +57,55 @@ fn end_place(places: &mut Vec<Place>, versions: &mut Versions, place: Place, end
 {
     versions.free(replaced(place, ending));
     let ended = ended(place, ending);
-    if ended.settled.is_some() {
-        write(places, ended);
-    } else {
-        erase(places, place.table, place.number);
-    }
+    write(places, ended);
+    ended.settled.is_none()
 }
 
+/// Ends the changes of a place's owner, where that is the client, and answers whether a place is
+/// there of whose row nothing is left.
 fn end_if_own(
     places: &mut Vec<Place>,
     versions: &mut Versions,
     place: Place,
     by: ClientNo,
     ending: Ending,
-)
+) -> bool
     requires order { in_order places.old.items ≡ true }
     requires whole { list_all (is_whole versions.old.slots) places.old.items ≡ true }
     requires there { place_in place.table place.number places.old.items ≡ Some place }
+    ensures left { result ≡ false → list_all place_left places.old.items ≡ true → list_all place_left places.new.items ≡ true }
     ensures row { RowEnded ending place.table place.number by places.old.items versions.old.slots places.new.items versions.new.slots }
     ensures room { versions.old.room ≤ versions.new.room }
     ensures len { vec_len places.new ≤ vec_len places.old }
     ensures capacity { vec_capacity places.old ≤ vec_capacity places.new }
 {
     if place.is_by(by) {
-        end_place(places, versions, place, ending);
+        end_place(places, versions, place, ending)
+    } else {
+        false
     }
 }
 
-/// Ends the client's changes of the row of a change.
+/// Ends the client's changes of the row of a change, and answers whether a place is there of whose
+/// row nothing is left.
 fn end_row(
     places: &mut Vec<Place>,
     versions: &mut Versions,
     change: Unsettled,
     by: ClientNo,
     ending: Ending,
-)
+) -> bool
     requires order { in_order places.old.items ≡ true }
     requires whole { list_all (is_whole versions.old.slots) places.old.items ≡ true }
+    ensures left { result ≡ false → list_all place_left places.old.items ≡ true → list_all place_left places.new.items ≡ true }
     ensures row { RowEnded ending change.table change.number by places.old.items versions.old.slots places.new.items versions.new.slots }
     ensures room { versions.old.room ≤ versions.new.room }
     ensures len { vec_len places.new ≤ vec_len places.old }
     ensures capacity { vec_capacity places.old ≤ vec_capacity places.new }
 {
-    if let Some(place) = find(places, change.table, change.number) {
-        end_if_own(places, versions, place, by, ending);
+    match find(places, change.table, change.number) {
+        Some(place) => end_if_own(places, versions, place, by, ending),
+        None => false,
     }
 }
 
@@ -139,40 +145,44 @@ fn drop_version(places: &[Place], versions: &mut Versions, change: Unsettled)
 }
 
 /// Ends the client's changes of the row of one of its changes, and lets the version of this change
-/// go where nothing names it.
+/// go where nothing names it. It answers whether a place is there of whose row nothing is left.
 fn end_change(
     places: &mut Vec<Place>,
     versions: &mut Versions,
     change: Unsettled,
     by: ClientNo,
     ending: Ending,
-)
+) -> bool
     requires order { in_order places.old.items ≡ true }
     requires whole { list_all (is_whole versions.old.slots) places.old.items ≡ true }
     requires loose { is_loose versions.old.slots change ≡ true }
     ensures gone { IsGone change.slot (place_in change.table change.number places.new.items) versions.new.slots }
+    ensures left { result ≡ false → list_all place_left places.old.items ≡ true → list_all place_left places.new.items ≡ true }
     ensures row { RowEnded ending change.table change.number by places.old.items versions.old.slots places.new.items versions.new.slots }
     ensures room { versions.old.room ≤ versions.new.room }
     ensures len { vec_len places.new ≤ vec_len places.old }
     ensures capacity { vec_capacity places.old ≤ vec_capacity places.new }
 {
-    end_row(places, versions, change, by, ending);
+    let bare = end_row(places, versions, change, by, ending);
     drop_version(places, versions, change);
+    bare
 }
 
-/// Ends the client's changes, the newest first.
+/// Ends the client's changes, the newest first, and answers whether places are there of whose rows
+/// nothing is left.
 pub(crate) fn end_all(
     places: &mut Vec<Place>,
     versions: &mut Versions,
     changes: &mut Changes,
     by: ClientNo,
     ending: Ending,
-)
+) -> bool
     requires order { in_order places.old.items ≡ true }
     requires whole { list_all (is_whole versions.old.slots) places.old.items ≡ true }
     requires logged { list_all (is_logged versions.old.slots) changes.old.listed ≡ true }
     requires owned { list_all (is_owned places.old.items) changes.old.listed ≡ true }
     requires covered { IsCovered by places.old.items changes.old.listed }
+    ensures left { result ≡ false → list_all place_left places.old.items ≡ true → list_all place_left places.new.items ≡ true }
     ensures ended { EndedBefore ending by [] changes.old.listed places.old.items versions.old.slots places.new.items versions.new.slots }
     ensures others { changes.new.listed ≡ filter (unsettled_others by) changes.old.listed }
     ensures room { versions.old.room ≤ versions.new.room }
@@ -180,7 +190,9 @@ pub(crate) fn end_all(
     ensures capacity { vec_capacity places.old ≤ vec_capacity places.new }
     ensures changes_room { changes.old.room + length changes.old.listed ≤ changes.new.room + length changes.new.listed }
 {
+    let mut bare = false;
     while let Some(change) = changes.pop(by) {
-        end_change(places, versions, change, by, ending);
+        bare |= end_change(places, versions, change, by, ending);
     }
+    bare
 }

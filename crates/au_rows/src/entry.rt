@@ -2,10 +2,10 @@
 
 use crate::unsettled::Unsettled;
 
-/// A change of an open transaction. The changes of one client are a chain.
+/// A change of an open transaction. The changes of one lane are a chain.
 #[derive(Clone, Copy, Debug)]
 pub struct Entry {
     pub change: Unsettled,
-    /// Where the client's change before it is kept.
+    /// Where its lane's change before it is kept.
     pub below: Option<usize>,
 }

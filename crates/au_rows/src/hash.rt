@@ -2,7 +2,7 @@
 ghost use Rattle.std.specs.Prelude.{◌≡◌};
 ghost use Rattle.au_rows.specs.Hash.{cell_hash, hash_step, key_hash, place_hash, stored_hash, text_hash, version_hash};
 
-use au_base::{Cell, RowNo};
+use au_base::{Cell, RowNo, TableName};
 
 /// An odd number without a pattern, by which small numbers end far apart.
 const FACTOR: u64 = 6_364_136_223_846_793_005;
@@ -23,6 +23,14 @@ fn text_hash(bytes: &[u8]) -> u64
         hash = hash_step(hash, u64::from(*byte));
     }
     hash
+}
+
+/// The number of a table's name.
+pub(crate) fn name_hash(table: &TableName) -> u64 {
+    hash_step(
+        text_hash(table.owner.as_bytes()),
+        text_hash(table.name.as_bytes()),
+    )
 }
 
 /// The number of a cell. That of a negative number is the one without its sign.

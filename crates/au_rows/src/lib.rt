@@ -8,6 +8,7 @@ mod dropping;
 mod ending;
 mod ends;
 mod entry;
+mod guesses;
 mod hash;
 mod keys;
 mod links;
@@ -26,6 +27,3 @@ mod version;
 mod versions;
 
 pub use rows::Rows;
-
-#[cfg(test)]
-mod tests;

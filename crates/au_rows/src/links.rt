@@ -1,104 +1,94 @@
-//! Changes of open transactions in the order in which they were made, those of one client in a chain.
-ghost use Rattle.std.specs.Prelude.{◌≡◌, ℕ, ◌+◌, ◌<◌, ◌≤◌, ◌++◌, ◌∷◌, [], IfNone, IfOk, IfSome, IsSome, IsTrue, None, OnOk, Some, cond, false, filter, is_some, length, nat_eq, vec_len, vec_capacity};
+//! Changes of open transactions in the order in which they were made, those of one lane in a chain.
+//! A client's lane goes by its number: clients numbered one after another have lanes of their own.
+ghost use Rattle.std.specs.Prelude.{◌≡◌, ℕ, ◌+◌, ◌<◌, ◌≤◌, ◌++◌, ◌∷◌, [], IfNone, IfOk, IfSome, IsSome, IsTrue, None, OnOk, Option, Some, cond, false, filter, is_some, length, nat_eq, slice_index_or, slice_set, true, vec_len, vec_capacity};
 ghost use Rattle.std.specs.List.{list_any};
-ghost use Rattle.indexmap.specs.IndexMap.{get, index_map_len, spare};
+ghost use Rattle.au_rows.specs.declared.entry.Entry.{Entry as Kept};
 ghost use Rattle.au_rows.specs.Ends.{is_own};
-ghost use Rattle.au_rows.specs.Links.{Linked, Taken, client_of, live, top_in};
+ghost use Rattle.au_rows.specs.Links.{Above, Linked, Taken, below_in, is_own_entry, lane_in, live};
 
 use crate::entry::Entry;
 use crate::unsettled::Unsettled;
 use au_base::{ClientNo, Memory};
-use indexmap::IndexMap;
+use std::alloc::Global;
 
-/// Where the client's newest change is kept.
-fn top_of(tops: &IndexMap<u64, Option<usize>>, client: u64) -> Option<usize>
-    ensures { result ≡ top_in (get nat_eq tops.now client) }
+/// How many lanes there are.
+const LANES: u32 = 4096;
+
+/// The client's lane.
+fn lane_of(by: ClientNo) -> usize
+    ensures lane { result ≡ lane_in by }
+    ensures within { result < 4096 }
 {
-    match tops.get(&client) {
-        Some(top) => *top,
-        None => None,
+    (by.0 % LANES) as usize
+}
+
+/// A place for the newest change of each lane.
+pub(crate) fn no_tops(alloc: Global) -> Result<Vec<Option<usize>>, Memory>
+    ensures len { IfOk result (λ tops. vec_len tops ≡ 4096) }
+    ensures none { IfOk result (λ tops. (lane : ℕ) → slice_index_or tops.items lane None ≡ None) }
+{
+    let tops = vec![in alloc; None; 4096]?;
+    Ok(tops)
+}
+
+/// Where the lane's newest change is kept.
+fn top_of(tops: &[Option<usize>], lane: usize) -> Option<usize>
+    requires { lane < length tops.now }
+    ensures { result ≡ slice_index_or tops.now lane None }
+{
+    tops[lane]
+}
+
+/// Names another change of a lane as the newest, or none.
+fn set_top(tops: &mut Vec<Option<usize>>, lane: usize, top: Option<usize>)
+    requires { lane < vec_len tops.old }
+    ensures items { tops.new.items ≡ slice_set tops.old.items lane top }
+    ensures len { vec_len tops.new ≡ vec_len tops.old }
+{
+    tops[lane] = top;
+}
+
+/// Names no change as the newest of any lane.
+fn clear(tops: &mut Vec<Option<usize>>)
+    ensures none { (lane : ℕ) → slice_index_or tops.new.items lane None ≡ None }
+    ensures len { vec_len tops.new ≡ vec_len tops.old }
+{
+    for lane in 0..tops.len() {
+        tops[lane] = None;
     }
 }
 
-/// Names the newest change of a client who had none named before. It takes no memory.
-fn add_top(tops: &mut IndexMap<u64, Option<usize>>, client: u64, top: usize)
-    requires room { 0 < spare tops.old }
-    requires new { get nat_eq tops.old client ≡ None }
-    ensures tops { (other : ℕ) → get nat_eq tops.new other ≡ cond (nat_eq client other) (Some (Some top)) (get nat_eq tops.old other) }
-    ensures len { index_map_len tops.new ≡ index_map_len tops.old + 1 }
-    ensures spare { spare tops.old ≤ spare tops.new + 1 }
-{
-    if tops.insert(client, Some(top)).is_err() {
-        unreachable!();
-    }
-}
-
-/// Names another change of a client as the newest, or none.
-fn change_top(tops: &mut IndexMap<u64, Option<usize>>, client: u64, top: Option<usize>)
-    requires { IsSome (get nat_eq tops.old client) }
-    ensures tops { (other : ℕ) → get nat_eq tops.new other ≡ cond (nat_eq client other) (Some top) (get nat_eq tops.old other) }
-    ensures len { index_map_len tops.new ≡ index_map_len tops.old }
-    ensures spare { spare tops.old ≤ spare tops.new }
-{
-    if let Some(named) = tops.get_mut(&client) {
-        *named = top;
-    }
-}
-
-/// Names a change as the client's newest. It takes no memory.
-fn set_top(tops: &mut IndexMap<u64, Option<usize>>, client: u64, top: usize)
-    requires { 0 < spare tops.old }
-    ensures tops { (other : ℕ) → top_in (get nat_eq tops.new other) ≡ cond (nat_eq client other) (Some top) (top_in (get nat_eq tops.old other)) }
-    ensures len { index_map_len tops.new ≤ index_map_len tops.old + 1 }
-    ensures capacity { spare tops.old + index_map_len tops.old ≤ spare tops.new + index_map_len tops.new }
-{
-    if tops.contains_key(&client) {
-        change_top(tops, client, Some(top));
-    } else {
-        add_top(tops, client, top);
-    }
-}
-
-fn client_of(entry: Entry) -> u64
-    ensures { result ≡ client_of entry }
-{
-    u64::from(entry.change.by.0)
-}
-
-/// Lets the entry at the index, where there is one, name its client's entry before it.
-fn link(entries: &mut Vec<Option<Entry>>, tops: &mut IndexMap<u64, Option<usize>>, at: usize)
+/// Lets the entry at the index, where there is one, name its lane's entry before it.
+fn link(entries: &mut Vec<Option<Entry>>, tops: &mut Vec<Option<usize>>, at: usize)
     requires within { at < vec_len entries.old }
-    requires room { 0 < spare tops.old }
-    requires linked { Linked entries.old.items (λ client. top_in (get nat_eq tops.old client)) at }
-    ensures linked { Linked entries.new.items (λ client. top_in (get nat_eq tops.new client)) (at + 1) }
+    requires lanes { vec_len tops.old ≡ 4096 }
+    requires linked { Linked entries.old.items (λ lane. slice_index_or tops.old.items lane None) at }
+    ensures linked { Linked entries.new.items (λ lane. slice_index_or tops.new.items lane None) (at + 1) }
     ensures live { live entries.new.items ≡ live entries.old.items }
     ensures len { vec_len entries.new ≡ vec_len entries.old }
     ensures capacity { vec_capacity entries.new ≡ vec_capacity entries.old }
-    ensures tops_len { index_map_len tops.new ≤ index_map_len tops.old + 1 }
-    ensures tops_capacity { spare tops.old + index_map_len tops.old ≤ spare tops.new + index_map_len tops.new }
+    ensures lanes { vec_len tops.new ≡ 4096 }
 {
     if let Some(entry) = entries[at] {
-        let client = client_of(entry);
-        let below = top_of(tops, client);
+        let lane = lane_of(entry.change.by);
+        let below = top_of(tops, lane);
         entries[at] = Some(Entry {
             change: entry.change,
             below,
         });
-        set_top(tops, client, at);
+        set_top(tops, lane, Some(at));
     }
 }
 
-/// Lets each entry name its client's entry before it.
-fn link_all(entries: &mut Vec<Option<Entry>>, tops: &mut IndexMap<u64, Option<usize>>)
-    requires none { (client : ℕ) → get nat_eq tops.old client ≡ None }
-    requires empty { index_map_len tops.old ≡ 0 }
-    requires room { vec_len entries.old ≤ spare tops.old }
-    ensures linked { Linked entries.new.items (λ client. top_in (get nat_eq tops.new client)) (vec_len entries.new) }
+/// Lets each entry name its lane's entry before it.
+fn link_all(entries: &mut Vec<Option<Entry>>, tops: &mut Vec<Option<usize>>)
+    requires none { (lane : ℕ) → slice_index_or tops.old.items lane None ≡ None }
+    requires lanes { vec_len tops.old ≡ 4096 }
+    ensures linked { Linked entries.new.items (λ lane. slice_index_or tops.new.items lane None) (vec_len entries.new) }
     ensures live { live entries.new.items ≡ live entries.old.items }
     ensures len { vec_len entries.new ≡ vec_len entries.old }
     ensures capacity { vec_capacity entries.new ≡ vec_capacity entries.old }
-    ensures tops_len { index_map_len tops.new ≤ vec_len entries.new }
-    ensures tops_capacity { spare tops.old ≤ spare tops.new + index_map_len tops.new }
+    ensures lanes { vec_len tops.new ≡ 4096 }
 {
     for at in 0..entries.len() {
         link(entries, tops, at);
@@ -113,36 +103,32 @@ fn drop_vacant(entries: &mut Vec<Option<Entry>>)
 }
 
 /// Moves the entries together, so that no vacant place is left.
-pub(crate) fn compact(entries: &mut Vec<Option<Entry>>, tops: &mut IndexMap<u64, Option<usize>>)
-    requires { length (live entries.old.items) ≤ spare tops.old + index_map_len tops.old }
-    ensures linked { Linked entries.new.items (λ client. top_in (get nat_eq tops.new client)) (vec_len entries.new) }
+pub(crate) fn compact(entries: &mut Vec<Option<Entry>>, tops: &mut Vec<Option<usize>>)
+    requires lanes { vec_len tops.old ≡ 4096 }
+    ensures linked { Linked entries.new.items (λ lane. slice_index_or tops.new.items lane None) (vec_len entries.new) }
     ensures live { live entries.new.items ≡ live entries.old.items }
     ensures len { vec_len entries.new ≡ length (live entries.old.items) }
     ensures capacity { vec_capacity entries.new ≡ vec_capacity entries.old }
-    ensures tops_len { index_map_len tops.new ≤ vec_len entries.new }
-    ensures tops_capacity { spare tops.old + index_map_len tops.old ≤ spare tops.new + index_map_len tops.new }
+    ensures lanes { vec_len tops.new ≡ 4096 }
 {
     drop_vacant(entries);
-    tops.clear();
+    clear(tops);
     link_all(entries, tops);
 }
 
 /// Makes a place vacant at the end, where there are fewer changes than room for them. It takes no
 /// memory.
-pub(crate) fn make_way(entries: &mut Vec<Option<Entry>>, tops: &mut IndexMap<u64, Option<usize>>)
-    requires linked { Linked entries.old.items (λ client. top_in (get nat_eq tops.old client)) (vec_len entries.old) }
+pub(crate) fn make_way(entries: &mut Vec<Option<Entry>>, tops: &mut Vec<Option<usize>>)
+    requires lanes { vec_len tops.old ≡ 4096 }
+    requires linked { Linked entries.old.items (λ lane. slice_index_or tops.old.items lane None) (vec_len entries.old) }
     requires room { length (live entries.old.items) < vec_capacity entries.old }
-    requires tops_room { length (live entries.old.items) < spare tops.old + index_map_len tops.old }
-    ensures linked { Linked entries.new.items (λ client. top_in (get nat_eq tops.new client)) (vec_len entries.new) }
+    ensures linked { Linked entries.new.items (λ lane. slice_index_or tops.new.items lane None) (vec_len entries.new) }
     ensures live { live entries.new.items ≡ live entries.old.items }
     ensures room { vec_len entries.new < vec_capacity entries.new }
-    ensures tops_room { 0 < spare tops.new }
     ensures capacity { vec_capacity entries.new ≡ vec_capacity entries.old }
-    ensures tops_capacity { spare tops.old + index_map_len tops.old ≤ spare tops.new + index_map_len tops.new }
+    ensures lanes { vec_len tops.new ≡ 4096 }
 {
     if entries.len() == entries.capacity() {
-        compact(entries, tops);
-    } else if tops.len() == tops.capacity() {
         compact(entries, tops);
     }
 }
@@ -150,16 +136,16 @@ pub(crate) fn make_way(entries: &mut Vec<Option<Entry>>, tops: &mut IndexMap<u64
 /// Takes a change in, behind all others. It takes no memory.
 pub(crate) fn add(
     entries: &mut Vec<Option<Entry>>,
-    tops: &mut IndexMap<u64, Option<usize>>,
+    tops: &mut Vec<Option<usize>>,
     change: Unsettled,
 )
-    requires linked { Linked entries.old.items (λ client. top_in (get nat_eq tops.old client)) (vec_len entries.old) }
+    requires lanes { vec_len tops.old ≡ 4096 }
+    requires linked { Linked entries.old.items (λ lane. slice_index_or tops.old.items lane None) (vec_len entries.old) }
     requires room { vec_len entries.old < vec_capacity entries.old }
-    requires tops_room { 0 < spare tops.old }
-    ensures linked { Linked entries.new.items (λ client. top_in (get nat_eq tops.new client)) (vec_len entries.new) }
+    ensures linked { Linked entries.new.items (λ lane. slice_index_or tops.new.items lane None) (vec_len entries.new) }
     ensures live { live entries.new.items ≡ live entries.old.items ++ change ∷ [] }
     ensures capacity { vec_capacity entries.new ≡ vec_capacity entries.old }
-    ensures tops_capacity { spare tops.old + index_map_len tops.old ≤ spare tops.new + index_map_len tops.new }
+    ensures lanes { vec_len tops.new ≡ 4096 }
 {
     let at = entries.len();
     entries.push_reserved(Some(Entry {
@@ -169,57 +155,247 @@ pub(crate) fn add(
     link(entries, tops, at);
 }
 
-/// Takes the entry at the index out, which is its client's newest.
-fn take_at(
+/// Takes the entry at the index out, which is the client's and its lane's newest.
+fn take_top(
     entries: &mut Vec<Option<Entry>>,
-    tops: &mut IndexMap<u64, Option<usize>>,
+    tops: &mut Vec<Option<usize>>,
     by: ClientNo,
     at: usize,
 ) -> Option<Unsettled>
-    requires linked { Linked entries.old.items (λ client. top_in (get nat_eq tops.old client)) (vec_len entries.old) }
-    requires top { top_in (get nat_eq tops.old by.0) ≡ Some at }
-    ensures linked { Linked entries.new.items (λ client. top_in (get nat_eq tops.new client)) (vec_len entries.new) }
+    requires lanes { vec_len tops.old ≡ 4096 }
+    requires linked { Linked entries.old.items (λ lane. slice_index_or tops.old.items lane None) (vec_len entries.old) }
+    requires top { slice_index_or tops.old.items (lane_in by) None ≡ Some at }
+    requires own { is_own_entry by (slice_index_or entries.old.items at None) ≡ true }
+    ensures linked { Linked entries.new.items (λ lane. slice_index_or tops.new.items lane None) (vec_len entries.new) }
     ensures taken { IfSome result (λ change. Taken by change (live entries.old.items) (live entries.new.items)) }
     ensures some { IsSome result }
     ensures capacity { vec_capacity entries.new ≡ vec_capacity entries.old }
-    ensures tops_capacity { spare tops.old + index_map_len tops.old ≤ spare tops.new + index_map_len tops.new }
+    ensures lanes { vec_len tops.new ≡ 4096 }
 {
     match entries[at] {
         Some(entry) => {
             entries[at] = None;
-            change_top(tops, u64::from(by.0), entry.below);
+            set_top(tops, lane_of(by), entry.below);
             Some(entry.change)
         }
         None => None,
     }
 }
 
-/// Takes the client's newest change out. `None` exactly where it has none.
-pub(crate) fn take_newest(
-    entries: &mut Vec<Option<Entry>>,
-    tops: &mut IndexMap<u64, Option<usize>>,
-    by: ClientNo,
-) -> Option<Unsettled>
-    requires { Linked entries.old.items (λ client. top_in (get nat_eq tops.old client)) (vec_len entries.old) }
-    ensures linked { Linked entries.new.items (λ client. top_in (get nat_eq tops.new client)) (vec_len entries.new) }
-    ensures taken { IfSome result (λ change. Taken by change (live entries.old.items) (live entries.new.items)) }
-    ensures none { IfNone result (list_any (is_own by) (live entries.old.items) ≡ false) }
-    ensures same { IfNone result (live entries.new.items ≡ live entries.old.items) }
-    ensures capacity { vec_capacity entries.new ≡ vec_capacity entries.old }
-    ensures tops_capacity { spare tops.old + index_map_len tops.old ≤ spare tops.new + index_map_len tops.new }
+/// Whether the entry at the index is the client's.
+fn is_own_at(entries: &[Option<Entry>], at: usize, by: ClientNo) -> bool
+    requires { at < length entries.now }
+    ensures { result ≡ is_own_entry by (slice_index_or entries.now at None) }
 {
-    match top_of(tops, u64::from(by.0)) {
-        Some(at) => take_at(entries, tops, by, at),
+    match entries[at] {
+        Some(entry) => entry.change.by.0 == by.0,
+        None => false,
+    }
+}
+
+/// Where the entry below the one at the index is kept.
+fn below_of(entries: &[Option<Entry>], at: usize) -> Option<usize>
+    requires { at < length entries.now }
+    ensures { result ≡ below_in (slice_index_or entries.now at None) }
+{
+    match entries[at] {
+        Some(entry) => entry.below,
         None => None,
     }
 }
 
-fn has_room(entries: &Vec<Option<Entry>>, tops: &IndexMap<u64, Option<usize>>, more: usize) -> bool
-    ensures entries { IsTrue result → vec_len entries.now + more ≤ vec_capacity entries.now }
-    ensures tops { IsTrue result → vec_len entries.now + more ≤ spare tops.now + index_map_len tops.now }
+/// The entry above the client's newest one in its lane, whose newest is another client's.
+fn find_above(entries: &[Option<Entry>], by: ClientNo, top: usize) -> Option<usize>
+    requires linked { (tops : ℕ → Option ℕ) × Linked entries.now tops (length entries.now) × (tops (lane_in by) ≡ Some top) }
+    requires other { is_own_entry by (slice_index_or entries.now top None) ≡ false }
+    ensures some { IfSome result (λ above. Above by entries.now above) }
+    ensures none { IfNone result ((at : ℕ) (entry : Kept) → slice_index_or entries.now at None ≡ Some entry → is_own by entry.change ≡ false) }
+{
+    let mut above = top;
+    // each is below the one before it
+    for _turn in 0..entries.len() {
+        match below_of(entries, above) {
+            Some(here) => {
+                if is_own_at(entries, here, by) {
+                    return Some(above);
+                }
+                above = here;
+            }
+            None => return None,
+        }
+    }
+    None
+}
+
+/// Lets the entry of the upper index name what the one of the lower index names, which goes.
+fn pass_by(entries: &mut Vec<Option<Entry>>, above: usize, upper: Entry, here: usize, lower: Entry)
+    requires above { above < vec_len entries.old }
+    requires here { here < vec_len entries.old }
+    ensures items { entries.new.items ≡ slice_set (slice_set entries.old.items above (Some (record { change = upper.change; below = lower.below }))) here None }
+    ensures len { vec_len entries.new ≡ vec_len entries.old }
+    ensures capacity { vec_capacity entries.new ≡ vec_capacity entries.old }
+{
+    entries[above] = Some(Entry {
+        change: upper.change,
+        below: lower.below,
+    });
+    entries[here] = None;
+}
+
+fn entry_at(entries: &[Option<Entry>], at: usize) -> Option<Entry>
+    requires { at < length entries.now }
+    ensures { result ≡ slice_index_or entries.now at None }
+{
+    entries[at]
+}
+
+/// Takes the entry out that another one of its lane names.
+fn take_named(
+    entries: &mut Vec<Option<Entry>>,
+    by: ClientNo,
+    above: usize,
+    upper: Entry,
+    here: usize,
+) -> Option<Unsettled>
+    requires linked { (tops : ℕ → Option ℕ) × Linked entries.old.items tops (vec_len entries.old) }
+    requires there { slice_index_or entries.old.items above None ≡ Some upper }
+    requires names { upper.below ≡ Some here }
+    requires own { is_own_entry by (slice_index_or entries.old.items here None) ≡ true }
+    ensures linked { (tops : ℕ → Option ℕ) → Linked entries.old.items tops (vec_len entries.old) → Linked entries.new.items tops (vec_len entries.new) }
+    ensures taken { IfSome result (λ change. Taken by change (live entries.old.items) (live entries.new.items)) }
+    ensures some { IsSome result }
+    ensures capacity { vec_capacity entries.new ≡ vec_capacity entries.old }
+{
+    match entry_at(entries, here) {
+        Some(lower) => {
+            pass_by(entries, above, upper, here, lower);
+            Some(lower.change)
+        }
+        None => None,
+    }
+}
+
+/// Takes the entry below the one at the index out of its lane.
+fn take_below(entries: &mut Vec<Option<Entry>>, by: ClientNo, above: usize) -> Option<Unsettled>
+    requires linked { (tops : ℕ → Option ℕ) × Linked entries.old.items tops (vec_len entries.old) }
+    requires there { Above by entries.old.items above }
+    ensures linked { (tops : ℕ → Option ℕ) → Linked entries.old.items tops (vec_len entries.old) → Linked entries.new.items tops (vec_len entries.new) }
+    ensures taken { IfSome result (λ change. Taken by change (live entries.old.items) (live entries.new.items)) }
+    ensures some { IsSome result }
+    ensures capacity { vec_capacity entries.new ≡ vec_capacity entries.old }
+{
+    match entry_at(entries, above) {
+        Some(upper) => match upper.below {
+            Some(here) => take_named(entries, by, above, upper, here),
+            None => None,
+        },
+        None => None,
+    }
+}
+
+/// Takes the client's newest change out of its lane, whose newest is at the index.
+fn take_from(
+    entries: &mut Vec<Option<Entry>>,
+    tops: &mut Vec<Option<usize>>,
+    by: ClientNo,
+    top: usize,
+) -> Option<Unsettled>
+    requires lanes { vec_len tops.old ≡ 4096 }
+    requires linked { Linked entries.old.items (λ lane. slice_index_or tops.old.items lane None) (vec_len entries.old) }
+    requires top { slice_index_or tops.old.items (lane_in by) None ≡ Some top }
+    ensures linked { Linked entries.new.items (λ lane. slice_index_or tops.new.items lane None) (vec_len entries.new) }
+    ensures taken { IfSome result (λ change. Taken by change (live entries.old.items) (live entries.new.items)) }
+    ensures none { IfNone result (list_any (is_own by) (live entries.old.items) ≡ false) }
+    ensures same { IfNone result (live entries.new.items ≡ live entries.old.items) }
+    ensures capacity { vec_capacity entries.new ≡ vec_capacity entries.old }
+    ensures lanes { vec_len tops.new ≡ 4096 }
+{
+    if is_own_at(entries, top, by) {
+        return take_top(entries, tops, by, top);
+    }
+    match find_above(entries, by, top) {
+        Some(above) => take_below(entries, by, above),
+        None => None,
+    }
+}
+
+/// Takes the last place away where it is vacant, and answers whether it was.
+fn drop_last(entries: &mut Vec<Option<Entry>>) -> bool
+    ensures gone { IsTrue result → entries.old.items ≡ entries.new.items ++ None ∷ [] }
+    ensures kept { result ≡ false → entries.new.items ≡ entries.old.items }
+    ensures capacity { vec_capacity entries.new ≡ vec_capacity entries.old }
+{
+    match entries.pop() {
+        Some(Some(entry)) => {
+            entries.push_reserved(Some(entry));
+            false
+        }
+        Some(None) => true,
+        None => false,
+    }
+}
+
+/// Takes the vacant places behind all changes away.
+fn trim(entries: &mut Vec<Option<Entry>>)
+    ensures linked { (tops : ℕ → Option ℕ) → Linked entries.old.items tops (vec_len entries.old) → Linked entries.new.items tops (vec_len entries.new) }
+    ensures live { live entries.new.items ≡ live entries.old.items }
+    ensures capacity { vec_capacity entries.new ≡ vec_capacity entries.old }
+{
+    for _turn in 0..entries.len() {
+        if !drop_last(entries) {
+            return;
+        }
+    }
+}
+
+/// Takes the client's newest change out of its lane, and the vacant places behind all changes away.
+fn take_and_trim(
+    entries: &mut Vec<Option<Entry>>,
+    tops: &mut Vec<Option<usize>>,
+    by: ClientNo,
+    top: usize,
+) -> Option<Unsettled>
+    requires lanes { vec_len tops.old ≡ 4096 }
+    requires linked { Linked entries.old.items (λ lane. slice_index_or tops.old.items lane None) (vec_len entries.old) }
+    requires top { slice_index_or tops.old.items (lane_in by) None ≡ Some top }
+    ensures linked { Linked entries.new.items (λ lane. slice_index_or tops.new.items lane None) (vec_len entries.new) }
+    ensures taken { IfSome result (λ change. Taken by change (live entries.old.items) (live entries.new.items)) }
+    ensures none { IfNone result (list_any (is_own by) (live entries.old.items) ≡ false) }
+    ensures same { IfNone result (live entries.new.items ≡ live entries.old.items) }
+    ensures capacity { vec_capacity entries.new ≡ vec_capacity entries.old }
+    ensures lanes { vec_len tops.new ≡ 4096 }
+{
+    let taken = take_from(entries, tops, by, top);
+    trim(entries);
+    taken
+}
+
+/// Takes the client's newest change out. `None` exactly where it has none.
+pub(crate) fn take_newest(
+    entries: &mut Vec<Option<Entry>>,
+    tops: &mut Vec<Option<usize>>,
+    by: ClientNo,
+) -> Option<Unsettled>
+    requires lanes { vec_len tops.old ≡ 4096 }
+    requires linked { Linked entries.old.items (λ lane. slice_index_or tops.old.items lane None) (vec_len entries.old) }
+    ensures linked { Linked entries.new.items (λ lane. slice_index_or tops.new.items lane None) (vec_len entries.new) }
+    ensures taken { IfSome result (λ change. Taken by change (live entries.old.items) (live entries.new.items)) }
+    ensures none { IfNone result (list_any (is_own by) (live entries.old.items) ≡ false) }
+    ensures same { IfNone result (live entries.new.items ≡ live entries.old.items) }
+    ensures capacity { vec_capacity entries.new ≡ vec_capacity entries.old }
+    ensures lanes { vec_len tops.new ≡ 4096 }
+{
+    match top_of(tops, lane_of(by)) {
+        Some(top) => take_and_trim(entries, tops, by, top),
+        None => None,
+    }
+}
+
+fn has_room(entries: &Vec<Option<Entry>>, more: usize) -> bool
+    ensures { IsTrue result → vec_len entries.now + more ≤ vec_capacity entries.now }
 {
     match entries.len().checked_add(more) {
-        Some(all) => all <= entries.capacity() && all <= tops.capacity(),
+        Some(all) => all <= entries.capacity(),
         None => false,
     }
 }
@@ -235,55 +411,40 @@ fn wanted(len: usize, more: usize) -> Result<usize, Memory>
     more.checked_add(all / 4).ok_or(Memory)
 }
 
-/// Makes room for so many more clients, by new memory.
-fn widen_tops(tops: &mut IndexMap<u64, Option<usize>>, more: usize) -> Result<(), Memory>
-    ensures ok { OnOk result (more ≤ spare tops.new) }
-    ensures same { (client : ℕ) → get nat_eq tops.new client ≡ get nat_eq tops.old client }
-    ensures capacity { spare tops.old + index_map_len tops.old ≤ spare tops.new + index_map_len tops.new }
-{
-    tops.reserve(more)?;
-    Ok(())
-}
-
 /// Makes room for so many more changes, by new memory.
 fn grow(
     entries: &mut Vec<Option<Entry>>,
-    tops: &mut IndexMap<u64, Option<usize>>,
+    tops: &mut Vec<Option<usize>>,
     more: usize,
 ) -> Result<(), Memory>
-    requires { length (live entries.old.items) ≤ spare tops.old + index_map_len tops.old }
+    requires lanes { vec_len tops.old ≡ 4096 }
     ensures ok { OnOk result (length (live entries.new.items) + more ≤ vec_capacity entries.new) }
-    ensures tops_ok { OnOk result (length (live entries.new.items) + more ≤ spare tops.new + index_map_len tops.new) }
-    ensures linked { Linked entries.new.items (λ client. top_in (get nat_eq tops.new client)) (vec_len entries.new) }
+    ensures linked { Linked entries.new.items (λ lane. slice_index_or tops.new.items lane None) (vec_len entries.new) }
     ensures live { live entries.new.items ≡ live entries.old.items }
     ensures capacity { vec_capacity entries.old ≤ vec_capacity entries.new }
-    ensures tops_capacity { spare tops.old + index_map_len tops.old ≤ spare tops.new + index_map_len tops.new }
+    ensures lanes { vec_len tops.new ≡ 4096 }
 {
     compact(entries, tops);
     let places = wanted(entries.len(), more)?;
-    let Some(all) = places.checked_add(entries.len()) else {
-        return Err(Memory);
-    };
     entries.reserve(places)?;
-    widen_tops(tops, all)
+    Ok(())
 }
 
 /// Makes room for so many more changes.
 pub(crate) fn make_room(
     entries: &mut Vec<Option<Entry>>,
-    tops: &mut IndexMap<u64, Option<usize>>,
+    tops: &mut Vec<Option<usize>>,
     more: usize,
 ) -> Result<(), Memory>
-    requires linked { Linked entries.old.items (λ client. top_in (get nat_eq tops.old client)) (vec_len entries.old) }
-    requires fits { length (live entries.old.items) ≤ spare tops.old + index_map_len tops.old }
+    requires lanes { vec_len tops.old ≡ 4096 }
+    requires linked { Linked entries.old.items (λ lane. slice_index_or tops.old.items lane None) (vec_len entries.old) }
     ensures ok { OnOk result (length (live entries.new.items) + more ≤ vec_capacity entries.new) }
-    ensures tops_ok { OnOk result (length (live entries.new.items) + more ≤ spare tops.new + index_map_len tops.new) }
-    ensures linked { Linked entries.new.items (λ client. top_in (get nat_eq tops.new client)) (vec_len entries.new) }
+    ensures linked { Linked entries.new.items (λ lane. slice_index_or tops.new.items lane None) (vec_len entries.new) }
     ensures live { live entries.new.items ≡ live entries.old.items }
     ensures capacity { vec_capacity entries.old ≤ vec_capacity entries.new }
-    ensures tops_capacity { spare tops.old + index_map_len tops.old ≤ spare tops.new + index_map_len tops.new }
+    ensures lanes { vec_len tops.new ≡ 4096 }
 {
-    if has_room(entries, tops, more) {
+    if has_room(entries, more) {
         return Ok(());
     }
     grow(entries, tops, more)

@@ -101,20 +101,6 @@ pub(crate) fn write(places: &mut Vec<Place>, place: Place)
     }
 }
 
-/// Takes the place of a row away.
-#[tactic(auto, using(crate::proofs::EditLemmas::found_steps))]
-pub(crate) fn erase(places: &mut Vec<Place>, table: usize, number: RowNo)
-    requires order { in_order places.old.items ≡ true }
-    ensures items { places.new.items ≡ edited (place_from table number) (place_at table number) places.old.items [] }
-    ensures len { vec_len places.new ≤ vec_len places.old }
-    ensures capacity { vec_capacity places.old ≤ vec_capacity places.new }
-{
-    let at = index_of(places, table, number);
-    if is_there(places, at, table, number) {
-        let _gone = places.remove(at);
-    }
-}
-
 /// Lets a client name a slot at a row. A row that is new needs room.
 #[tactic(auto, unfolding(crate::specs::Kept::with_place))]
 pub(crate) fn own(

@@ -4,7 +4,7 @@ ghost use Rattle.std.specs.List.{Contains, list_all};
 ghost use Rattle.au_base.specs.declared.cell.Cell.{Cell as Content};
 ghost use Rattle.au_base.specs.declared.numbers.RowNo.{RowNo as Number};
 ghost use Rattle.std.specs.Option.{option_copied, option_map};
-ghost use Rattle.au_rows.specs.Held.{HasKey, lent, next_of, seen_by, view_of};
+ghost use Rattle.au_rows.specs.Held.{HasKey, IsOtherIn, lent, next_of, seen_by, view_of};
 ghost use Rattle.au_rows.specs.Kept.{found_seen, held_of, is_whole, place_in};
 ghost use Rattle.au_rows.specs.Order.{in_order};
 ghost use Rattle.au_rows.specs.Sought.{IsIndexedBy};
@@ -183,5 +183,87 @@ pub(crate) fn under_in<'a>(
         under_walk(places, versions, asked)
     } else {
         under_index(places, versions, asked)
+    }
+}
+
+/// The number of the place's row, where it isn't the given row, the client who asks sees it and it
+/// has the key.
+fn other_if_under(
+    place: &Place,
+    versions: &Versions,
+    asked: &Asked<'_>,
+    row: RowNo,
+) -> Option<RowNo>
+    ensures some { IfSome result (λ other. (other ≡ place.now.number) × (other ≢ row) × (cells : List Content) × (seen_by asked.now.by (held_of versions.now.slots place.now) ≡ Some cells) × HasKey asked.now.places.now asked.now.key.now (Some cells)) }
+    ensures none { IfNone result (place.now.number ≢ row → HasKey asked.now.places.now asked.now.key.now (seen_by asked.now.by (held_of versions.now.slots place.now)) → ⊥) }
+{
+    if place.number.0 == row.0 {
+        return None;
+    }
+    match row_if_under(place, versions, asked) {
+        Some(found) => Some(found.0),
+        None => None,
+    }
+}
+
+/// Another row of the table that the client sees and that has the key, by a walk over its rows.
+fn other_walk(places: &[Place], versions: &Versions, asked: &Asked<'_>, row: RowNo) -> Option<RowNo>
+    requires { in_order places.now ≡ true }
+    ensures some { IfSome result (λ other. IsOtherIn (view_of asked.now.table asked.now.by (map (held_of versions.now.slots) places.now)) asked.now.places.now asked.now.key.now row other) }
+    ensures none { IfNone result ((other : Number) → IsOtherIn (view_of asked.now.table asked.now.by (map (held_of versions.now.slots) places.now)) asked.now.places.now asked.now.key.now row other → ⊥) }
+{
+    let later = &places[index_of(places, asked.table, RowNo(0))..];
+    for place in later {
+        if place.table != asked.table {
+            return None;
+        }
+        if let Some(other) = other_if_under(place, versions, asked, row) {
+            return Some(other);
+        }
+    }
+    None
+}
+
+/// Another row of the table that the client sees and that has the key, by the index of keys.
+fn other_index(
+    places: &[Place],
+    versions: &Versions,
+    asked: &Asked<'_>,
+    row: RowNo,
+) -> Option<RowNo>
+    requires order { in_order places.now ≡ true }
+    requires whole { list_all (is_whole versions.now.slots) places.now ≡ true }
+    requires indexed { IsIndexedBy asked.now.table asked.now.places.now versions.now.slots }
+    requires keyed { asked.now.places.now ≢ [] }
+    ensures some { IfSome result (λ other. IsOtherIn (view_of asked.now.table asked.now.by (map (held_of versions.now.slots) places.now)) asked.now.places.now asked.now.key.now row other) }
+    ensures none { IfNone result ((other : Number) → IsOtherIn (view_of asked.now.table asked.now.by (map (held_of versions.now.slots) places.now)) asked.now.places.now asked.now.key.now row other → ⊥) }
+{
+    match versions.find(places, asked, Sought::Other(row)) {
+        Some(slot) => match versions.get(slot) {
+            Some(version) => Some(version.number),
+            None => None,
+        },
+        None => None,
+    }
+}
+
+/// Another row of the table than the given one that the client sees and that has the key. The index
+/// knows no rows of a table without a key.
+pub(crate) fn other_in(
+    places: &[Place],
+    versions: &Versions,
+    asked: &Asked<'_>,
+    row: RowNo,
+) -> Option<RowNo>
+    requires order { in_order places.now ≡ true }
+    requires whole { list_all (is_whole versions.now.slots) places.now ≡ true }
+    requires indexed { IsIndexedBy asked.now.table asked.now.places.now versions.now.slots }
+    ensures some { IfSome result (λ other. IsOtherIn (view_of asked.now.table asked.now.by (map (held_of versions.now.slots) places.now)) asked.now.places.now asked.now.key.now row other) }
+    ensures none { IfNone result ((other : Number) → IsOtherIn (view_of asked.now.table asked.now.by (map (held_of versions.now.slots) places.now)) asked.now.places.now asked.now.key.now row other → ⊥) }
+{
+    if asked.places.is_empty() {
+        other_walk(places, versions, asked, row)
+    } else {
+        other_index(places, versions, asked, row)
     }
 }

@@ -4,19 +4,20 @@ ghost use Rattle.std.specs.List.{list_all};
 ghost use Rattle.std.specs.Option.{option_map};
 ghost use Rattle.au_base.specs.declared.cell.Cell.{Cell};
 ghost use Rattle.au_base.specs.declared.numbers.RowNo.{RowNo};
-ghost use Rattle.au_rows.specs.Held.{Agrees, IsLocked, IsOpen, IsUnder, changes_of_others, is_elsewhere, is_free_for, is_of, is_of_other, largest_of, lent, next_of, number_of, owner_of, seen_at, settled_by, undone_by, view_of, with_table};
+ghost use Rattle.au_rows.specs.Held.{Agrees, IsLocked, IsOpen, IsUnder, IsUnderOther, changes_of_others, is_elsewhere, is_free_for, is_of, is_of_other, largest_of, lent, next_of, number_of, owner_of, seen_at, settled_by, undone_by, view_of, with_table};
 ghost use Rattle.au_rows.specs.Calls.{after_mark, after_put};
 
 use crate::changes::Changes;
 use crate::closing::end_changes;
 use crate::dropping::drop_rows;
 use crate::ending::Ending;
-use crate::hash::version_hash;
+use crate::guesses::Guesses;
+use crate::hash::{name_hash, version_hash};
 use crate::keys::{Asked, is_locked, is_settled_in};
 use crate::numbers::numbers_in;
 use crate::place::Place;
 use crate::places::{find_owner, own};
-use crate::reading::{is_seen_in, next_in, under_in, view_in};
+use crate::reading::{is_seen_in, next_in, other_in, under_in, view_in};
 use crate::table::Table;
 use crate::tables::{add_table, key_of, number_of};
 use crate::unsettled::Unsettled;
@@ -33,6 +34,7 @@ use std::marker::Model;
 #[derive(Drop)]
 pub struct Rows {
     tables: Vec<Option<Table>>,
+    guesses: Guesses,
     places: Vec<Place>,
     unsettled: Changes,
     versions: Versions,
@@ -45,12 +47,12 @@ impl Model for Rows {
 
     ghost use Rattle.std.specs.Prelude.{◌≡◌, ◌≤◌, true, map, vec_len, vec_capacity};
     ghost use Rattle.std.specs.List.{count_by, list_all};
-    ghost use Rattle.au_rows.specs.Kept.{IsIndexed, Sound, change_of, held_of, place_open, place_shown};
+    ghost use Rattle.au_rows.specs.Kept.{AreApart, IsIndexed, Sound, change_of, held_of, place_open, place_shown};
     ghost use Rattle.au_rows.specs.Spare.{spare_of};
 
     ghost view = { λ r. record { tables = r.tables.items; held = map (held_of r.versions.slots) r.places.items; changes = map (change_of r.versions.slots) r.unsettled.listed; spare = spare_of (vec_capacity r.tables) (vec_len r.tables) (vec_capacity r.places) (vec_len r.places) r.versions.room r.unsettled.room (count_by place_shown r.places.items) } };
 
-    ghost invariant = { λ r. Sound r.places.items r.versions.slots r.unsettled.listed × (list_all (place_open r.tables.items) r.places.items ≡ true) × (count_by place_shown r.places.items ≤ r.unsettled.room) × IsIndexed r.tables.items r.versions.slots };
+    ghost invariant = { λ r. Sound r.places.items r.versions.slots r.unsettled.listed × (list_all (place_open r.tables.items) r.places.items ≡ true) × (count_by place_shown r.places.items ≤ r.unsettled.room) × IsIndexed r.tables.items r.versions.slots × AreApart r.tables.items };
 }
 
 impl Rows {
@@ -60,8 +62,9 @@ impl Rows {
     {
         Ok(Rows {
             tables: Vec::new(alloc),
+            guesses: Guesses::new(alloc),
             places: Vec::new(alloc),
-            unsettled: Changes::new(alloc),
+            unsettled: Changes::new(alloc)?,
             versions: Versions::new(alloc),
         })
     }
@@ -80,6 +83,7 @@ impl Rows {
             return Err(Memory);
         };
         self.tables.reserve(more)?;
+        self.guesses.reserve(more)?;
         self.places.reserve(more)?;
         self.versions.reserve(more)?;
         self.unsettled.reserve(changes)?;
@@ -95,7 +99,9 @@ impl Rows {
         ensures spare { self.old.spare ≤ self.new.spare + 1 }
     {
         let key = List::from_vec(key);
-        add_table(&mut self.tables, Table { name: table, key });
+        let name = name_hash(&table);
+        let number = add_table(&mut self.tables, Table { name: table, key });
+        self.guesses.insert(name, number);
     }
 
     /// Takes the table and its rows away. It takes no memory.
@@ -105,9 +111,10 @@ impl Rows {
         ensures rest { self.new ≡ record self.old { tables = slice_set self.old.tables (number_of table.now self.old.tables) None; held = filter (is_elsewhere (number_of table.now self.old.tables)) self.old.held; spare = self.new.spare } }
         ensures spare { self.old.spare ≤ self.new.spare }
     {
-        let table = number_of(&self.tables, table);
-        drop_rows(&mut self.places, &mut self.versions, table);
-        self.tables[table] = None;
+        let number = number_of(&self.tables, &self.guesses, table);
+        self.guesses.remove(table);
+        drop_rows(&mut self.places, &mut self.versions, number);
+        self.tables[number] = None;
     }
 
     /// Makes the client's new content of the row. It takes no memory.
@@ -119,7 +126,7 @@ impl Rows {
         ensures rest { self.new ≡ record (after_put (number_of table.now self.old.tables) row cells.items by self.old) { spare = self.new.spare } }
         ensures spare { self.old.spare ≤ self.new.spare + 1 }
     {
-        let table = number_of(&self.tables, table);
+        let table = number_of(&self.tables, &self.guesses, table);
         let hash = version_hash(table, row, key_of(&self.tables, table), &cells);
         let slot = self.versions.insert(Version {
             table,
@@ -143,7 +150,7 @@ impl Rows {
         ensures rest { self.new ≡ record (after_mark (number_of table.now self.old.tables) row by self.old) { spare = self.new.spare } }
         ensures spare { self.old.spare ≤ self.new.spare }
     {
-        let table = number_of(&self.tables, table);
+        let table = number_of(&self.tables, &self.guesses, table);
         own(&mut self.places, table, row, by, None);
         self.unsettled.push(Unsettled {
             by,
@@ -157,7 +164,7 @@ impl Rows {
     pub fn next(&self, table: &TableName, after: RowNo, by: ClientNo) -> Option<(RowNo, &[Cell])>
         ensures { option_map lent result ≡ next_of (number_of table.now self.now.tables) after by self.now.held }
     {
-        let table = number_of(&self.tables, table);
+        let table = number_of(&self.tables, &self.guesses, table);
         next_in(&self.places, &self.versions, table, after, by)
     }
 
@@ -170,7 +177,7 @@ impl Rows {
     ) -> Result<Vec<(RowNo, &[Cell])>, Memory>
         ensures { IfOk result (λ rows. map lent rows.items ≡ view_of (number_of table.now self.now.tables) by self.now.held) }
     {
-        let table = number_of(&self.tables, table);
+        let table = number_of(&self.tables, &self.guesses, table);
         view_in(alloc, &self.places, &self.versions, table, by)
     }
 
@@ -180,7 +187,7 @@ impl Rows {
         ensures count { result.0 ≡ length (filter (is_of (number_of table.now self.now.tables)) self.now.held) }
         ensures largest { result.1 ≡ largest_of (number_of table.now self.now.tables) self.now.held }
     {
-        let table = number_of(&self.tables, table);
+        let table = number_of(&self.tables, &self.guesses, table);
         numbers_in(&self.places, table)
     }
 
@@ -188,7 +195,7 @@ impl Rows {
     pub fn key_locked(&self, table: &TableName, key: &[Cell], by: ClientNo) -> bool
         ensures { IsTrue result ↔ IsLocked self.now (number_of table.now self.now.tables) key.now by }
     {
-        let table = number_of(&self.tables, table);
+        let table = number_of(&self.tables, &self.guesses, table);
         let places = key_of(&self.tables, table);
         let asked = Asked {
             table,
@@ -208,7 +215,11 @@ impl Rows {
     pub fn owner(&self, table: &TableName, row: RowNo) -> Option<ClientNo>
         ensures { result ≡ owner_of (number_of table.now self.now.tables) row self.now.held }
     {
-        find_owner(&self.places, number_of(&self.tables, table), row)
+        find_owner(
+            &self.places,
+            number_of(&self.tables, &self.guesses, table),
+            row,
+        )
     }
 
     /// Whether no other client has an unsettled change of the row.
@@ -225,14 +236,14 @@ impl Rows {
     pub fn is_open(&self, table: &TableName) -> bool
         ensures { IsTrue result ↔ IsOpen table.now self.now.tables }
     {
-        number_of(&self.tables, table) < self.tables.len()
+        number_of(&self.tables, &self.guesses, table) < self.tables.len()
     }
 
     /// Whether the client sees the row.
     pub fn is_seen(&self, table: &TableName, row: RowNo, by: ClientNo) -> bool
         ensures { result ≡ is_some (seen_at (number_of table.now self.now.tables) row by self.now.held) }
     {
-        let table = number_of(&self.tables, table);
+        let table = number_of(&self.tables, &self.guesses, table);
         is_seen_in(&self.places, table, row, by)
     }
 
@@ -241,7 +252,7 @@ impl Rows {
         ensures changes { result ≡ list_all (is_of_other (number_of table.now self.now.tables)) self.now.changes }
         ensures owners { IsTrue result → (row : RowNo) → owner_of (number_of table.now self.now.tables) row self.now.held ≡ None }
     {
-        let table = number_of(&self.tables, table);
+        let table = number_of(&self.tables, &self.guesses, table);
         is_settled_in(self.unsettled.entries(), table)
     }
 
@@ -251,7 +262,7 @@ impl Rows {
         ensures some { IfSome result (λ row. IsUnder self.now (number_of table.now self.now.tables) key.now by (lent row)) }
         ensures none { IfNone result ((row : RowNo × List Cell) → ¬ IsUnder self.now (number_of table.now self.now.tables) key.now by row) }
     {
-        let table = number_of(&self.tables, table);
+        let table = number_of(&self.tables, &self.guesses, table);
         let asked = Asked {
             table,
             places: key_of(&self.tables, table),
@@ -259,6 +270,28 @@ impl Rows {
             by,
         };
         under_in(&self.places, &self.versions, &asked)
+    }
+
+    /// Another row of the table than the given one that the client sees and that has this key.
+    /// `None` exactly where there is none.
+    pub fn under_other(
+        &self,
+        table: &TableName,
+        key: &[Cell],
+        row: RowNo,
+        by: ClientNo,
+    ) -> Option<RowNo>
+        ensures some { IfSome result (λ other. IsUnderOther self.now (number_of table.now self.now.tables) key.now row by other) }
+        ensures none { IfNone result ((other : RowNo) → ¬ IsUnderOther self.now (number_of table.now self.now.tables) key.now row by other) }
+    {
+        let table = number_of(&self.tables, &self.guesses, table);
+        let asked = Asked {
+            table,
+            places: key_of(&self.tables, table),
+            key,
+            by,
+        };
+        other_in(&self.places, &self.versions, &asked, row)
     }
 
     /// Makes the client's changes committed. It takes no memory.

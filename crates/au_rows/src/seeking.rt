@@ -36,6 +36,7 @@ fn is_sought(place: Option<Place>, slot: usize, by: ClientNo, sought: Sought) ->
     match place {
         Some(place) => match sought {
             Sought::Seen => is_slot(slot_seen(place, by), slot),
+            Sought::Other(row) => { is_slot(slot_seen(place, by), slot) && place.number.0 != row.0 }
             Sought::Locked => place.owner.is_some() && !place.is_by(by),
         },
         None => false,

@@ -3,13 +3,14 @@ ghost use Rattle.std.specs.Prelude.{◌≡◌, ◌≤◌, ◌<◌, ◌+◌, ◌�
 ghost use Rattle.std.specs.List.{position_or_len};
 ghost use Rattle.au_rows.specs.Edits.{edited};
 ghost use Rattle.au_rows.specs.Held.{is_vacant, key_of, number_of};
+ghost use Rattle.au_rows.specs.Kept.{AreApart};
 
+use crate::guesses::Guesses;
 use crate::table::{Table, is_named};
 use au_base::TableName;
 
-/// The number of the table with this name: its place among the tables, or how many places there
-/// are where it isn't there.
-pub(crate) fn number_of(tables: &[Option<Table>], name: &TableName) -> usize
+/// The number of the table with this name, by a walk over the tables.
+fn walked_number(tables: &[Option<Table>], name: &TableName) -> usize
     ensures number { result ≡ number_of name.now tables.now }
     ensures within { result ≤ length tables.now }
 {
@@ -19,6 +20,33 @@ pub(crate) fn number_of(tables: &[Option<Table>], name: &TableName) -> usize
         }
     }
     tables.len()
+}
+
+/// The number of the table with this name, where it is `number`, and otherwise by a walk.
+fn guessed_number(tables: &[Option<Table>], number: usize, name: &TableName) -> usize
+    requires { AreApart tables.now }
+    ensures number { result ≡ number_of name.now tables.now }
+    ensures within { result ≤ length tables.now }
+{
+    if number < tables.len() && is_named(&tables[number], name) {
+        number
+    } else {
+        walked_number(tables, name)
+    }
+}
+
+/// The number of the table with this name: its place among the tables, or how many places there
+/// are where it isn't there. All tables are asked only for a name that no table has, or that shares
+/// its guess with another one.
+pub(crate) fn number_of(tables: &[Option<Table>], guesses: &Guesses, name: &TableName) -> usize
+    requires { AreApart tables.now }
+    ensures number { result ≡ number_of name.now tables.now }
+    ensures within { result ≤ length tables.now }
+{
+    match guesses.get(name) {
+        Some(number) => guessed_number(tables, number, name),
+        None => walked_number(tables, name),
+    }
 }
 
 fn is_vacant(table: &Option<Table>) -> bool
@@ -40,9 +68,9 @@ fn vacant_number(tables: &[Option<Table>]) -> usize
     tables.len()
 }
 
-/// Puts a table at the first place that no table has.
+/// Puts a table at the first place that no table has, and answers its number.
 #[tactic(auto, using(crate::proofs::TableLemmas::vacant_steps))]
-pub(crate) fn add_table(tables: &mut Vec<Option<Table>>, table: Table)
+pub(crate) fn add_table(tables: &mut Vec<Option<Table>>, table: Table) -> usize
     requires { vec_len tables.old < vec_capacity tables.old }
     ensures items { tables.new.items ≡ edited is_vacant is_vacant tables.old.items (Some table ∷ []) }
     ensures len { vec_len tables.new ≤ vec_len tables.old + 1 }
@@ -54,6 +82,7 @@ pub(crate) fn add_table(tables: &mut Vec<Option<Table>>, table: Table)
     } else {
         tables.push_reserved(Some(table));
     }
+    number
 }
 
 /// The places of the key columns of the table with this number.

@@ -10,6 +10,3 @@ pub use au_http::said_json as said_text;
 pub use labels::Labels;
 pub use laws::say_one_thing;
 pub use lines::{ScriptLine, line};
-
-#[cfg(test)]
-mod tests;

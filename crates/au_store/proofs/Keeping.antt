@@ -1,15 +1,15 @@
 -- What a mend and an append make of what a journal stands on, for any property of its bodies.
-use Rattle.std.proofs.Common.{◌≡◌, inl, inr, ⊎_elim, ℕ, Bool, false, List, [], ◌∷◌, ◌++◌, refl, sym, ◌∙◌, ap, subst}
+use Rattle.std.proofs.Common.{◌≡◌, inl, inr, ⊎_elim, ℕ, ◌≤◌, arith, Bool, false, List, [], ◌∷◌, ◌++◌, refl, sym, ◌∙◌, ap, subst}
 use Rattle.au_io.specs.declared.disk.Area.{Area}
 use Rattle.au_io.specs.Areas.{Areas, area_of}
 use Rattle.au_io.specs.Disk.{Meaning, Passes}
 use Rattle.au_io.specs.Moments.{Leaves, LeavesSince, CountsNow, OnlyNow, weaker, weaker_since, no_call, at_last}
 use Rattle.au_journal.specs.declared.doubt.Doubt.{Doubt}
-use Rattle.au_journal.specs.declared.doubt.Doubt.TheVariants.{Settled, Body, Gate, Edge}
+use Rattle.au_journal.specs.declared.doubt.Doubt.TheVariants.{Settled, Body, Gate, Edge, Other, Head}
 use Rattle.au_journal.specs.declared.seat.Seat.{Seat}
 use Rattle.au_journal.specs.Frames.{front, IsLimit, AreSome}
 use Rattle.au_journal.specs.Images.{Closed, EndsIn, In, MayStandFor, StandsGated}
-use Rattle.au_journal.specs.Seats.{IsIn, IsSettled, IsDoubted, IsSome, advanced, bare_after, mended}
+use Rattle.au_journal.specs.Seats.{IsIn, IsSettled, IsDoubted, MayLeave, advanced, bare_after, mend_bytes, mended, there_of}
 use Rattle.au_store.specs.Standing.{Holds, HoldsEither, IsKept, IsInDoubt, StandsOn}
 
 -- a closed gate behind the bodies
@@ -36,40 +36,39 @@ settled_kept P m seat bodies gated settled so = record {
       };
 }
 
--- where the journal may stand for the bodies, or for those and one more
-pub held_either : (P Q : List (List ℕ) → Type 0) (area : Area) (limit : ℕ) (bodies : List (List ℕ)) (body : List ℕ) → P bodies → Q (bodies ++ body ∷ [])
-    → (c : Areas) → In area (MayStandFor false limit bodies body) c → HoldsEither P Q c
-held_either P Q area limit bodies body so so_then c may =
+-- where the journal may stand for the bodies, or for the others
+pub held_either : (P Q : List (List ℕ) → Type 0) (area : Area) (limit : ℕ) (bodies : List (List ℕ)) (there : Area) (others : List (List ℕ)) → P bodies → Q others
+    → (c : Areas) → MayStandFor false limit area bodies there others c → HoldsEither P Q c
+held_either P Q area limit bodies there others so so_then c may =
     ⊎_elim
-    (λ (stands : StandsGated limit bodies (area_of area c)). inl (record { area = area; limit = limit; bodies = bodies; held = record { selected = may.selected; here = stands }; so = so }))
-    (λ (stands : StandsGated limit (bodies ++ body ∷ []) (area_of area c)). inr (record { area = area; limit = limit; bodies = bodies ++ body ∷ []; held = record { selected = may.selected; here = stands }; so = so_then }))
-    may.here
+    (λ (held : In area (StandsGated limit bodies) c). inl (record { area = area; limit = limit; bodies = bodies; held = held; so = so }))
+    (λ (held : In there (StandsGated limit others) c). inr (record { area = there; limit = limit; bodies = others; held = held; so = so_then }))
+    may
 
-pub either_since : (P Q : List (List ℕ) → Type 0) (area : Area) (bare : Bool) (limit : ℕ) (bodies : List (List ℕ)) (body : List ℕ) (old new : Meaning) → bare ≡ false → P bodies → Q (bodies ++ body ∷ [])
-    → LeavesSince (In area (MayStandFor bare limit bodies body)) old new → LeavesSince (HoldsEither P Q) old new
-either_since P Q area bare limit bodies body old new gated so so_then leaves =
-    weaker_since (In area (MayStandFor false limit bodies body)) (HoldsEither P Q) old new (held_either P Q area limit bodies body so so_then)
-    (subst (λ (b : Bool). LeavesSince (In area (MayStandFor b limit bodies body)) old new) gated leaves)
+pub either_since : (P Q : List (List ℕ) → Type 0) (seat : Seat) (bodies : List (List ℕ)) (there : Area) (others : List (List ℕ)) (old new : Meaning) → seat.bare ≡ false → P bodies → Q others
+    → LeavesSince (MayLeave seat bodies there others) old new → LeavesSince (HoldsEither P Q) old new
+either_since P Q seat bodies there others old new gated so so_then leaves =
+    weaker_since (MayStandFor false seat.limit seat.area bodies there others) (HoldsEither P Q) old new (held_either P Q seat.area seat.limit bodies there others so so_then)
+    (subst (λ (b : Bool). LeavesSince (MayStandFor b seat.limit seat.area bodies there others) old new) gated leaves)
 
--- after a call that left a body in doubt
-pub left_in_doubt : (P Q : List (List ℕ) → Type 0) (old new : Meaning) (seat : Seat) (bodies : List (List ℕ)) (body : List ℕ) → CountsNow new → Passes old new
-    → IsDoubted new seat bodies body → IsSome body → P bodies → Q (bodies ++ body ∷ []) → LeavesSince (HoldsEither P Q) old new → IsInDoubt P Q new seat
-left_in_doubt P Q old new seat bodies body counts time doubted some so so_then leaves = record {
+-- after a call that left a write in doubt
+pub left_in_doubt : (P Q : List (List ℕ) → Type 0) (old new : Meaning) (seat : Seat) (bodies others : List (List ℕ)) → CountsNow new → Passes old new
+    → IsDoubted new seat bodies others → P bodies → Q others → LeavesSince (HoldsEither P Q) old new → IsInDoubt P Q new seat
+left_in_doubt P Q old new seat bodies others counts time doubted so so_then leaves = record {
   bodies = bodies;
-  body = body;
+  others = others;
   doubted = doubted;
-  some = some;
   so = so;
   so_then = so_then;
   leaves = at_last (HoldsEither P Q) old new counts time leaves;
 }
 
 -- what the journal may be in doubt of, as its calls ask for it
-pub doubted_of : (P Q : List (List ℕ) → Type 0) (m : Meaning) (seat : Seat) → StandsOn P Q m seat → (bodies : List (List ℕ)) × (body : List ℕ) × IsDoubted m seat bodies body
+pub doubted_of : (P Q : List (List ℕ) → Type 0) (m : Meaning) (seat : Seat) → StandsOn P Q m seat → (bodies others : List (List ℕ)) × IsDoubted m seat bodies others
 doubted_of P Q m seat stands =
     ⊎_elim
     (λ (kept : (seat.doubt ≡ Settled) × IsKept P m seat). (kept.1.bodies, [], subst (λ (d : Doubt). IsIn d m seat kept.1.bodies []) (sym kept.0) kept.1.settled))
-    (λ (doubt : IsInDoubt P Q m seat). (doubt.bodies, doubt.body, doubt.doubted))
+    (λ (doubt : IsInDoubt P Q m seat). (doubt.bodies, doubt.others, doubt.doubted))
     stands
 
 -- a mend leaves a gate where there was one
@@ -78,6 +77,17 @@ gated_after Settled bare is = is
 gated_after Body bare is = is
 gated_after Gate bare is = is
 gated_after Edge bare is = refl
+gated_after Other bare is = is
+gated_after Head bare is = is
+
+-- and writes one byte at most
+pub mend_writes : (doubt : Doubt) → mend_bytes doubt ≤ 1
+mend_writes Settled = omega arith
+mend_writes Body = omega arith
+mend_writes Gate = omega arith
+mend_writes Edge = omega arith
+mend_writes Other = omega arith
+mend_writes Head = omega arith
 
 module _ (P Q : List (List ℕ) → Type 0) (old new : Seat) (gated : old.bare ≡ false) where
   -- where no body is in doubt
@@ -85,24 +95,24 @@ module _ (P Q : List (List ℕ) → Type 0) (old new : Seat) (gated : old.bare �
   settled_stands m is stands =
       ⊎_elim
       (λ (kept : (old.doubt ≡ Settled) × IsKept P m old). kept.1)
-      (λ (doubt : IsInDoubt P Q m old). settled_kept P m old doubt.bodies gated (subst (λ (d : Doubt). IsIn d m old doubt.bodies doubt.body) is doubt.doubted) doubt.so)
+      (λ (doubt : IsInDoubt P Q m old). settled_kept P m old doubt.bodies gated (subst (λ (d : Doubt). IsIn d m old doubt.bodies doubt.others) is doubt.doubted) doubt.so)
       stands
 
   -- after a mend that succeeded
   pub mended_kept : (m n : Meaning) → new ≡ mended old → StandsOn P Q m old
-      → ((bodies : List (List ℕ)) (body : List ℕ) → IsDoubted m old bodies body → IsSettled n new bodies) → IsKept P n new
+      → ((bodies others : List (List ℕ)) → IsDoubted m old bodies others → IsSettled n new bodies) → IsKept P n new
   mended_kept m n is stands settles =
       let here : new.bare ≡ false = ap (λ (s : Seat). s.bare) is ∙ gated_after old.doubt old.bare gated in
       ⊎_elim
       (λ (kept : (old.doubt ≡ Settled) × IsKept P m old). settled_kept P n new kept.1.bodies here (settles kept.1.bodies [] (subst (λ (d : Doubt). IsIn d m old kept.1.bodies []) (sym kept.0) kept.1.settled)) kept.1.so)
-      (λ (doubt : IsInDoubt P Q m old). settled_kept P n new doubt.bodies here (settles doubt.bodies doubt.body doubt.doubted) doubt.so)
+      (λ (doubt : IsInDoubt P Q m old). settled_kept P n new doubt.bodies here (settles doubt.bodies doubt.others doubt.doubted) doubt.so)
       stands
 
   -- at any moment of a mend
   module _ {D : Type 0} (meaning : D → Meaning) (before after : D) (still : old.doubt ≡ Settled → after ≡ before) where
     pub mending_since : OnlyNow (meaning before) → StandsOn P Q (meaning before) old
-        → ((bodies : List (List ℕ)) (body : List ℕ) → IsSome body → IsDoubted (meaning before) old bodies body
-        → LeavesSince (In old.area (MayStandFor old.bare old.limit bodies body)) (meaning before) (meaning after))
+        → ((bodies others : List (List ℕ)) → IsDoubted (meaning before) old bodies others
+        → LeavesSince (MayLeave old bodies (there_of old.doubt old.area) others) (meaning before) (meaning after))
         → LeavesSince (HoldsEither P Q) (meaning before) (meaning after)
     mending_since only stands leaves =
         ⊎_elim
@@ -110,13 +120,13 @@ module _ (P Q : List (List ℕ) → Type 0) (old new : Seat) (gated : old.bare �
         subst (λ (d : D). LeavesSince (HoldsEither P Q) (meaning before) (meaning d)) (sym (still kept.0))
         (no_call (HoldsEither P Q) (meaning before) only (weaker (Holds P) (HoldsEither P Q) (meaning before) (λ c held. inl held) kept.1.leaves)))
         (λ (doubt : IsInDoubt P Q (meaning before) old).
-        either_since P Q old.area old.bare old.limit doubt.bodies doubt.body (meaning before) (meaning after) gated doubt.so doubt.so_then
-        (leaves doubt.bodies doubt.body doubt.some doubt.doubted))
+        either_since P Q old doubt.bodies (there_of old.doubt old.area) doubt.others (meaning before) (meaning after) gated doubt.so doubt.so_then
+        (leaves doubt.bodies doubt.others doubt.doubted))
         stands
 
     -- after a mend that failed
     pub still_stands : CountsNow (meaning after) → Passes (meaning before) (meaning after) → new ≡ old → StandsOn P Q (meaning before) old
-        → ((bodies : List (List ℕ)) (body : List ℕ) → IsDoubted (meaning before) old bodies body → IsDoubted (meaning after) new bodies body)
+        → ((bodies others : List (List ℕ)) → IsDoubted (meaning before) old bodies others → IsDoubted (meaning after) new bodies others)
         → LeavesSince (HoldsEither P Q) (meaning before) (meaning after) → StandsOn P Q (meaning after) new
     still_stands counts time is stands doubted leaves =
         ⊎_elim
@@ -124,7 +134,7 @@ module _ (P Q : List (List ℕ) → Type 0) (old new : Seat) (gated : old.bare �
         subst (λ (s : Seat). StandsOn P Q (meaning after) s) (sym is)
         (subst (λ (d : D). StandsOn P Q (meaning d) old) (sym (still kept.0)) (inl kept)))
         (λ (doubt : IsInDoubt P Q (meaning before) old).
-        inr (left_in_doubt P Q (meaning before) (meaning after) new doubt.bodies doubt.body counts time (doubted doubt.bodies doubt.body doubt.doubted) doubt.some doubt.so doubt.so_then leaves))
+        inr (left_in_doubt P Q (meaning before) (meaning after) new doubt.bodies doubt.others counts time (doubted doubt.bodies doubt.others doubt.doubted) doubt.so doubt.so_then leaves))
         stands
 
 -- after an append that is done

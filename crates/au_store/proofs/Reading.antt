@@ -26,7 +26,10 @@ use Rattle.au_engine.specs.Replaying.{EndsWell, IsReplayable, after_frame, IsIma
 use Rattle.au_engine.specs.State.{State, start}
 use Rattle.au_store.specs.Opened.{AreReplayable, CannotFollow, IsBare, IsFrameDamage}
 use Rattle.au_store.specs.Recovery.{BeginsBy, GoesOnBy, GoesOnTo, ReadsAs, RecoversToEither, Replayed}
-use Rattle.au_store.specs.Starting.{IsOpened, IsRead, NoneIsBare, OpenCause, OpenLeaves, OpenSays, StartSays, fault_of}
+use Rattle.rec_codec.specs.Frames.{framed}
+use Rattle.au_engine.specs.Returning.{start_frame}
+use Rattle.au_store.specs.Steps.{IsMovedTo}
+use Rattle.au_store.specs.Starting.{IsOpened, IsRead, IsSeated, NoneIsBare, OpenCause, OpenLeaves, OpenSays, StartSays, fault_of}
 
 -- no body begins another
 abbrev pub OneFront : Type 0
@@ -242,6 +245,19 @@ module _ (old mid : Meaning) (seat : Seat) (kept : Kept) (reads : mid.reads ≡ 
 
   pub opened_by : (reading : ℕ) (m : State) → kept.instance < INSTANCES → m ≡ start kept reading → IsOpened old.reads reading m
   opened_by reading m fresh begins = record { kept = kept; reads = recovered; fresh = fresh; begins = begins }
+
+  pub seated_by : (n reading : ℕ) (t : Seat) → n ≡ length (framed (start_frame kept reading)) → IsMovedTo n seat t → IsSeated old.reads reading t
+  seated_by n reading t size moved =
+      let here = subst (λ (all : Areas). In seat.area (Stands seat.limit read.bodies) all) reads (settled_in mid seat read.bodies read.settled image) in
+      let there = subst (λ (a : Area). In a (Stands seat.limit read.bodies) old.reads) (sym moved.area) here in
+      record {
+        kept = kept;
+        bodies = read.bodies;
+        held = subst (λ (l : ℕ). In t.area (Stands l read.bodies) old.reads) (sym moved.limit) there;
+        so = read.so;
+        used = moved.used ∙ ap (λ (u : ℕ). u + n) (read.settled.placed.place ∙ ap (λ (l : ℕ). length (front l read.bodies)) (sym moved.limit))
+            ∙ ap (λ (k : ℕ). length (front t.limit read.bodies) + k) size;
+      }
 
   pub gated_by : old.images old.reads → NoneIsBare old → seat.bare ≡ false
   gated_by was none = read_gated mid seat kept image read (λ bare. none old.reads was (subst IsBare reads bare))

@@ -8,13 +8,14 @@ use Rattle.au_journal.specs.declared.mended.Mended.TheVariants as mend
 use Rattle.au_journal.specs.declared.seat.Seat.{Seat}
 use Rattle.au_journal.specs.Seats.{mended}
 use Rattle.au_engine.specs.Replaying.{EndsWell}
-use Rattle.au_store.specs.Stored.{IsKeptOn, IsStoodOn, IsSound}
+use Rattle.au_store.specs.Doubts.{IsStoodOn}
+use Rattle.au_store.specs.Stored.{IsKeptOn, IsSound}
 use Rattle.au_store.proofs.Keeping.{gated_after}
 
 -- a settled journal
 pub settled_sound : (told : Type 0) (m : Meaning) (seat : Seat) (kept : Kept) → seat.ended ≡ true → seat.bare ≡ false → seat.doubt ≡ Settled → EndsWell kept
     → (told → IsKeptOn kept m seat) → IsSound told m seat kept
-settled_sound told m seat kept ended gated settled ends is = record { ended = ended; gated = gated; ends = ends; stands = λ tells. (kept, inl (settled, is tells)) }
+settled_sound told m seat kept ended gated settled ends is = record { ended = ended; gated = gated; ends = ends; stands = λ tells. record { doubted = kept; stood = inl (settled, is tells); left = λ unsettled. absurd (unsettled settled) } }
 
 -- after a mend
 pub mend_sound : (told : Type 0) (m n : Meaning) (old new : Seat) (kept : Kept) (answer : Mended) → IsSound told m old kept
@@ -32,5 +33,6 @@ mend_sound told m n old new kept mend.Disk sound mends rests is doubted =
       ended = ap (λ (s : Seat). s.ended) here ∙ sound.ended;
       gated = ap (λ (s : Seat). s.bare) here ∙ sound.gated;
       ends = sound.ends;
-      stands = λ tells. let was = sound.stands tells in (was.0, doubted tells was.0 was.1 refl);
+      stands = λ tells. let was = sound.stands tells in
+          record { doubted = was.doubted; stood = doubted tells was.doubted was.stood refl; left = λ unsettled. was.left (λ is. unsettled (ap (λ (s : Seat). s.doubt) here ∙ is)) };
     }

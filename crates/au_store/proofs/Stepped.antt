@@ -12,13 +12,15 @@ use Rattle.au_engine.specs.Step.{Event, Step}
 use Rattle.au_io.specs.Areas.{Areas}
 use Rattle.au_io.specs.Disk.{Meaning, Passes}
 use Rattle.au_io.specs.Moments.{LeavesSince, weaker_since, both_calls}
+use Rattle.au_io.specs.Time.{Reads, Ticking}
 use Rattle.au_journal.specs.declared.seat.Seat.{Seat}
 use Rattle.au_journal.specs.Seats.{IsFullAt, mended, needed_of}
 use Rattle.rec_codec.specs.declared.frame.Frame.{Frame}
 use Rattle.rec_codec.specs.Frames.{framed}
 use Rattle.au_store.specs.Recovery.{RecoversTo, RecoversToEither}
+use Rattle.au_store.specs.Doubts.{IsAfter}
 use Rattle.au_store.specs.Stored.{IsKeptOn}
-use Rattle.au_store.specs.Steps.{EventWrites, Exceeds, EventCosts, IsAfter, FitsUnder, IsMoved, IsMovedTo, IsWithin, MakesBy, StepCosts, StepLeaves, StepMoves, StepsBy, append_cost, growth, step_cost, written_length}
+use Rattle.au_store.specs.Steps.{EventWrites, Exceeds, EventCosts, FitsUnder, IsMoved, IsMovedTo, IsWithin, MakesBy, StepCosts, StepLeaves, StepMoves, StepsBy, append_cost, growth, step_cost, written_length}
 
 -- the state and the reply
 pub steps_by : (m n : State) (event : Event) (prepared : Prepared) (answer : Said) → Step m event prepared.reply (after prepared m) → MakesBy prepared m answer n → StepsBy m event answer n
@@ -126,6 +128,11 @@ module _ (m n : State) (event : Event) (old mid : Seat) (is : mid ≡ mended old
   moves_from said.Disk new moves = moved_from 0 new moves
   moves_from (said.Full needed limit) new moves = moved_from 0 new moves
   moves_from said.Memory new moves = moved_from 0 new moves
+
+-- the clock was read in the second of three calls
+pub tried_read : {C : Type 0} (ticking : C → Option Ticking) (c0 c1 c2 c3 : C) (r2 r3 : ℕ) → c1 ≡ c0 → c3 ≡ c2 → r3 ≡ r2 → Reads (ticking c1) (ticking c2) r2 → Reads (ticking c0) (ticking c3) r3
+tried_read {C = C} ticking c0 c1 c2 c3 r2 r3 first last reading read =
+    subst (λ (x : C). Reads (ticking x) (ticking c3) r3) first (subst (λ (x : C). Reads (ticking c1) (ticking x) r3) (sym last) (subst (λ (r : ℕ). Reads (ticking c1) (ticking c2) r) (sym reading) read))
 
 -- the same at equal disks, seats and states
 module _ {D : Type 0} (meaning : D → Meaning) (disk mid : D) (is : mid ≡ disk) where

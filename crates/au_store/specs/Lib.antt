@@ -1,4 +1,5 @@
 pub mod Creating
+pub mod Doubts
 pub mod Opened
 pub mod Recovery
 pub mod Standing

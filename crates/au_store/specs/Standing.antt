@@ -1,5 +1,5 @@
 -- What a journal stands on between two calls, for any property of the bodies that it holds.
-use Rattle.std.specs.Prelude.{◌≡◌, ◌⊎◌, ℕ, List, [], ◌∷◌, ◌++◌}
+use Rattle.std.specs.Prelude.{◌≡◌, ◌⊎◌, ℕ, List}
 use Rattle.au_io.specs.declared.disk.Area.{Area}
 use Rattle.au_io.specs.Areas.{Areas}
 use Rattle.au_io.specs.Disk.{Meaning}
@@ -7,7 +7,7 @@ use Rattle.au_io.specs.Moments.{Leaves}
 use Rattle.au_journal.specs.declared.doubt.Doubt.TheVariants.{Settled}
 use Rattle.au_journal.specs.declared.seat.Seat.{Seat}
 use Rattle.au_journal.specs.Images.{In, StandsGated}
-use Rattle.au_journal.specs.Seats.{IsSettled, IsDoubted, IsSome}
+use Rattle.au_journal.specs.Seats.{IsSettled, IsDoubted}
 
 -- the selected area holds bodies that have the property, and a closed gate stands behind them
 pub record Holds (P : List (List ℕ) → Type 0) (all : Areas) : Type 0 where
@@ -28,16 +28,15 @@ pub record IsKept (P : List (List ℕ) → Type 0) (m : Meaning) (seat : Seat) :
   pub so : P bodies
   pub leaves : Leaves (Holds P) m
 
--- one more body is in doubt: a crash may leave the bodies, or those and that one
+-- the last write is in doubt: a crash may leave the bodies, or the others that it was to leave
 pub record IsInDoubt (P Q : List (List ℕ) → Type 0) (m : Meaning) (seat : Seat) : Type 0 where
   pub bodies : List (List ℕ)
-  pub body : List ℕ
-  pub doubted : IsDoubted m seat bodies body
-  pub some : IsSome body
+  pub others : List (List ℕ)
+  pub doubted : IsDoubted m seat bodies others
   pub so : P bodies
-  pub so_then : Q (bodies ++ body ∷ [])
+  pub so_then : Q others
   pub leaves : Leaves (HoldsEither P Q) m
 
--- the journal stands for bodies of the first property; where one more is in doubt, those with it have the second
+-- the journal stands for bodies of the first property; where a write is in doubt, the others have the second
 abbrev pub StandsOn : (List (List ℕ) → Type 0) → (List (List ℕ) → Type 0) → Meaning → Seat → Type 0
 StandsOn P Q m seat = ((seat.doubt ≡ Settled) × IsKept P m seat) ⊎ IsInDoubt P Q m seat

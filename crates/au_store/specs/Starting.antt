@@ -8,6 +8,8 @@ use Rattle.au_io.specs.Faults.{HasRisen}
 use Rattle.au_journal.specs.declared.mount_fault.MountFault.{MountFault}
 use Rattle.au_journal.specs.declared.mount_fault.MountFault.TheVariants as mount
 use Rattle.au_journal.specs.declared.seat.Seat.{Seat}
+use Rattle.au_journal.specs.Frames.{Stands, front}
+use Rattle.au_journal.specs.Images.{In}
 use Rattle.au_journal.specs.Seats.{IsSettled}
 use Rattle.au_journal.specs.Walk.{IsDamaged, IsUnformatted, IsWalked}
 use Rattle.rec_codec.specs.Frames.{framed}
@@ -76,6 +78,15 @@ pub record IsOpened (all : Areas) (reading : ℕ) (m : State) : Type 0 where
   pub reads : ReadsAs kept all
   pub fresh : kept.instance < INSTANCES
   pub begins : m ≡ start kept reading
+
+-- the journal goes on in the area that was selected, under its limit, behind the bodies that stood there and the frame with
+-- which this instance begins
+pub record IsSeated (all : Areas) (reading : ℕ) (seat : Seat) : Type 0 where
+  pub kept : Kept
+  pub bodies : List (List ℕ)
+  pub held : In seat.area (Stands seat.limit bodies) all
+  pub so : Replayed bodies kept
+  pub used : seat.used ≡ length (front seat.limit bodies) + length (framed (start_frame kept reading))
 
 -- an instance that can't begin over what is kept, for want of a number where that is said
 abbrev pub StartSays : Kept → OpenFault → Type 0

@@ -1,5 +1,5 @@
 -- What a step of a store does, by what it answers.
-use Rattle.std.specs.Prelude.{◌≡◌, ◌⊎◌, ◌≤◌, ◌<◌, ⊤, ℕ, ◌+◌, List, length, Option, Some, None}
+use Rattle.std.specs.Prelude.{◌≡◌, ◌≢◌, ◌⊎◌, ◌≤◌, ◌<◌, ⊤, ℕ, ◌+◌, List, length, Option, Some, None}
 use Rattle.au_base.specs.declared.ask.Ask.{Ask}
 use Rattle.au_base.specs.declared.numbers.ClientNo.{ClientNo}
 use Rattle.au_base.specs.declared.reply.Reply.{Reply}
@@ -20,8 +20,11 @@ use Rattle.au_engine.specs.Prepared.{after}
 use Rattle.au_engine.specs.State.{State, stamp_of}
 use Rattle.au_engine.specs.Step.{Event, Step}
 use Rattle.au_io.specs.Moments.{LeavesSince}
+use Rattle.au_io.specs.Time.{Reads, Ticking}
+use Rattle.au_journal.specs.declared.doubt.Doubt.TheVariants.{Settled}
 use Rattle.au_store.specs.Recovery.{RecoversTo, RecoversToEither}
-use Rattle.au_store.specs.Stored.{Stored, IsStoodOn}
+use Rattle.au_store.specs.Doubts.{IsAfter, IsStoodOn}
+use Rattle.au_store.specs.Stored.{Stored}
 
 -- the frame goes on from what is kept, and that is kept after it
 pub record Carries (kept : Kept) (frame : Frame) (after : Kept) : Type 0 where
@@ -72,25 +75,28 @@ StepCause (said.Replied reply) before now = now ≡ before
 StepCause (said.Full needed limit) before now = now ≡ before
 StepCause said.Memory before now = now ≡ before
 
--- what is kept after the event
-abbrev pub IsAfter : State → Event → Kept → Type 0
-IsAfter m event kept = (n : State) × (reply : Reply) × Step m event reply n × (kept ≡ n.kept)
-
 -- at any moment of the step a crash leaves what was kept before, what the step in doubt would leave, or what this one does
 abbrev pub StepLeaves : State → Event → Kept → Areas → Type 0
 StepLeaves m event doubted all =
     RecoversTo m.kept all ⊎ (RecoversTo doubted all ⊎ ((kept : Kept) × IsAfter m event kept × RecoversTo kept all))
 
--- where the disk failed: the doubt is the one from before, or this step is in doubt
-abbrev pub StepDoubts : State → Event → Kept → Meaning → Seat → Type 0
-StepDoubts m event doubted new seat =
-    IsStoodOn m.kept doubted new seat ⊎ ((kept : Kept) × IsAfter m event kept × IsStoodOn m.kept kept new seat)
+-- this step is in doubt
+abbrev pub StepDoubts : State → Event → Meaning → Seat → Type 0
+StepDoubts m event new seat = (kept : Kept) × IsAfter m event kept × IsStoodOn m.kept kept new seat
 
--- the mend of an earlier step failed: the clock wasn't read, what was in doubt still is, and a crash leaves what it left before
+-- the step was tried: the clock was read, once nothing was in doubt; where the disk failed, this step is in doubt
+pub record IsTried {D C : Type 0} (told : Type 0) (meaning : D → Meaning) (ticking : C → Option Ticking) (event : Event) (old new : Stored D C) (answer : Said) : Type 0 where
+  pub read : Reads (ticking old.clock) (ticking new.clock) new.reading
+  pub doubts : told → answer ≡ said.Disk → StepDoubts old.state event (meaning new.disk) new.seat
+
+-- an earlier step is in doubt, and its mend failed: the clock wasn't read, nothing but that mend was written, the same step
+-- still is in doubt, and a crash leaves what it left before
 pub record IsUnmended {D C : Type 0} (told : Type 0) (meaning : D → Meaning) (old new : Stored D C) (answer : Said) : Type 0 where
   pub failed : answer ≡ said.Disk
+  pub stood : old.seat.doubt ≢ Settled
   pub clock : new.clock ≡ old.clock
   pub reading : new.reading ≡ old.reading
+  pub cost : (meaning new.disk).written ≤ (meaning old.disk).written + 1
   pub doubted : told → (doubted : Kept) → IsStoodOn old.state.kept doubted (meaning old.disk) old.seat → IsStoodOn old.state.kept doubted (meaning new.disk) new.seat
   pub any_moment : told → (doubted : Kept) → IsStoodOn old.state.kept doubted (meaning old.disk) old.seat
       → LeavesSince (RecoversToEither old.state.kept doubted) (meaning old.disk) (meaning new.disk)

@@ -6,7 +6,8 @@ use Rattle.au_catalog.specs.declared.kept.Kept.{Kept}
 use Rattle.au_engine.specs.Replaying.{EndsWell}
 use Rattle.au_engine.specs.State.{State, Reserved}
 use Rattle.au_store.specs.Recovery.{ReplayedTo}
-use Rattle.au_store.specs.Standing.{IsKept, StandsOn}
+use Rattle.au_store.specs.Doubts.{IsAtRest}
+use Rattle.au_store.specs.Standing.{IsKept}
 
 -- the state, for how many more records there is room, the disk and where the journal stands on it, the clock, and the
 -- last reading that it gave
@@ -26,14 +27,10 @@ reserved_of store = record { state = store.state; room = store.room }
 abbrev pub IsKeptOn : Kept → Meaning → Seat → Type 0
 IsKeptOn kept m seat = IsKept (ReplayedTo kept) m seat
 
--- all that a crash may leave recovers to what is kept, or, where a step is in doubt, to what is kept after it
-abbrev pub IsStoodOn : Kept → Kept → Meaning → Seat → Type 0
-IsStoodOn kept doubted m seat = StandsOn (ReplayedTo kept) (ReplayedTo doubted) m seat
-
 -- The journal was walked to its end, and a gate stands there. Where the disk tells what it holds, it stands for what is
--- kept, and perhaps for a step that is in doubt. SYS is a user, and there is no more of anything than there may be.
+-- kept, and perhaps for what is kept after the one step that is in doubt. SYS is a user, and there is no more of anything than there may be.
 pub record IsSound (told : Type 0) (m : Meaning) (seat : Seat) (kept : Kept) : Type 0 where
   pub ended : seat.ended ≡ true
   pub gated : seat.bare ≡ false
   pub ends : EndsWell kept
-  pub stands : told → (doubted : Kept) × IsStoodOn kept doubted m seat
+  pub stands : told → IsAtRest kept m seat

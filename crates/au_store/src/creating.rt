@@ -1,6 +1,6 @@
 //! Making a store.
 ghost use Rattle.std.specs.Prelude.{◌≡◌, IfOk};
-ghost use Rattle.au_io.specs.Disk.{Passes, Stays};
+ghost use Rattle.au_io.specs.Disk.{Stays};
 ghost use Rattle.au_io.specs.Moments.{Leaves, LeavesSince};
 ghost use Rattle.au_journal.specs.Creation.{IsSelectedFormatted, OthersAreBlank};
 ghost use Rattle.au_journal.specs.Frames.{IsLimit};
@@ -21,16 +21,17 @@ impl<D: Disk, C: Clock> Store<D, C> {
     /// Makes a store that nobody has used yet, whose SYS has this password and whose journal has this
     /// limit. It syncs the three areas first, and does nothing else where the selected area is
     /// formatted. A crash at any moment leaves what could be there before, or areas that aren't
-    /// formatted, or the whole store.
+    /// formatted, or the whole store. Where it failed it can be made again.
     pub fn create(alloc: Global, disk: &mut D, sys_password: &[u8], limit: u32) -> Created
         requires { IsLimit limit }
         ensures formatted { D.told → result ≡ Created.Formatted → IsSelectedFormatted (D.meaning disk.old).reads }
         ensures unformatted { D.told → result ≡ Created.Done → IsUnformatted (D.meaning disk.old).reads }
         ensures untouched { result ≡ Created.Formatted → Stays (D.meaning disk.old) (D.meaning disk.new) }
         ensures uncalled { result ≡ Created.Memory → disk.new ≡ disk.old }
-        ensures done { D.told → Leaves OthersAreBlank (D.meaning disk.old) → result ≡ Created.Done → Leaves (IsMade limit (opening sys_password.now)) (D.meaning disk.new) }
+        ensures done { D.told → result ≡ Created.Done → Leaves (IsMade limit (opening sys_password.now)) (D.meaning disk.new) }
         ensures any_moment { D.told → Leaves OthersAreBlank (D.meaning disk.old)
             → LeavesSince (CreateLeaves (D.meaning disk.old) (opening sys_password.now)) (D.meaning disk.old) (D.meaning disk.new) }
+        ensures again { D.told → Leaves OthersAreBlank (D.meaning disk.old) → LeavesSince OthersAreBlank (D.meaning disk.old) (D.meaning disk.new) }
         ensures cause { CreateCause result (D.faults disk.old) (D.faults disk.new) }
     {
         match opening_image(alloc, sys_password) {

@@ -1,6 +1,5 @@
 //! What is asked of a store between two steps, and its end.
 ghost use Rattle.std.specs.Prelude.{◌≡◌, is_some};
-ghost use Rattle.au_catalog.specs.declared.kept.Kept.{Kept};
 ghost use Rattle.au_engine.specs.Abandoning.{abandoned};
 ghost use Rattle.au_engine.specs.Step.{session_of};
 
@@ -9,7 +8,7 @@ use au_base::ClientNo;
 use au_io::{Clock, Disk};
 
 impl<D: Disk, C: Clock> Store<D, C> {
-    ghost use Rattle.au_store.specs.Stored.{IsStoodOn};
+    ghost use Rattle.au_store.specs.Doubts.{IsAtRest};
 
     /// The last reading that the clock gave.
     pub fn reading(&self) -> u64
@@ -35,9 +34,9 @@ impl<D: Disk, C: Clock> Store<D, C> {
     }
 
     /// What a crash may leave between two calls: what is kept, or, where a step is in doubt, what is
-    /// kept after it. It does nothing.
+    /// kept after the event of that step. It does nothing.
     pub fn at_rest(&self)
-        ensures { D.told → (doubted : Kept) × IsStoodOn self.now.state.kept doubted (D.meaning self.now.disk) self.now.seat }
+        ensures { D.told → IsAtRest self.now.state.kept (D.meaning self.now.disk) self.now.seat }
     {
         let _ = &self.reading;
     }

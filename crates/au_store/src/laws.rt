@@ -2,8 +2,11 @@
 ghost use Rattle.std.specs.Prelude.{◌≡◌, ℕ};
 ghost use Rattle.au_catalog.specs.declared.kept.Kept.{Kept};
 ghost use Rattle.au_io.specs.Areas.{Areas, IsBounded};
-ghost use Rattle.au_engine.specs.State.{State};
+ghost use Rattle.au_io.specs.declared.disk.Area.{Area};
+ghost use Rattle.au_journal.specs.Walk.{IsUnformatted};
+ghost use Rattle.au_engine.specs.State.{State, start};
 ghost use Rattle.au_store.specs.declared.open_fault.OpenFault.{OpenFault};
+ghost use Rattle.au_store.specs.declared.open_fault.OpenFault.TheVariants as fault;
 ghost use Rattle.au_store.specs.Opened.{IsBare};
 ghost use Rattle.au_store.specs.Recovery.{ReadsAs, RecoversTo};
 ghost use Rattle.au_store.specs.Starting.{IsOfBytes, IsOpened, OpenSays};
@@ -18,6 +21,23 @@ pub fn one_recovery()
     ensures gated { (all : Areas) (kept : Kept) → IsBounded all → RecoversTo kept all → IsBare all → ⊥ }
 {
     one_front();
+}
+
+/// Areas that read as what is kept, and areas of which the selected one isn't formatted, aren't damaged
+/// anywhere; and the former are formatted. So no image that a crash leaves of a store that was made
+/// here is damaged, also where no number is left for another instance.
+pub fn never_damaged()
+    ensures whole { (all : Areas) (kept : Kept) (area : Area) (at : ℕ) → IsBounded all → ReadsAs kept all → OpenSays all (fault.Damaged area at) → ⊥ }
+    ensures blank { (all : Areas) (area : Area) (at : ℕ) → IsUnformatted all → OpenSays all (fault.Damaged area at) → ⊥ }
+    ensures formatted { (all : Areas) (kept : Kept) → ReadsAs kept all → IsUnformatted all → ⊥ }
+{}
+
+/// A store that is opened on areas which recover to what is kept is in the state of the next instance
+/// over that: what a store kept when it was shut is what the next one begins with.
+pub fn reopened()
+    ensures { (all : Areas) (kept : Kept) (reading : ℕ) (m : State) → IsBounded all → RecoversTo kept all → IsOpened all reading m → m ≡ start kept reading }
+{
+    one_recovery();
 }
 
 /// The bytes of areas give one reason why a store on them can't be opened: that the selected one

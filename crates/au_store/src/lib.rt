@@ -14,9 +14,6 @@ mod store;
 mod writing;
 
 pub use created::Created;
-pub use laws::{one_cause, one_recovery};
+pub use laws::{never_damaged, one_cause, one_recovery, reopened};
 pub use open_fault::OpenFault;
 pub use store::Store;
-
-#[cfg(test)]
-mod tests;

@@ -12,7 +12,7 @@ ghost use Rattle.au_engine.specs.Returning.{start_frame};
 ghost use Rattle.au_engine.specs.State.{resting, start};
 ghost use Rattle.au_store.specs.Recovery.{RecoversToEither};
 ghost use Rattle.au_store.specs.Starting.{IsRead};
-ghost use Rattle.au_store.specs.Steps.{CarriesTo};
+ghost use Rattle.au_store.specs.Steps.{CarriesTo, IsMovedTo};
 ghost use Rattle.au_store.specs.Stored.{IsKeptOn};
 
 use crate::replaying::recover;
@@ -26,13 +26,14 @@ use rec_codec::write_framed;
 use std::alloc::Global;
 
 impl<D: Disk, C: Clock> Store<D, C> {
-    ghost use Rattle.au_store.specs.Starting.{IsOpened, NoneIsBare, OpenCause, OpenCosts, OpenLeaves, OpenSays, StartSays};
+    ghost use Rattle.au_store.specs.Starting.{IsOpened, IsSeated, NoneIsBare, OpenCause, OpenCosts, OpenLeaves, OpenSays, StartSays};
 
     /// Opens the store that the disk recovers to: syncs the three areas, replays what stands in the
     /// selected one, reads the clock once, and appends the event with which the next instance begins,
     /// free of the limit. An error gives the disk and the clock back.
     pub fn open(alloc: Global, disk: D, clock: C) -> Result<Store<D, C>, (D, C, OpenFault)>
         ensures opened { D.told → IfOk result (λ store. IsOpened (D.meaning disk).reads store.reading store.state) }
+        ensures seated { D.told → IfOk result (λ store. IsSeated (D.meaning disk).reads store.reading store.seat) }
         ensures kept { D.told → IfOk result (λ store. IsKeptOn store.state.kept (D.meaning store.disk) store.seat) }
         ensures settled { IfOk result (λ store. store.seat.doubt ≡ Doubt.Settled) }
         ensures clock { MatchResult result (λ store. Reads (C.ticking clock) (C.ticking store.clock) store.reading)
@@ -68,6 +69,7 @@ impl<D: Disk, C: Clock> Store<D, C> {
         requires resting { engine.state ≡ resting engine.state.kept }
         requires ends { EndsWell engine.state.kept }
         ensures begun { IfOk result (λ store. (engine.state.kept.instance < last_instance) × (store.state ≡ start engine.state.kept store.reading)) }
+        ensures moved { IfOk result (λ store. IsMovedTo (length (framed (start_frame engine.state.kept store.reading))) (seat_of journal) store.seat) }
         ensures kept { D.told → IfOk result (λ store. IsKeptOn store.state.kept (D.meaning store.disk) store.seat) }
         ensures settled { IfOk result (λ store. store.seat.doubt ≡ Doubt.Settled) }
         ensures clock { MatchResult result (λ store. Reads (C.ticking clock) (C.ticking store.clock) store.reading)
@@ -130,6 +132,7 @@ fn write_start<D: Disk>(journal: &mut Journal<D>, framed: &[u8]) -> Result<(), F
         → OnOk result (IsKeptOn next (D.meaning (disk_of journal.new)) (seat_of journal.new)) }
     ensures any_moment { D.told → (kept next : Kept) → IsRead (D.meaning (disk_of journal.old)) (seat_of journal.old) kept → CarriesTo kept (Some framed.now) next
         → (seat_of journal.old).bare ≡ false → LeavesSince (RecoversToEither kept next) (D.meaning (disk_of journal.old)) (D.meaning (disk_of journal.new)) }
+    ensures moved { OnOk result (IsMovedTo (length framed.now) (seat_of journal.old) (seat_of journal.new)) }
     ensures ended { OnOk result ((seat_of journal.new).ended ≡ true) }
     ensures gated { OnOk result ((seat_of journal.new).bare ≡ false) }
     ensures settled { OnOk result ((seat_of journal.new).doubt ≡ Doubt.Settled) }

@@ -24,24 +24,24 @@ use std::alloc::Global;
 
 impl<D: Disk, C: Clock> Store<D, C> {
     ghost use Rattle.au_store.specs.Recovery.{RecoversToEither};
-    ghost use Rattle.au_store.specs.Steps.{CarriesTo, Exceeds, IsMoved, IsUnmended, IsWithin, MakesBy, StepCause, StepCosts, StepDoubts, StepLeaves, StepMoves, StepsBy, append_cost, event_at, growth};
-    ghost use Rattle.au_store.specs.Stored.{IsKeptOn, IsStoodOn, reserved_of};
+    ghost use Rattle.au_store.specs.Steps.{CarriesTo, Exceeds, IsMoved, IsTried, IsUnmended, IsWithin, MakesBy, StepCause, StepCosts, StepLeaves, StepMoves, StepsBy, append_cost, event_at, growth};
+    ghost use Rattle.au_store.specs.Doubts.{IsLeftBy, IsStoodOn};
+    ghost use Rattle.au_store.specs.Stored.{IsKeptOn, reserved_of};
 
     /// Does what a client asks, and answers once it is safe from a crash. It first mends what an
     /// earlier step left in doubt, and reads the clock once where that succeeds.
     ///
-    /// `Disk` has the state as it was, and the step may be in doubt: a crash may leave it done. `Full`
-    /// and `Memory` have the state as it was, and nothing in doubt.
+    /// `Disk` has the state as it was, and one step in doubt, which a crash may leave done: this one, or
+    /// the earlier one where the mend failed. `Full` and `Memory` have the state as it was, and nothing
+    /// in doubt.
     pub fn step(&mut self, alloc: Global, client: ClientNo, ask: &Ask) -> Said
         requires { IsAsked ask.now }
         ensures step { StepsBy self.old.state (event_at client ask.now self.new.reading) result self.new.state }
         ensures moves { StepMoves self.old.state (event_at client ask.now self.new.reading) self.new.state result self.old.seat self.new.seat }
         ensures full { (needed limit : ℕ) → result ≡ Said.Full needed limit → Exceeds self.old.state (event_at client ask.now self.new.reading) self.old.seat needed limit }
-        ensures clock { Reads (C.ticking self.old.clock) (C.ticking self.new.clock) self.new.reading ⊎ IsUnmended D.told D.meaning self.old self.new result }
+        ensures tries { IsTried D.told D.meaning C.ticking (event_at client ask.now self.new.reading) self.old self.new result ⊎ IsUnmended D.told D.meaning self.old self.new result }
         ensures settled { result ≢ Said.Disk → self.new.seat.doubt ≡ Doubt.Settled }
         ensures kept { D.told → result ≢ Said.Disk → IsKeptOn self.new.state.kept (D.meaning self.new.disk) self.new.seat }
-        ensures doubted { D.told → (doubted : Kept) → IsStoodOn self.old.state.kept doubted (D.meaning self.old.disk) self.old.seat
-            → result ≡ Said.Disk → StepDoubts self.old.state (event_at client ask.now self.new.reading) doubted (D.meaning self.new.disk) self.new.seat }
         ensures any_moment { D.told → (doubted : Kept) → IsStoodOn self.old.state.kept doubted (D.meaning self.old.disk) self.old.seat
             → LeavesSince (StepLeaves self.old.state (event_at client ask.now self.new.reading) doubted) (D.meaning self.old.disk) (D.meaning self.new.disk) }
         ensures time { Passes (D.meaning self.old.disk) (D.meaning self.new.disk) }
@@ -62,6 +62,7 @@ impl<D: Disk, C: Clock> Store<D, C> {
         ensures mended { result ≡ Mended.Done → self.new.seat ≡ mended self.old.seat }
         ensures kept { D.told → result ≡ Mended.Done → IsKeptOn self.old.state.kept (D.meaning self.new.disk) self.new.seat }
         ensures rests { result ≡ Mended.Disk → self.new.seat ≡ self.old.seat }
+        ensures stood { result ≡ Mended.Disk → self.old.seat.doubt ≢ Doubt.Settled }
         ensures doubted { D.told → (doubted : Kept) → IsStoodOn self.old.state.kept doubted (D.meaning self.old.disk) self.old.seat
             → result ≡ Mended.Disk → IsStoodOn self.old.state.kept doubted (D.meaning self.new.disk) self.new.seat }
         ensures any_moment { D.told → (doubted : Kept) → IsStoodOn self.old.state.kept doubted (D.meaning self.old.disk) self.old.seat
@@ -100,6 +101,7 @@ impl<D: Disk, C: Clock> Store<D, C> {
         requires fits { Fits prepared (reserved_of self.old) }
         requires carries { CarriesTo self.old.state.kept prepared.framed (after prepared self.old.state).kept }
         requires ends { EndsWell (after prepared self.old.state).kept }
+        requires left { IsLeftBy self.old.state.kept (after prepared self.old.state).kept }
         ensures made { MakesBy prepared self.old.state result self.new.state }
         ensures within { (reply : AnyReply) → result ≡ Said.Replied reply → IsWithin self.old.seat prepared.framed }
         ensures full { (needed limit : ℕ) → result ≡ Said.Full needed limit → (bytes : List ℕ) × (prepared.framed ≡ Some bytes) × IsFullAt self.old.seat false (length bytes) needed limit }

@@ -8,7 +8,8 @@ ghost use Rattle.au_journal.specs.Journals.{disk_of, seat_of};
 ghost use Rattle.au_journal.specs.Seats.{IsFullAt};
 ghost use Rattle.au_store.specs.Recovery.{RecoversToEither};
 ghost use Rattle.au_store.specs.Steps.{AreFramed, CarriesTo, IsMovedTo, IsWithin, append_cost, growth};
-ghost use Rattle.au_store.specs.Stored.{IsKeptOn, IsStoodOn};
+ghost use Rattle.au_store.specs.Doubts.{IsStoodOn};
+ghost use Rattle.au_store.specs.Stored.{IsKeptOn};
 
 use au_engine::Prepared;
 use au_io::Disk;

@@ -19,6 +19,3 @@ mod stamps;
 
 pub use frame::Frame;
 pub use frames::{one_front, one_reading, read, write, write_framed};
-
-#[cfg(test)]
-mod tests;

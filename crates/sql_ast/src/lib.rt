@@ -8,8 +8,6 @@ mod query;
 mod rows;
 mod statement;
 mod table;
-#[cfg(test)]
-mod tests;
 
 pub use administration::{
     ActionPart, Audit, AuditedUsers, CreatePolicy, Evaluation, Password, PolicyCondition, Whenever,

@@ -6,8 +6,6 @@ mod lexeme;
 mod mark;
 mod run;
 mod scan;
-#[cfg(test)]
-mod tests;
 mod token;
 
 pub use scan::{one_way, tokens};

@@ -10,12 +10,8 @@ mod expression;
 pub mod names;
 mod queries;
 mod row_statements;
-#[cfg(test)]
-mod statement_tests;
 mod stop;
 pub mod tables;
-#[cfg(test)]
-mod tests;
 
 pub use conditions::{condition, one_condition, opens_few};
 pub use row_statements::{one_row_statement, row_statement};

@@ -2,7 +2,7 @@
 
 use crate::case::{Case, said};
 use crate::fault::Fault;
-use crate::many::{with_chain, with_users};
+use crate::many::{stage_users, with_chain, with_users};
 use crate::reading::{change, name, names, statement, tables};
 use crate::world::{World, settle};
 use crate::writing::{counts, number_of};
@@ -37,6 +37,10 @@ pub fn set(alloc: Global, world: &mut World, case: &Case<'_>) -> Result<Option<S
         "many" => {
             let draft = with_users(alloc, &world.grants, case.number(0)?, case.number(1)?)?;
             Ok(Some(finished(alloc, &mut world.grants, draft)?))
+        }
+        "staged" => {
+            stage_users(alloc, &mut world.grants, case.number(0)?, case.number(1)?)?;
+            Ok(Some(counted(alloc, &world.grants)?))
         }
         "carry out" => Ok(Some(carried_out(alloc, world, case)?)),
         _ => changed(alloc, &mut world.grants, case),
@@ -84,7 +88,7 @@ fn left_by(
     if !is_copied(made)? {
         return said(alloc, "another change");
     }
-    if !settle(grants, slice::from_ref(made))? {
+    if !settle(alloc, grants, slice::from_ref(made))? {
         return said(alloc, "over the limit");
     }
     Ok(Some(counted(alloc, grants)?))
@@ -110,7 +114,7 @@ fn carry_out(
     statement: &GrantStatement,
 ) -> Result<Code, Fault> {
     let decided = world.grants.decide(alloc, user, statement, &world.known)?;
-    let staged = world.grants.stage(decided.grants.as_slice())?;
+    let staged = world.grants.stage(alloc, decided.grants.as_slice())?;
     world.grants.settle(staged);
     Ok(decided.code)
 }

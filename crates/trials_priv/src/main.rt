@@ -10,6 +10,7 @@
 //! - `chain|LENGTH|STEP`: a chain of roles from `R00000` on, each granted by a call of its own; the
 //!   number of a role is its place times the step, modulo the length
 //! - `many|COUNT|STEP`: SELECT on A.T for so many users, numbered as a chain
+//! - `staged|COUNT|STEP`: the same, each grant staged and settled by itself, up to the limit
 //! - `after|CHANGE`: what the change would leave
 //! - `decide|USER|GRANT|RIGHTS|GRANTEES`, also `GRANT ADMIN` and `REVOKE`, and
 //!   `decide|USER|GRANT ON|RIGHTS|TABLE|GRANTEES`, also `REVOKE ON`: the code, the system

@@ -2,8 +2,9 @@
 
 use crate::fault::Fault;
 use crate::reading::{numbered, table};
+use au_base::limits::GRANTS;
 use au_base::{Action, Name};
-use au_priv::{GrantChange, GrantDraft, Grants};
+use au_priv::{GrantChange, GrantDraft, Grants, changes_add_one_grant_at_most};
 use std::alloc::Global;
 use std::slice;
 
@@ -41,6 +42,28 @@ pub fn with_users(
         draft = draft.after(slice::from_ref(&change))?;
     }
     Ok(draft)
+}
+
+/// Grants SELECT on A.T to so many users as `with_users` does, each grant staged and settled by
+/// itself, up to the limit.
+pub fn stage_users(alloc: Global, grants: &mut Grants, count: u64, step: u64) -> Result<(), Fault> {
+    for place in 0..count {
+        let grantee = shuffled(alloc, "U", place, step, count)?;
+        let change = GrantChange::ObjectGrant(grantee, table(alloc, "A.T")?, Action::Select);
+        settle_one(alloc, grants, &change)?;
+    }
+    Ok(())
+}
+
+// Stages the change and settles it, where there is room for one grant more.
+fn settle_one(alloc: Global, grants: &mut Grants, change: &GrantChange) -> Result<(), Fault> {
+    if grants.count() >= GRANTS {
+        return Ok(());
+    }
+    changes_add_one_grant_at_most();
+    let staged = grants.stage(alloc, slice::from_ref(change))?;
+    grants.settle(staged);
+    Ok(())
 }
 
 // The name at a place: the letter, and the place times the step, modulo the length.

@@ -29,12 +29,12 @@ impl World {
 
 /// Stages the changes and settles them. Where there would be over 100,000 grants, they stay as they
 /// are; that tells a draft.
-pub fn settle(grants: &mut Grants, changes: &[GrantChange]) -> Result<bool, Fault> {
+pub fn settle(alloc: Global, grants: &mut Grants, changes: &[GrantChange]) -> Result<bool, Fault> {
     let draft = GrantDraft::of(grants.clone()?).after(changes)?;
     if draft.is_over_limit() {
         return Ok(false);
     }
-    let staged = grants.stage(changes)?;
+    let staged = grants.stage(alloc, changes)?;
     grants.settle(staged);
     Ok(true)
 }

@@ -1,13 +1,13 @@
-use Rattle.std.proofs.Common.{refl}
-use Rattle.au_io.specs.Moments.{at_last}
+use Rattle.std.proofs.Common.{Bool, refl, subst, sym}
+use Rattle.au_io.specs.Moments.{LeavesSince, at_last}
 use Rattle.au_journal.specs.Frames.{front}
-use Rattle.au_journal.specs.Images.{TornEnd, In}
+use Rattle.au_journal.specs.Images.{TornEnd, In, MayStandFor}
 use Rattle.au_journal.proofs.Leaving.{from_ok}
 use Rattle.au_journal.proofs.Steps.{bare_leaves, torn_since}
 use Rattle.au_journal.proofs.appending.close_end.Goals as goal
 
 pub returns-then-is_err-clause-doubted : goal.returns-then-is_err-clause-doubted
-returns-then-is_err-clause-doubted g c = λ told bodies body settled.
+returns-then-is_err-clause-doubted g c = λ told bodies others settled.
     let laws = g.met.D.Disk g.world.𝓛 g.world.𝓜 g.world.𝓡 ((λ s x. x), (λ x. x), (λ x. x), λ x. x) in
     let seat = c.args.seat in
     let old = g.D.Disk.meaning c.args.disk.now in
@@ -22,20 +22,22 @@ returns-then-is_err-clause-doubted g c = λ told bodies body settled.
     }
 
 pub returns-then-is_err-clause-any_moment : goal.returns-then-is_err-clause-any_moment
-returns-then-is_err-clause-any_moment g c = λ told bodies body settled.
+returns-then-is_err-clause-any_moment g c = λ told bodies others settled.
     let seat = c.args.seat in
     let old = g.D.Disk.meaning c.args.disk.now in
     let new = g.D.Disk.meaning c.close_gate.new.disk in
-    torn_since seat bodies old new body
-    (c.close_gate.ensures.end_any_moment (front seat.limit bodies) settled.placed.place (bare_leaves seat bodies old c.requires.bare settled))
+    subst (λ (b : Bool). LeavesSince (MayStandFor b seat.limit seat.area bodies seat.area others) old new) (sym c.requires.bare)
+    (torn_since seat bodies seat.area others old new
+    (c.close_gate.ensures.end_any_moment (front seat.limit bodies) settled.placed.place (bare_leaves seat bodies old c.requires.bare settled)))
 
 pub returns-clause-any_moment : goal.returns-clause-any_moment
-returns-clause-any_moment g c = λ told bodies body settled.
+returns-clause-any_moment g c = λ told bodies others settled.
     let seat = c.args.seat in
     let old = g.D.Disk.meaning c.args.disk.now in
     let new = g.D.Disk.meaning c.close_gate.new.disk in
-    torn_since seat bodies old new body
-    (c.close_gate.ensures.end_any_moment (front seat.limit bodies) settled.placed.place (bare_leaves seat bodies old c.requires.bare settled))
+    subst (λ (b : Bool). LeavesSince (MayStandFor b seat.limit seat.area bodies seat.area others) old new) (sym c.requires.bare)
+    (torn_since seat bodies seat.area others old new
+    (c.close_gate.ensures.end_any_moment (front seat.limit bodies) settled.placed.place (bare_leaves seat bodies old c.requires.bare settled)))
 
 pub returns-clause-closed : goal.returns-clause-closed
 returns-clause-closed g c = λ told bodies settled.

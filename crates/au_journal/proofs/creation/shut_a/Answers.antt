@@ -1,34 +1,22 @@
-use Rattle.std.proofs.Common.{◌≡◌, [], ◌∷◌, List, ℕ, ap, ◌∙◌}
+use Rattle.std.proofs.Common.{[], ◌∷◌, ap, ◌∙◌}
 use Rattle.au_io.specs.declared.disk.Area.TheVariants.{A}
-use Rattle.au_io.specs.Areas.{overwritten, On, Torn}
-use Rattle.au_io.specs.Moments.{one_call, step_and_sync, step_synced}
-use Rattle.au_journal.specs.Images.{In}
-use Rattle.au_journal.specs.Creation.{IsBlank}
-use Rattle.au_journal.proofs.Leaving.{step_in, on_ok}
-use Rattle.au_journal.proofs.Created.{shut_torn}
+use Rattle.au_io.specs.Areas.{Areas, area_of, overwritten, Torn}
+use Rattle.au_journal.specs.Creation.{a_selected}
+use Rattle.au_journal.proofs.Leaving.{on_both}
+use Rattle.au_journal.proofs.Created.{only_since, only_after}
 use Rattle.au_journal.proofs.creation.shut_a.Goals as goal
 
-pub returns-in_err-write_at-clause-any_moment : goal.returns-in_err-write_at-clause-any_moment
-returns-in_err-write_at-clause-any_moment g c = λ leaves.
-    one_call (In A (λ (area : List ℕ). area ≡ [])) (In A IsBlank) (On A (Torn 0 1)) (g.D.Disk.meaning c.args.disk.now) (g.D.Disk.meaning c.write_at.new.self) (step_in A (λ (area : List ℕ). area ≡ []) IsBlank IsBlank (Torn 0 1) shut_torn) leaves c.write_at.ensures.crash
-
 pub returns-clause-any_moment : goal.returns-clause-any_moment
-returns-clause-any_moment g c = λ leaves.
-    let laws = g.met.D.Disk g.world.𝓛 g.world.𝓜 g.world.𝓡 ((λ s x. x), (λ x. x), (λ x. x), λ x. x) in
-    let old = g.D.Disk.meaning c.args.disk.now in
-    let mid = g.D.Disk.meaning c.write_at.new.self in
-    let new = g.D.Disk.meaning c.sync.new.self in
-    step_and_sync (In A (λ (area : List ℕ). area ≡ [])) (In A IsBlank) A (On A (Torn 0 1)) old mid new (step_in A (λ (area : List ℕ). area ≡ []) IsBlank IsBlank (Torn 0 1) shut_torn) leaves (laws.counts_now c.write_at.new.self) c.write_at.ensures.crash c.write_at.ensures.time c.sync.ensures.stays
+returns-clause-any_moment g c = λ all only.
+    only_since A (Torn 0 1) (g.D.Disk.meaning c.args.disk.now) (g.D.Disk.meaning c.write_synced.new.disk) all only c.write_synced.ensures.crash
 
 pub returns-clause-done : goal.returns-clause-done
-returns-clause-done g c = λ told leaves.
+returns-clause-done g c = λ told was only.
     let laws = g.met.D.Disk g.world.𝓛 g.world.𝓜 g.world.𝓡 ((λ s x. x), (λ x. x), (λ x. x), λ x. x) in
     let old = g.D.Disk.meaning c.args.disk.now in
-    let mid = g.D.Disk.meaning c.write_at.new.self in
-    let new = g.D.Disk.meaning c.sync.new.self in
-    let reads = leaves old.reads (laws.reads_is_image c.args.disk.now told) in
-    on_ok c.sync.result _ _ (λ durable. λ image is.
-    let both = step_synced (In A (λ (area : List ℕ). area ≡ [])) (In A IsBlank) A (On A (Torn 0 1)) old mid new (step_in A (λ (area : List ℕ). area ≡ []) IsBlank IsBlank (Torn 0 1) shut_torn) leaves (laws.counts_now c.write_at.new.self) c.write_at.ensures.crash c.write_at.ensures.time c.sync.ensures.stays
-    (overwritten old.reads.a 0 (0 ∷ [])) (c.in_ok-write_at.ensures.written told) (laws.counts_now c.sync.new.self) durable image is in
-    record { selected = both.0.selected; here = both.1 ∙ ap (λ (l : List ℕ). overwritten l 0 (0 ∷ [])) reads.here })
-    c.sync.ensures.durable
+    let new = g.D.Disk.meaning c.write_synced.new.disk in
+    let all = a_selected was in
+    on_both c.write_synced.result _ _ _ (λ safe reads.
+    only_after A (Torn 0 1) old new all only c.write_synced.ensures.crash (overwritten all.a 0 (0 ∷ [])) (laws.counts_now c.write_synced.new.disk) c.write_synced.ensures.time
+    (ap (area_of A) reads ∙ ap (λ (r : Areas). overwritten r.a 0 (0 ∷ [])) (only old.reads (laws.reads_is_image c.args.disk.now told))) safe)
+    c.write_synced.ensures.safe (c.write_synced.ensures.reads told)

@@ -11,5 +11,5 @@ after_change-requires c = c.loop-change.invariant.1
 pub loop-change-preserved : goal.loop-change-preserved
 loop-change-preserved c = (
   one_more _ _ _ _ _ _ c.loop-change-test.true c.change-item.is c.loop-change.invariant.0 c.in_ok-after.ensures,
-  subst (λ (grants : Grants). AreInOrder grants) (sym c.in_ok-after.ensures) (applied_in_order c.loop-change.after c.change-item.result c.loop-change.invariant.1),
+  subst (λ (grants : Grants). AreInOrder grants) (sym c.in_ok-after.ensures) (applied_in_order _ c.change-item.result c.loop-change.invariant.1),
 )

@@ -1,6 +1,6 @@
 use Rattle.std.proofs.Common.{◌≡◌, ◌≤◌, ◌<◌, false, true, refl, subst, arith}
 use Rattle.au_priv.specs.Rights.{IsRoleGranted, Name}
-use Rattle.au_priv.specs.Search.{grantee_at, role_at}
+use Rattle.au_priv.specs.descent.Search.{grantee_at, role_at}
 use Rattle.au_priv.proofs.Holders.{none_more, not_both}
 use Rattle.au_priv.proofs.Reached.{between_granted, granted_between}
 use Rattle.au_priv.proofs.circle.is_granted_from.Goals as goal

@@ -1,5 +1,5 @@
 use Rattle.std.proofs.Common.{◌≡◌, ℕ, ◌≤◌, ◌<◌}
-use Rattle.au_priv.specs.Search.{role_at}
+use Rattle.au_priv.specs.descent.Search.{role_at}
 use Rattle.au_priv.proofs.circle.is_granted_from.Given as goal
 
 abbrev pub invariant-loop-at : goal.invariant-loop-at

@@ -1,6 +1,6 @@
 use Rattle.std.proofs.Common.{◌≡◌, false, true, refl, arith}
 use Rattle.au_priv.specs.Rights.{IsRoleGranted}
-use Rattle.au_priv.specs.Search.{grantee_at, queued_at}
+use Rattle.au_priv.specs.descent.Search.{grantee_at, queued_at}
 use Rattle.au_priv.proofs.Holders.{held_nowhere, none_more, not_both}
 use Rattle.au_priv.proofs.Reached.{queued_held}
 use Rattle.au_priv.proofs.circle.is_granted_to_some.Goals as goal

@@ -1,6 +1,6 @@
 use Rattle.std.proofs.Common.{ℕ, ◌≤◌, ◌<◌}
 use Rattle.au_priv.specs.Rights.{IsRoleGranted}
-use Rattle.au_priv.specs.Search.{grantee_at, queued_at}
+use Rattle.au_priv.specs.descent.Search.{grantee_at, queued_at}
 use Rattle.au_priv.proofs.circle.is_granted_to_some.Given as goal
 
 abbrev pub invariant-loop-k : goal.invariant-loop-k

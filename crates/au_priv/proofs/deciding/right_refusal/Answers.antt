@@ -2,7 +2,7 @@ use Rattle.std.proofs.Common.{◌↔◌, ◌≡◌, Bool, inl, inr, refl, sym, �
 use Rattle.au_base.specs.declared.grant.Right.{Right}
 use Rattle.au_base.specs.declared.grant.Right.TheVariants.{Privilege as SystemRight, Role}
 use Rattle.au_priv.specs.declared.grants.Grants.{Grants}
-use Rattle.au_priv.specs.Asking.{AreAnyHeld, any_of}
+use Rattle.au_priv.specs.descent.Asking.{AreAnyHeld, any_of}
 use Rattle.au_priv.specs.Deciding.{any_right}
 use Rattle.au_priv.specs.Rights.{HoldsPrivilege, Name}
 use Rattle.au_priv.proofs.Answers.{not_at_false}

@@ -1,7 +1,7 @@
 use Rattle.std.proofs.Common.{◌≡◌, false, true, sym, subst, arith}
 use Rattle.au_priv.specs.Holding.{IsGranted}
 use Rattle.au_priv.specs.Rights.{Name}
-use Rattle.au_priv.specs.Search.{role_at}
+use Rattle.au_priv.specs.descent.Search.{role_at}
 use Rattle.au_priv.proofs.Holders.{none_behind, none_more, not_both}
 use Rattle.au_priv.proofs.holding.leads_to.Goals as goal
 

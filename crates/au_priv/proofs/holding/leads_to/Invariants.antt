@@ -1,6 +1,6 @@
 use Rattle.std.proofs.Common.{ℕ, ◌≤◌, ◌<◌}
 use Rattle.au_priv.specs.Holding.{IsGranted}
-use Rattle.au_priv.specs.Search.{role_at}
+use Rattle.au_priv.specs.descent.Search.{role_at}
 use Rattle.au_priv.proofs.holding.leads_to.Given as goal
 
 abbrev pub invariant-loop-at : goal.invariant-loop-at

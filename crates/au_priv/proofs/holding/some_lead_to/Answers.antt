@@ -1,5 +1,5 @@
 use Rattle.std.proofs.Common.{◌≡◌, false, true, refl, arith}
-use Rattle.au_priv.specs.Search.{IsGrantedBehind, grantee_at, queued_at}
+use Rattle.au_priv.specs.descent.Search.{IsGrantedBehind, grantee_at, queued_at}
 use Rattle.au_priv.proofs.Holders.{found_by_role, none_by_role, none_more, not_both}
 use Rattle.au_priv.proofs.holding.some_lead_to.Goals as goal
 

@@ -1,5 +1,5 @@
 use Rattle.std.proofs.Common.{ℕ, ◌≤◌, ◌<◌}
-use Rattle.au_priv.specs.Search.{IsGrantedBehind, grantee_at, queued_at}
+use Rattle.au_priv.specs.descent.Search.{IsGrantedBehind, grantee_at, queued_at}
 use Rattle.au_priv.proofs.holding.some_lead_to.Given as goal
 
 abbrev pub invariant-loop-k : goal.invariant-loop-k

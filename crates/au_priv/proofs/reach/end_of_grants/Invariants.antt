@@ -1,5 +1,5 @@
 use Rattle.std.proofs.Common.{◌≡◌, ℕ, ◌<◌, ◌≤◌}
-use Rattle.au_priv.specs.Search.{grantee_at}
+use Rattle.au_priv.specs.descent.Search.{grantee_at}
 use Rattle.au_priv.proofs.reach.end_of_grants.Given as goal
 
 abbrev pub invariant-loop-at : goal.invariant-loop-at

@@ -1,6 +1,6 @@
 use Rattle.std.proofs.Common.{◌≤◌, ◌∙◌, sym, subst, arith}
 use Rattle.au_priv.specs.Rights.{IsRoleGranted, Name}
-use Rattle.au_priv.specs.Search.{grantee_at}
+use Rattle.au_priv.specs.descent.Search.{grantee_at}
 use Rattle.au_priv.proofs.Reached.{all_seen, between_granted, goes_on, one_more_seen}
 use Rattle.au_priv.proofs.reach.visit_granted.Goals as goal
 

@@ -1,5 +1,5 @@
 use Rattle.au_priv.specs.Rights.{IsRoleGranted}
-use Rattle.au_priv.specs.Search.{AreSeen, WentOn, grantee_at}
+use Rattle.au_priv.specs.descent.Search.{AreSeen, WentOn, grantee_at}
 use Rattle.au_priv.proofs.reach.visit_granted.Given as goal
 
 abbrev pub invariant-loop-at : goal.invariant-loop-at

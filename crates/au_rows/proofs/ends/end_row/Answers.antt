@@ -24,9 +24,9 @@ returns-in-Some-clause-row c =
     subst (λ (t : ℕ). P t c.args.change.number.0) (found-table c.args.change.table c.args.change.number c.args.places.now.items c.in-Some.place there)
     (subst (λ (n : ℕ). P c.in-Some.place.table n) (found-number c.args.change.table c.args.change.number c.args.places.now.items c.in-Some.place there) c.end_if_own.ensures.row)
 
-pub returns-in_default-clause-row : goal.returns-in_default-clause-row
-returns-in_default-clause-row c =
+pub returns-in-None-clause-row : goal.returns-in-None-clause-row
+returns-in-None-clause-row c =
     let none : place_in c.args.change.table c.args.change.number c.args.places.now.items ≡ None =
-    ap (place_in c.args.change.table c.args.change.number) (sym c.deref.ensures.value) ∙ sym c.in_default.ensures in
+    ap (place_in c.args.change.table c.args.change.number) (sym c.deref.ensures.value) ∙ sym c.in-None.ensures in
     kept-row _ c.args.places.now.items c.args.change.table c.args.change.number c.args.ending c.args.by c.requires.order c.requires.whole
     (ap (λ (o : Option Place). is_by c.args.by (option_and_then place_owner o)) none)

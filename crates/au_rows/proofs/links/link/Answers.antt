@@ -1,20 +1,24 @@
-use Rattle.std.proofs.Common.{◌≡◌, ◌∙◌, ℕ, None, Some, ap, sym, nat_eq, cond, Option, arith}
+use Rattle.std.proofs.Common.{◌≡◌, ◌∙◌, ℕ, None, Some, ap, sym, nat_eq, cond, get_or, List, Option, arith}
 use Rattle.std.proofs.lemmas.List.{get_or_read}
-use Rattle.indexmap.specs.IndexMap.{get}
 use Rattle.au_rows.specs.declared.entry.Entry.{Entry}
-use Rattle.au_rows.specs.Links.{client_of, top_in}
-use Rattle.au_rows.proofs.LinkLemmas.{linked-more, linked-past, live-again, set-here, set-other}
+use Rattle.au_rows.specs.Links.{lane_in}
+use Rattle.au_rows.proofs.LinkLemmas.{linked-more, linked-past, live-again, set-here, set-other, top-set}
 use Rattle.au_rows.proofs.links.link.Goals as goal
 
 pub returns-in-Some-clause-linked : goal.returns-in-Some-clause-linked
 returns-in-Some-clause-linked c =
     let old = c.args.entries.now.items in
-    let below : c.top_of-below.result ≡ top_in (get nat_eq c.args.tops.now (client_of c.in-Some.entry)) =
-    c.top_of-below.ensures ∙ ap (λ (client : ℕ). top_in (get nat_eq c.args.tops.now client)) c.client_of-client.ensures in
-    linked-more old _ (λ client. top_in (get nat_eq c.args.tops.now client)) (λ client. top_in (get nat_eq c.set_top.new.tops client)) c.args.at c.in-Some.entry.change
+    let tops = c.args.tops.now.items in
+    let lane = c.lane_of-lane.ensures.lane in
+    let below : c.top_of-below.result ≡ get_or tops (lane_in c.in-Some.entry.change.by) None =
+    c.top_of-below.ensures ∙ (ap (λ (xs : List (Option ℕ)). get_or xs c.lane_of-lane.result None) c.deref.ensures.value ∙ ap (λ (l : ℕ). get_or tops l None) lane) in
+    linked-more old _ (λ l. get_or tops l None) (λ l. get_or c.set_top.new.tops.items l None) c.args.at c.in-Some.entry.change
     (set-here old c.args.at _ (omega arith) ∙ ap (λ (o : Option ℕ). let entry : Entry = record { change = c.in-Some.entry.change; below = o } in Some entry) below)
     (set-other old c.args.at _)
-    (λ client. c.set_top.ensures.tops client ∙ ap (λ (x : ℕ). cond (nat_eq x client) (Some c.args.at) (top_in (get nat_eq c.args.tops.now client))) c.client_of-client.ensures)
+    (λ other.
+    ap (λ (xs : List (Option ℕ)). get_or xs other None) c.set_top.ensures.items
+    ∙ (top-set tops c.lane_of-lane.result (Some c.args.at) other (omega arith)
+    ∙ ap (λ (x : ℕ). cond (nat_eq x other) (Some c.args.at) (get_or tops other None)) lane))
     c.requires.linked
 
 pub returns-in-Some-clause-live : goal.returns-in-Some-clause-live
@@ -24,5 +28,5 @@ returns-in-Some-clause-live c =
 
 pub returns-in_default-clause-linked : goal.returns-in_default-clause-linked
 returns-in_default-clause-linked c =
-    linked-past c.args.entries.now.items (λ client. top_in (get nat_eq c.args.tops.now client)) c.args.at
+    linked-past c.args.entries.now.items (λ l. get_or c.args.tops.now.items l None) c.args.at
     (sym (get_or_read c.args.entries.now.items _ _ (omega arith) c.index.ensures None) ∙ c.in_default.is) c.requires.linked

@@ -5,11 +5,5 @@ use Rattle.au_rows.proofs.links.make_room.Goals as goal
 pub returns-then-has_room-clause-ok : goal.returns-then-has_room-clause-ok
 returns-then-has_room-clause-ok c =
     let most = live-length c.args.entries.now.items in
-    let all = c.has_room.ensures.entries c.if-has_room.true in
-    omega arith
-
-pub returns-then-has_room-clause-tops_ok : goal.returns-then-has_room-clause-tops_ok
-returns-then-has_room-clause-tops_ok c =
-    let most = live-length c.args.entries.now.items in
-    let all = c.has_room.ensures.tops c.if-has_room.true in
+    let all = c.has_room.ensures c.if-has_room.true in
     omega arith

@@ -1,5 +1,6 @@
-use Rattle.std.proofs.Common.{length, sym, arith}
+use Rattle.std.proofs.Common.{[], ◌∷◌, ◌++◌, length, sym, ap, arith}
 use Rattle.std.proofs.lemmas.Bool.{false≢true}
+use Rattle.au_journal.specs.declared.seat.Seat.{Seat}
 use Rattle.au_journal.specs.Journals.{disk_of, seat_of}
 use Rattle.rec_codec.specs.Frames.{spelled}
 use Rattle.au_store.specs.Recovery.{ReplayedTo}
@@ -26,13 +27,18 @@ returns-in-Done-clause-kept g c = λ told kept next read k.
     (c.append.ensures.appended told read.bodies body (is_framed bytes k.0 k.1) read.settled c.in-Done.is)
     (replayed_push read.bodies kept next body read.so (carried_by kept next k.0 k.2))
 
+pub returns-in-Done-clause-moved : goal.returns-in-Done-clause-moved
+returns-in-Done-clause-moved g c =
+    let is = c.append.ensures.advances c.in-Done.is in
+    record { used = ap (λ (s : Seat). s.used) is; area = ap (λ (s : Seat). s.area) is; limit = ap (λ (s : Seat). s.limit) is }
+
 pub returns-in-Done-clause-any_moment : goal.returns-in-Done-clause-any_moment
 returns-in-Done-clause-any_moment g c = λ told kept next read k gated.
     let old = c.args.journal.now in
     let new = c.append.new.self in
     let bytes = c.args.framed.now in
     let body = spelled k.0 in
-    either_since (ReplayedTo kept) (ReplayedTo next) (seat_of old).area (seat_of old).bare (seat_of old).limit read.bodies body
+    either_since (ReplayedTo kept) (ReplayedTo next) (seat_of old) read.bodies (seat_of old).area (read.bodies ++ body ∷ [])
     (g.D.Disk.meaning (disk_of old)) (g.D.Disk.meaning (disk_of new)) gated read.so (replayed_push read.bodies kept next body read.so (carried_by kept next k.0 k.2))
     (c.append.ensures.any_moment told read.bodies body (is_framed bytes k.0 k.1) read.settled)
 
@@ -42,7 +48,7 @@ returns-in-Disk-clause-any_moment g c = λ told kept next read k gated.
     let new = c.append.new.self in
     let bytes = c.args.framed.now in
     let body = spelled k.0 in
-    either_since (ReplayedTo kept) (ReplayedTo next) (seat_of old).area (seat_of old).bare (seat_of old).limit read.bodies body
+    either_since (ReplayedTo kept) (ReplayedTo next) (seat_of old) read.bodies (seat_of old).area (read.bodies ++ body ∷ [])
     (g.D.Disk.meaning (disk_of old)) (g.D.Disk.meaning (disk_of new)) gated read.so (replayed_push read.bodies kept next body read.so (carried_by kept next k.0 k.2))
     (c.append.ensures.any_moment told read.bodies body (is_framed bytes k.0 k.1) read.settled)
 

@@ -1,10 +1,10 @@
-use Rattle.std.proofs.Common.{◌≡◌, inr, length, refl, sym, ◌∙◌}
+use Rattle.std.proofs.Common.{◌≡◌, inr, [], ◌∷◌, ◌++◌, length, refl, sym, ◌∙◌}
 use Rattle.au_journal.specs.declared.appended.Appended.TheVariants as answer
 use Rattle.au_journal.specs.Journals.{disk_of, seat_of}
 use Rattle.au_journal.specs.Seats.{needed_of}
 use Rattle.rec_codec.specs.Frames.{spelled}
 use Rattle.au_store.specs.Recovery.{ReplayedTo}
-use Rattle.au_store.proofs.Frames.{carried, carried_by, is_framed, replayed_push, spelled_some, within_limit}
+use Rattle.au_store.proofs.Frames.{carried, carried_by, is_framed, replayed_push, within_limit}
 use Rattle.au_store.proofs.Keeping.{appended_kept, either_since, left_in_doubt}
 use Rattle.au_store.proofs.writing.write.Goals as goal
 
@@ -30,9 +30,9 @@ returns-in-Some-clause-doubted g c = λ told kept next was carries failed.
     let m = g.D.Disk.meaning (disk_of old) in
     let n = g.D.Disk.meaning (disk_of new) in
     let then = replayed_push was.bodies kept next body was.so (carried_by kept next k.0 k.2) in
-    inr (left_in_doubt (ReplayedTo kept) (ReplayedTo next) m n (seat_of new) was.bodies body (laws.counts_now (disk_of new)) c.append.ensures.time
-    (c.append.ensures.doubted told was.bodies body (is_framed bytes k.0 k.1) was.settled failed) (spelled_some k.0) was.so then
-    (either_since (ReplayedTo kept) (ReplayedTo next) (seat_of old).area (seat_of old).bare (seat_of old).limit was.bodies body m n c.requires.gated was.so then
+    inr (left_in_doubt (ReplayedTo kept) (ReplayedTo next) m n (seat_of new) was.bodies (was.bodies ++ body ∷ []) (laws.counts_now (disk_of new)) c.append.ensures.time
+    (c.append.ensures.doubted told was.bodies body (is_framed bytes k.0 k.1) was.settled failed) was.so then
+    (either_since (ReplayedTo kept) (ReplayedTo next) (seat_of old) was.bodies (seat_of old).area (was.bodies ++ body ∷ []) m n c.requires.gated was.so then
     (c.append.ensures.any_moment told was.bodies body (is_framed bytes k.0 k.1) was.settled)))
 
 pub returns-in-Some-clause-any_moment : goal.returns-in-Some-clause-any_moment
@@ -42,7 +42,7 @@ returns-in-Some-clause-any_moment g c = λ told kept next was carries.
     let bytes = c.in-Some.framed.now in
     let k = carried kept next c.args.prepared.now.framed bytes c.in-Some.ensures carries in
     let body = spelled k.0 in
-    either_since (ReplayedTo kept) (ReplayedTo next) (seat_of old).area (seat_of old).bare (seat_of old).limit was.bodies body
+    either_since (ReplayedTo kept) (ReplayedTo next) (seat_of old) was.bodies (seat_of old).area (was.bodies ++ body ∷ [])
     (g.D.Disk.meaning (disk_of old)) (g.D.Disk.meaning (disk_of new)) c.requires.gated was.so (replayed_push was.bodies kept next body was.so (carried_by kept next k.0 k.2))
     (c.append.ensures.any_moment told was.bodies body (is_framed bytes k.0 k.1) was.settled)
 

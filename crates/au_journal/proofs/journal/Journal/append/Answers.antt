@@ -1,6 +1,7 @@
+use Rattle.std.proofs.Common.{[], ◌∷◌, ◌++◌}
 use Rattle.au_io.specs.Moments.{no_call}
-use Rattle.au_journal.specs.Images.{In, MayStandFor}
 use Rattle.au_journal.specs.Journals.{disk_of, seat_of}
+use Rattle.au_journal.specs.Seats.{MayLeave}
 use Rattle.au_journal.proofs.Steps.{settled_leaves}
 use Rattle.au_journal.proofs.journal.Journal.append.Goals as goal
 
@@ -9,4 +10,5 @@ returns-then-needed-limit-clause-any_moment g c = λ told bodies body is settled
     let laws = g.met.D.Disk g.world.𝓛 g.world.𝓜 g.world.𝓡 ((λ s x. x), (λ x. x), (λ x. x), λ x. x) in
     let seat = seat_of c.args.self.now in
     let m = g.D.Disk.meaning (disk_of c.args.self.now) in
-    no_call (In seat.area (MayStandFor seat.bare seat.limit bodies body)) m (laws.only_now (disk_of c.args.self.now)) (settled_leaves seat bodies m body settled)
+    let others = bodies ++ body ∷ [] in
+    no_call (MayLeave seat bodies seat.area others) m (laws.only_now (disk_of c.args.self.now)) (settled_leaves seat bodies seat.area others m settled)

@@ -44,6 +44,7 @@ invariant_of-self c =
           (mark-open c.self.inside.versions.slots c.number_of-table.result c.args.row c.args.by c.self.inside.places.items c.self.inside.unsettled.listed c.self.invariant.0 seen_here free_here tables c.self.invariant.1) c.self.invariant.1,
       omega arith,
       c.self.invariant.3,
+      c.self.invariant.4,
     )
 
 pub returns-clause-rest : goal.returns-clause-rest

@@ -29,6 +29,7 @@ invariant_of-self c =
           (ap (λ (t : ℕ). is_some (get_or tables t None)) is ∙ open-there c.args.table.now tables open_table) c.self.invariant.1,
       omega arith,
       indexed-put tables c.self.inside.versions.slots c.insert-slot.new.self.slots c.insert-slot.result _ puts hash c.self.invariant.3,
+      c.self.invariant.4,
     )
 
 pub returns-clause-rest : goal.returns-clause-rest

@@ -1,9 +1,9 @@
-use Rattle.std.proofs.Common.{◌≡◌, inl, inr, List, ℕ, Some, refl, sym, ap, subst, arith}
+use Rattle.std.proofs.Common.{◌≡◌, inl, inr, List, ℕ, length, Some, refl, sym, ap, subst, arith}
 use Rattle.au_journal.specs.Journals.{disk_of, seat_of}
 use Rattle.au_engine.specs.State.{State, start}
 use Rattle.rec_codec.specs.Frames.{framed}
 use Rattle.au_engine.specs.Returning.{start_frame}
-use Rattle.au_store.specs.Steps.{CarriesTo}
+use Rattle.au_store.specs.Steps.{CarriesTo, IsMovedTo}
 use Rattle.au_store.specs.Stored.{IsKeptOn, IsSound}
 use Rattle.au_store.proofs.Begun.{no_cost, no_time, start_cost, unstarted}
 use Rattle.au_store.proofs.Sound.{settled_sound}
@@ -97,6 +97,12 @@ invariant_of-result g c =
 
 pub returns-in-Ok-write_start-clause-begun : goal.returns-in-Ok-write_start-clause-begun
 returns-in-Ok-write_start-clause-begun g c = (omega (arith, c.if-instance-ge-INSTANCES.false, c.instance.ensures), c.in-Ok.ensures.state)
+
+pub returns-in-Ok-write_start-clause-moved : goal.returns-in-Ok-write_start-clause-moved
+returns-in-Ok-write_start-clause-moved g c =
+    let kept = c.args.engine.state.kept in
+    let is : c.deref.result.now ≡ framed (start_frame kept c.now-reading.result) = cc (c.in-Ok.ensures.framed) in
+    subst (λ (b : List ℕ). IsMovedTo (length b) (seat_of c.args.journal) (seat_of c.write_start.new.journal)) is c.in-Ok-write_start.ensures.moved
 
 pub returns-in-Ok-write_start-clause-kept : goal.returns-in-Ok-write_start-clause-kept
 returns-in-Ok-write_start-clause-kept g c = λ told.

@@ -13,10 +13,10 @@ format-requires-clause-framed g c = λ _ _.
     (spelled f, is_framed c.deref.result.now f is)
 
 pub returns-in-Done-clause-done : goal.returns-in-Done-clause-done
-returns-in-Done-clause-done g c = λ told others done all image.
+returns-in-Done-clause-done g c = λ told done all image.
     let f = image_of (opening c.args.sys_password.now) in
     let is : c.deref.result.now ≡ framed f = cc (c.in-Ok.ensures) in
-    made_new c.args.limit c.args.sys_password.now all (c.format.ensures.done told (spelled f) (is_framed c.deref.result.now f is) others c.in-Done.is all image)
+    made_new c.args.limit c.args.sys_password.now all (c.format.ensures.done told (spelled f) (is_framed c.deref.result.now f is) c.in-Done.is all image)
 
 pub returns-in-Done-clause-any_moment : goal.returns-in-Done-clause-any_moment
 returns-in-Done-clause-any_moment g c = λ told others.

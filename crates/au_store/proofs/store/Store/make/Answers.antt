@@ -25,7 +25,7 @@ write-requires-clause-stands g c =
     let m = c.self.inside.engine.state in
     let sound = c.self.invariant in
     let settled = rw (← c.self.view_is) at c.requires.settled in
-    λ _ _ told. (m.kept, (settled_stands (ReplayedTo m.kept) (ReplayedTo (sound.stands told).0) j.seat j.seat sound.gated (g.D.Disk.meaning j.disk) settled (sound.stands told).1))
+    λ _ _ told. (m.kept, (settled_stands (ReplayedTo m.kept) (ReplayedTo (sound.stands told).doubted) j.seat j.seat sound.gated (g.D.Disk.meaning j.disk) settled (sound.stands told).stood))
 
 pub invariant_of-self : goal.invariant_of-self
 invariant_of-self g c =
@@ -37,7 +37,7 @@ invariant_of-self g c =
     let next = (after c.args.prepared m).kept in
     subst (λ (s : State). IsSound g.D.Disk.told (g.D.Disk.meaning c.write.new.journal.disk) c.write.new.journal.seat s.kept) (sym c.apply.ensures.next)
     (settled_sound g.D.Disk.told (g.D.Disk.meaning c.write.new.journal.disk) c.write.new.journal.seat next c.write.ensures.ended c.write.ensures.gated (c.write.ensures.settled c.in-Done.is) (rw (← c.self.view_is) at c.requires.ends)
-    (λ told. c.write.ensures.kept told m.kept next (settled_stands (ReplayedTo m.kept) (ReplayedTo (sound.stands told).0) j.seat j.seat sound.gated (g.D.Disk.meaning j.disk) settled (sound.stands told).1) carries c.in-Done.is))
+    (λ told. c.write.ensures.kept told m.kept next (settled_stands (ReplayedTo m.kept) (ReplayedTo (sound.stands told).doubted) j.seat j.seat sound.gated (g.D.Disk.meaning j.disk) settled (sound.stands told).stood) carries c.in-Done.is))
 
 pub invariant_of-self-in-Disk : goal.invariant_of-self-in-Disk
 invariant_of-self-in-Disk g c =
@@ -47,7 +47,8 @@ invariant_of-self-in-Disk g c =
     let settled = rw (← c.self.view_is) at c.requires.settled in
     let carries = rw (← c.self.view_is) at c.requires.carries in
     let next = (after c.args.prepared m).kept in
-    record { ended = c.write.ensures.ended; gated = c.write.ensures.gated; ends = sound.ends; stands = λ told. (next, c.write.ensures.doubted told m.kept next (settled_stands (ReplayedTo m.kept) (ReplayedTo (sound.stands told).0) j.seat j.seat sound.gated (g.D.Disk.meaning j.disk) settled (sound.stands told).1) carries c.in-Disk.is) }
+    let left = rw (← c.self.view_is) at c.requires.left in
+    record { ended = c.write.ensures.ended; gated = c.write.ensures.gated; ends = sound.ends; stands = λ told. record { doubted = next; left = λ unsettled. left; stood = c.write.ensures.doubted told m.kept next (settled_stands (ReplayedTo m.kept) (ReplayedTo (sound.stands told).doubted) j.seat j.seat sound.gated (g.D.Disk.meaning j.disk) settled (sound.stands told).stood) carries c.in-Disk.is } }
 
 pub returns-in-Done-clause-within : goal.returns-in-Done-clause-within
 returns-in-Done-clause-within g c =
@@ -66,7 +67,7 @@ returns-in-Done-clause-kept g c =
     let carries = rw (← c.self.view_is) at c.requires.carries in
     let next = (after c.args.prepared m).kept in
     λ told no_fault. subst (λ (s : State). IsKeptOn s.kept (g.D.Disk.meaning c.write.new.journal.disk) c.write.new.journal.seat) (sym c.apply.ensures.next)
-    (c.write.ensures.kept told m.kept next (settled_stands (ReplayedTo m.kept) (ReplayedTo (sound.stands told).0) j.seat j.seat sound.gated (g.D.Disk.meaning j.disk) settled (sound.stands told).1) carries c.in-Done.is)
+    (c.write.ensures.kept told m.kept next (settled_stands (ReplayedTo m.kept) (ReplayedTo (sound.stands told).doubted) j.seat j.seat sound.gated (g.D.Disk.meaning j.disk) settled (sound.stands told).stood) carries c.in-Done.is)
 
 pub returns-in-Done-clause-any_moment : goal.returns-in-Done-clause-any_moment
 returns-in-Done-clause-any_moment g c =
@@ -76,7 +77,7 @@ returns-in-Done-clause-any_moment g c =
     let settled = rw (← c.self.view_is) at c.requires.settled in
     let carries = rw (← c.self.view_is) at c.requires.carries in
     let next = (after c.args.prepared m).kept in
-    rw (← c.self.view_is) (λ told. c.write.ensures.any_moment told m.kept next (settled_stands (ReplayedTo m.kept) (ReplayedTo (sound.stands told).0) j.seat j.seat sound.gated (g.D.Disk.meaning j.disk) settled (sound.stands told).1) carries)
+    rw (← c.self.view_is) (λ told. c.write.ensures.any_moment told m.kept next (settled_stands (ReplayedTo m.kept) (ReplayedTo (sound.stands told).doubted) j.seat j.seat sound.gated (g.D.Disk.meaning j.disk) settled (sound.stands told).stood) carries)
 
 pub returns-in-Disk-clause-any_moment : goal.returns-in-Disk-clause-any_moment
 returns-in-Disk-clause-any_moment g c =
@@ -86,7 +87,7 @@ returns-in-Disk-clause-any_moment g c =
     let settled = rw (← c.self.view_is) at c.requires.settled in
     let carries = rw (← c.self.view_is) at c.requires.carries in
     let next = (after c.args.prepared m).kept in
-    rw (← c.self.view_is) (λ told. c.write.ensures.any_moment told m.kept next (settled_stands (ReplayedTo m.kept) (ReplayedTo (sound.stands told).0) j.seat j.seat sound.gated (g.D.Disk.meaning j.disk) settled (sound.stands told).1) carries)
+    rw (← c.self.view_is) (λ told. c.write.ensures.any_moment told m.kept next (settled_stands (ReplayedTo m.kept) (ReplayedTo (sound.stands told).doubted) j.seat j.seat sound.gated (g.D.Disk.meaning j.disk) settled (sound.stands told).stood) carries)
 
 pub returns-in-Full-clause-any_moment : goal.returns-in-Full-clause-any_moment
 returns-in-Full-clause-any_moment g c =
@@ -96,7 +97,7 @@ returns-in-Full-clause-any_moment g c =
     let settled = rw (← c.self.view_is) at c.requires.settled in
     let carries = rw (← c.self.view_is) at c.requires.carries in
     let next = (after c.args.prepared m).kept in
-    rw (← c.self.view_is) (λ told. c.write.ensures.any_moment told m.kept next (settled_stands (ReplayedTo m.kept) (ReplayedTo (sound.stands told).0) j.seat j.seat sound.gated (g.D.Disk.meaning j.disk) settled (sound.stands told).1) carries)
+    rw (← c.self.view_is) (λ told. c.write.ensures.any_moment told m.kept next (settled_stands (ReplayedTo m.kept) (ReplayedTo (sound.stands told).doubted) j.seat j.seat sound.gated (g.D.Disk.meaning j.disk) settled (sound.stands told).stood) carries)
 
 pub returns-in-Disk-clause-doubted : goal.returns-in-Disk-clause-doubted
 returns-in-Disk-clause-doubted g c =
@@ -106,7 +107,7 @@ returns-in-Disk-clause-doubted g c =
     let settled = rw (← c.self.view_is) at c.requires.settled in
     let carries = rw (← c.self.view_is) at c.requires.carries in
     let next = (after c.args.prepared m).kept in
-    rw (← c.self.view_is) (λ told is. c.write.ensures.doubted told m.kept next (settled_stands (ReplayedTo m.kept) (ReplayedTo (sound.stands told).0) j.seat j.seat sound.gated (g.D.Disk.meaning j.disk) settled (sound.stands told).1) carries c.in-Disk.is)
+    rw (← c.self.view_is) (λ told is. c.write.ensures.doubted told m.kept next (settled_stands (ReplayedTo m.kept) (ReplayedTo (sound.stands told).doubted) j.seat j.seat sound.gated (g.D.Disk.meaning j.disk) settled (sound.stands told).stood) carries c.in-Disk.is)
 
 pub returns-in-Full-clause-full : goal.returns-in-Full-clause-full
 returns-in-Full-clause-full g c =
@@ -122,4 +123,4 @@ returns-in-Full-clause-kept g c =
     let m = c.self.inside.engine.state in
     let sound = c.self.invariant in
     let settled = rw (← c.self.view_is) at c.requires.settled in
-    λ told no_fault. rw (c.write.ensures.untouched c.in-Full.needed c.in-Full.limit c.in-Full.is) (settled_stands (ReplayedTo m.kept) (ReplayedTo (sound.stands told).0) j.seat j.seat sound.gated (g.D.Disk.meaning j.disk) settled (sound.stands told).1)
+    λ told no_fault. rw (c.write.ensures.untouched c.in-Full.needed c.in-Full.limit c.in-Full.is) (settled_stands (ReplayedTo m.kept) (ReplayedTo (sound.stands told).doubted) j.seat j.seat sound.gated (g.D.Disk.meaning j.disk) settled (sound.stands told).stood)

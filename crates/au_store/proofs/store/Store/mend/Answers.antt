@@ -1,5 +1,6 @@
+use Rattle.std.proofs.Common.{arith}
 use Rattle.au_store.specs.Recovery.{ReplayedTo}
-use Rattle.au_store.proofs.Keeping.{mended_kept, mending_since, still_stands}
+use Rattle.au_store.proofs.Keeping.{mend_writes, mended_kept, mending_since, still_stands}
 use Rattle.au_store.proofs.Sound.{mend_sound}
 use Rattle.au_store.proofs.store.Store.mend.Goals as goal
 
@@ -11,12 +12,12 @@ invariant_of-self g c =
     let kept = c.self.inside.engine.state.kept in
     let sound = c.self.invariant in
     mend_sound g.D.Disk.told (g.D.Disk.meaning j.disk) (g.D.Disk.meaning new.disk) j.seat new.seat kept c.mend.result sound c.mend.ensures.mends c.mend.ensures.rests
-    (λ told done. mended_kept (ReplayedTo kept) (ReplayedTo (sound.stands told).0) j.seat new.seat sound.gated (g.D.Disk.meaning j.disk) (g.D.Disk.meaning new.disk)
-    (c.mend.ensures.mends done) (sound.stands told).1 (λ bodies body doubted. c.mend.ensures.mended told bodies body doubted done))
+    (λ told done. mended_kept (ReplayedTo kept) (ReplayedTo (sound.stands told).doubted) j.seat new.seat sound.gated (g.D.Disk.meaning j.disk) (g.D.Disk.meaning new.disk)
+    (c.mend.ensures.mends done) (sound.stands told).stood (λ bodies others doubted. c.mend.ensures.mended told bodies others doubted done))
     (λ told doubted stands failed. still_stands (ReplayedTo kept) (ReplayedTo doubted) j.seat new.seat sound.gated g.D.Disk.meaning j.disk new.disk c.mend.ensures.still
-    (laws.counts_now new.disk) c.mend.ensures.time (c.mend.ensures.rests failed) stands (λ bodies body was. c.mend.ensures.doubted bodies body was failed)
+    (laws.counts_now new.disk) c.mend.ensures.time (c.mend.ensures.rests failed) stands (λ bodies others was. c.mend.ensures.doubted bodies others was failed)
     (mending_since (ReplayedTo kept) (ReplayedTo doubted) j.seat new.seat sound.gated g.D.Disk.meaning j.disk new.disk c.mend.ensures.still (laws.only_now j.disk) stands
-    (λ bodies body some was. c.mend.ensures.any_moment bodies body some was)))
+    (λ bodies others was. c.mend.ensures.any_moment bodies others was)))
 
 pub returns-clause-kept : goal.returns-clause-kept
 returns-clause-kept g c =
@@ -24,8 +25,8 @@ returns-clause-kept g c =
     let new = c.mend.new.self in
     let kept = c.self.inside.engine.state.kept in
     let sound = c.self.invariant in
-    rw (← c.self.view_is) (λ told done. mended_kept (ReplayedTo kept) (ReplayedTo (sound.stands told).0) j.seat new.seat sound.gated (g.D.Disk.meaning j.disk) (g.D.Disk.meaning new.disk)
-    (c.mend.ensures.mends done) (sound.stands told).1 (λ bodies body doubted. c.mend.ensures.mended told bodies body doubted done))
+    rw (← c.self.view_is) (λ told done. mended_kept (ReplayedTo kept) (ReplayedTo (sound.stands told).doubted) j.seat new.seat sound.gated (g.D.Disk.meaning j.disk) (g.D.Disk.meaning new.disk)
+    (c.mend.ensures.mends done) (sound.stands told).stood (λ bodies others doubted. c.mend.ensures.mended told bodies others doubted done))
 
 pub returns-clause-doubted : goal.returns-clause-doubted
 returns-clause-doubted g c =
@@ -36,9 +37,9 @@ returns-clause-doubted g c =
     let sound = c.self.invariant in
     rw (← c.self.view_is)
     (λ told doubted stands failed. still_stands (ReplayedTo kept) (ReplayedTo doubted) j.seat new.seat sound.gated g.D.Disk.meaning j.disk new.disk c.mend.ensures.still
-    (laws.counts_now new.disk) c.mend.ensures.time (c.mend.ensures.rests failed) stands (λ bodies body was. c.mend.ensures.doubted bodies body was failed)
+    (laws.counts_now new.disk) c.mend.ensures.time (c.mend.ensures.rests failed) stands (λ bodies others was. c.mend.ensures.doubted bodies others was failed)
     (mending_since (ReplayedTo kept) (ReplayedTo doubted) j.seat new.seat sound.gated g.D.Disk.meaning j.disk new.disk c.mend.ensures.still (laws.only_now j.disk) stands
-    (λ bodies body some was. c.mend.ensures.any_moment bodies body some was)))
+    (λ bodies others was. c.mend.ensures.any_moment bodies others was)))
 
 pub returns-clause-any_moment : goal.returns-clause-any_moment
 returns-clause-any_moment g c =
@@ -49,4 +50,10 @@ returns-clause-any_moment g c =
     let sound = c.self.invariant in
     rw (← c.self.view_is)
     (λ told doubted stands. mending_since (ReplayedTo kept) (ReplayedTo doubted) j.seat new.seat sound.gated g.D.Disk.meaning j.disk new.disk c.mend.ensures.still (laws.only_now j.disk) stands
-    (λ bodies body some was. c.mend.ensures.any_moment bodies body some was))
+    (λ bodies others was. c.mend.ensures.any_moment bodies others was))
+
+pub returns-clause-cost : goal.returns-clause-cost
+returns-clause-cost g c = rw (← c.self.view_is) (let most = mend_writes c.self.inside.journal.seat.doubt in omega (arith, most, c.mend.ensures.cost))
+
+pub returns-clause-stood : goal.returns-clause-stood
+returns-clause-stood g c = rw (← c.self.view_is) c.mend.ensures.stood

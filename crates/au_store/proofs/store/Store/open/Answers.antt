@@ -3,7 +3,7 @@ use Rattle.au_io.specs.Moments.{both_pass, both_stay}
 use Rattle.au_journal.specs.Journals.{disk_of, seat_of}
 use Rattle.au_engine.specs.Image.{nothing}
 use Rattle.au_store.proofs.Begun.{cause_after, match_both, no_cost, says_of}
-use Rattle.au_store.proofs.Reading.{gated_by, mount_cause, mount_says, open_leaves, opened_by, recovered, start_says}
+use Rattle.au_store.proofs.Reading.{gated_by, mount_cause, mount_says, open_leaves, opened_by, recovered, seated_by, start_says}
 use Rattle.au_store.proofs.store.Store.open.Goals as goal
 
 pub returns-in-Err-clause-clock : goal.returns-in-Err-clause-clock
@@ -50,6 +50,21 @@ returns-in-Ok-recover-clause-opened g c = λ told.
     let image = laws.reads_is_image (disk_of c.recover.new.journal) told in
     match_both c.begin.result _ _ _ _ _ _ c.begin.ensures.begun c.begin.ensures.begun
     (λ store begun _. opened_by old new seat kept stays.reads image read store.reading store.state begun.0 begun.1) (λ failed none _. none)
+
+pub returns-in-Ok-recover-clause-seated : goal.returns-in-Ok-recover-clause-seated
+returns-in-Ok-recover-clause-seated g c = λ told.
+    let laws = g.met.D.Disk g.world.𝓛 g.world.𝓜 g.world.𝓡 ((λ s x. x), (λ x. x), (λ x. x), λ x. x) in
+    let meaning = g.D.Disk.meaning in
+    let old = meaning c.args.disk in
+    let mid = meaning (disk_of c.in-Ok.journal) in
+    let new = meaning (disk_of c.recover.new.journal) in
+    let stays = both_stay old mid new (laws.counts_now (disk_of c.in-Ok.journal)) c.in-Ok.ensures.stays c.recover.ensures.stays in
+    let kept = c.in-Ok-recover.engine.state.kept in
+    let seat = seat_of c.recover.new.journal in
+    let read = c.in-Ok-recover.ensures.read told (c.in-Ok.ensures.mounted told) in
+    let image = laws.reads_is_image (disk_of c.recover.new.journal) told in
+    match_both c.begin.result _ _ _ _ _ _ c.begin.ensures.moved c.begin.ensures.moved
+    (λ store moved _. seated_by old new seat kept stays.reads image read _ store.reading store.seat refl moved) (λ failed none _. none)
 
 pub returns-in-Ok-recover-clause-kept : goal.returns-in-Ok-recover-clause-kept
 returns-in-Ok-recover-clause-kept g c = λ told. c.begin.ensures.kept told

@@ -2,11 +2,12 @@ use Rattle.std.proofs.Common.{◌≡◌, inl, inr, ℕ, refl, sym, ◌∙◌, ap
 use Rattle.au_io.specs.Moments.{LeavesSince, both_pass}
 use Rattle.au_journal.specs.declared.seat.Seat.{Seat}
 use Rattle.au_journal.specs.Seats.{mended}
+use Rattle.au_base.specs.declared.reply.Said.TheVariants as said
 use Rattle.au_engine.specs.Prepared.{after}
 use Rattle.au_engine.specs.State.{State}
 use Rattle.au_store.specs.Recovery.{RecoversToEither}
 use Rattle.au_store.specs.Steps.{Exceeds, StepCause, StepCosts, StepDoubts, StepLeaves, StepMoves, StepsBy, event_at}
-use Rattle.au_store.proofs.Stepped.{exceeds_by, exceeds_from, kept_from, made_after, mend_leaves, moves_from, since_from, since_to, step_costs, step_leaves, step_moves, steps_by, time_from, written_from}
+use Rattle.au_store.proofs.Stepped.{exceeds_by, exceeds_from, kept_from, made_after, mend_leaves, moves_from, since_from, since_to, step_costs, step_leaves, step_moves, steps_by, time_from, tried_read, written_from}
 use Rattle.au_store.proofs.store.Store.step.Goals as goal
 
 pub returns-in-Disk-clause-any_moment : goal.returns-in-Disk-clause-any_moment
@@ -15,14 +16,6 @@ returns-in-Disk-clause-any_moment g c =
     let s0 = c.args.self.now in
     let s1 = c.mend.new.self in
     λ told doubted stood. mend_leaves s0.state (event_at c.args.client c.args.ask.now s1.reading) doubted (meaning s0.disk) (meaning s1.disk) (c.mend.ensures.any_moment told doubted stood)
-
-pub returns-in-Disk-clause-doubted : goal.returns-in-Disk-clause-doubted
-returns-in-Disk-clause-doubted g c =
-    let meaning = g.D.Disk.meaning in
-    let s0 = c.args.self.now in
-    let s1 = c.mend.new.self in
-    let same = c.mend.ensures.same.0 in
-    λ told doubted stood is. inl (c.mend.ensures.doubted told doubted stood c.in-Disk.is)
 
 pub returns-in-Err-clause-kept : goal.returns-in-Err-clause-kept
 returns-in-Err-clause-kept g c =
@@ -97,23 +90,6 @@ returns-in-Ok-clause-full g c =
     (subst (λ (s : State). Exceeds s event s0.seat needed limit) same
     (exceeds_from s2.state s3.state event s0.seat s2.seat seat needed limit (exceeds_by s2.state event prepared c.in-Ok.ensures.writes s2.seat needed limit (c.make.ensures.full needed limit is))))
 
-pub returns-in-Ok-clause-doubted : goal.returns-in-Ok-clause-doubted
-returns-in-Ok-clause-doubted g c =
-    let meaning = g.D.Disk.meaning in
-    let s0 = c.args.self.now in
-    let s1 = c.mend.new.self in
-    let s2 = c.prepare.new.self in
-    let same = c.prepare.ensures.state ∙ c.mend.ensures.same.0 in
-    let disk = c.prepare.ensures.same.0 in
-    let s3 = c.make.new.self in
-    let prepared = c.in-Ok.prepared in
-    let at = event_at c.args.client c.args.ask.now in
-    let event = at s2.reading in
-    let seat : s2.seat ≡ mended s0.seat = c.prepare.ensures.same.1 ∙ c.mend.ensures.mended c.in-Done.is in
-    λ told doubted stood is. subst (λ (r : ℕ). StepDoubts s0.state (at r) doubted (meaning s3.disk) s3.seat) (sym c.make.ensures.same.1)
-    (subst (λ (s : State). StepDoubts s event doubted (meaning s3.disk) s3.seat) same
-    (inr ((after prepared s2.state).kept, made_after s2.state event prepared c.in-Ok.ensures.step, c.make.ensures.doubted told is)))
-
 pub returns-in-Ok-clause-any_moment : goal.returns-in-Ok-clause-any_moment
 returns-in-Ok-clause-any_moment g c =
     let meaning = g.D.Disk.meaning in
@@ -185,14 +161,47 @@ returns-in-Ok-clause-cause g c =
     let seat : s2.seat ≡ mended s0.seat = c.prepare.ensures.same.1 ∙ c.mend.ensures.mended c.in-Done.is in
     subst (λ (x : ℕ). StepCause c.make.result x (g.D.Disk.faults s3.disk)) (ap g.D.Disk.faults disk ∙ c.in-Done.ensures.cause) c.make.ensures.cause
 
-pub returns-in-Disk-clause-clock : goal.returns-in-Disk-clause-clock
-returns-in-Disk-clause-clock g c = inr (record {
+pub returns-in-Err-clause-settled : goal.returns-in-Err-clause-settled
+returns-in-Err-clause-settled g c = λ no_fault. ap (λ (s : Seat). s.doubt) (c.prepare.ensures.same.1 ∙ c.mend.ensures.mended c.in-Done.is)
+
+pub returns-in-Disk-clause-tries : goal.returns-in-Disk-clause-tries
+returns-in-Disk-clause-tries g c = inr (record {
   failed = refl;
+  stood = c.mend.ensures.stood c.in-Disk.is;
   clock = c.mend.ensures.same.2;
   reading = c.mend.ensures.same.3;
+  cost = c.mend.ensures.cost;
   doubted = λ told doubted stood. c.mend.ensures.doubted told doubted stood c.in-Disk.is;
   any_moment = λ told doubted stood. c.mend.ensures.any_moment told doubted stood;
 })
 
-pub returns-in-Err-clause-settled : goal.returns-in-Err-clause-settled
-returns-in-Err-clause-settled g c = λ no_fault. ap (λ (s : Seat). s.doubt) (c.prepare.ensures.same.1 ∙ c.mend.ensures.mended c.in-Done.is)
+pub returns-in-Err-clause-tries : goal.returns-in-Err-clause-tries
+returns-in-Err-clause-tries g c = inl (record {
+  read = tried_read g.C.Clock.ticking c.args.self.now.clock c.mend.new.self.clock c.prepare.new.self.clock c.prepare.new.self.clock c.prepare.new.self.reading c.prepare.new.self.reading
+      c.mend.ensures.same.2 refl refl c.prepare.ensures.reading;
+  doubts = λ told is. absurd (let no : said.Memory ≡ said.Disk = is in cc);
+})
+
+pub returns-in-Ok-clause-tries : goal.returns-in-Ok-clause-tries
+returns-in-Ok-clause-tries g c =
+    let meaning = g.D.Disk.meaning in
+    let s0 = c.args.self.now in
+    let s1 = c.mend.new.self in
+    let s2 = c.prepare.new.self in
+    let same = c.prepare.ensures.state ∙ c.mend.ensures.same.0 in
+    let s3 = c.make.new.self in
+    let prepared = c.in-Ok.prepared in
+    let at = event_at c.args.client c.args.ask.now in
+    let next = (after prepared s2.state).kept in
+    inl (record {
+      read = tried_read g.C.Clock.ticking s0.clock s1.clock s2.clock s3.clock s2.reading s3.reading c.mend.ensures.same.2 c.make.ensures.same.0 c.make.ensures.same.1 c.prepare.ensures.reading;
+      doubts = λ told is. subst (λ (r : ℕ). StepDoubts s0.state (at r) (meaning s3.disk) s3.seat) (sym c.make.ensures.same.1)
+          (subst (λ (s : State). StepDoubts s (at s2.reading) (meaning s3.disk) s3.seat) same
+          (next, made_after s2.state (at s2.reading) prepared c.in-Ok.ensures.step, c.make.ensures.doubted told is));
+    })
+
+pub make-requires-clause-left : goal.make-requires-clause-left
+make-requires-clause-left g c =
+    let s2 = c.prepare.new.self in
+    let event = event_at c.args.client c.args.ask.now s2.reading in
+    λ _ _. record { from = s2.state; event = event; same = refl; is_after = made_after s2.state event c.in-Ok.prepared c.in-Ok.ensures.step }

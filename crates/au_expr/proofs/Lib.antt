@@ -1,0 +1,14 @@
+pub mod Agreeing
+pub mod Cells
+pub mod Columns
+pub mod Joining
+pub mod LikeTest
+pub mod Looking
+pub mod Named
+pub mod KindKept
+pub mod Overflowing
+pub mod Meeting
+pub mod Sound
+pub mod Sufficing
+pub mod Under
+pub mod NamesOrPlaces

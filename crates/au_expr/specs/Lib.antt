@@ -1,0 +1,15 @@
+pub mod Conditions
+pub mod Descent
+pub mod Expressions
+pub mod Kinds
+pub mod Likes
+pub mod Names
+pub mod Operators
+pub mod Overflows
+pub mod Placing
+pub mod Ranges
+pub mod Resolving
+pub mod Rows
+pub mod Sessions
+pub mod Soundness
+pub mod Values

@@ -1,0 +1,5 @@
+pub mod Asking
+pub mod Editing
+pub mod Halving
+pub mod Search
+pub mod Spared

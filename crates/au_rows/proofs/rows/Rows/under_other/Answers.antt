@@ -1,0 +1,31 @@
+use Rattle.std.proofs.Common.{◌≡◌, ◌∙◌, ℕ, List, ap, subst, map}
+use Rattle.std.specs.Prelude.{IfNone, IfSome}
+use Rattle.au_base.specs.declared.numbers.RowNo.{RowNo}
+use Rattle.au_rows.specs.declared.place.Place.{Place}
+use Rattle.au_rows.specs.Held.{IsOtherIn, key_of, number_of, view_of}
+use Rattle.au_rows.specs.Kept.{held_of}
+use Rattle.au_rows.proofs.rows.Rows.under_other.Goals as goal
+
+pub returns-clause-some : goal.returns-clause-some
+returns-clause-some c =
+    let tables = c.self.inside.tables.items in
+    let slots = c.self.inside.versions.slots in
+    let is : c.number_of-table.result ≡ number_of c.args.table.now tables = c.number_of-table.ensures.number ∙ ap (number_of c.args.table.now) c.deref.ensures.value in
+    let keys : c.key_of.result.now ≡ key_of c.number_of-table.result tables = c.key_of.ensures ∙ ap (key_of c.number_of-table.result) c.deref-2.ensures.value in
+    let P : ℕ → List ℕ → List Place → Type 0 = λ t key places. IfSome c.other_in.result (λ (other : RowNo). IsOtherIn (view_of t c.args.by (map (held_of slots) places)) key c.args.key.now c.args.row other) in
+    rw (← c.self.view_is)
+    (subst (λ (t : ℕ). P t (key_of t tables) c.self.inside.places.items) is
+    (subst (λ (key : List ℕ). P c.number_of-table.result key c.self.inside.places.items) keys
+    (subst (λ (places : List Place). P c.number_of-table.result c.key_of.result.now places) c.deref-3.ensures.value c.other_in.ensures.some)))
+
+pub returns-clause-none : goal.returns-clause-none
+returns-clause-none c =
+    let tables = c.self.inside.tables.items in
+    let slots = c.self.inside.versions.slots in
+    let is : c.number_of-table.result ≡ number_of c.args.table.now tables = c.number_of-table.ensures.number ∙ ap (number_of c.args.table.now) c.deref.ensures.value in
+    let keys : c.key_of.result.now ≡ key_of c.number_of-table.result tables = c.key_of.ensures ∙ ap (key_of c.number_of-table.result) c.deref-2.ensures.value in
+    let P : ℕ → List ℕ → List Place → Type 0 = λ t key places. IfNone c.other_in.result ((other : RowNo) → IsOtherIn (view_of t c.args.by (map (held_of slots) places)) key c.args.key.now c.args.row other → ⊥) in
+    rw (← c.self.view_is)
+    (subst (λ (t : ℕ). P t (key_of t tables) c.self.inside.places.items) is
+    (subst (λ (key : List ℕ). P c.number_of-table.result key c.self.inside.places.items) keys
+    (subst (λ (places : List Place). P c.number_of-table.result c.key_of.result.now places) c.deref-3.ensures.value c.other_in.ensures.none)))

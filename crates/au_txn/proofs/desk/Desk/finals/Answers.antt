@@ -1,0 +1,24 @@
+use Rattle.std.proofs.Common.{◌≡◌, ◌∙◌, List, sym, subst, ap, map}
+use Rattle.std.specs.List.{Contains}
+use Rattle.au_txn.proofs.Listed.{weaker}
+use Rattle.au_txn.specs.declared.change.RowChange.{RowChange}
+use Rattle.au_txn.specs.declared.row_name.RowName.{RowName}
+use Rattle.au_txn.specs.Listing.{name_of}
+use Rattle.au_txn.specs.Logs.{changes_of}
+use Rattle.au_txn.proofs.Listed.{all-numbered, finals-of}
+use Rattle.au_txn.proofs.desk.Desk.finals.Goals as goal
+
+pub finals_in-requires-clause-numbered : goal.finals_in-requires-clause-numbered
+finals_in-requires-clause-numbered c =
+    let changes : c.find_changes.result.now ≡ changes_of c.args.client c.self.inside.logs.items = c.find_changes.ensures ∙ ap (changes_of c.args.client) c.deref.ensures.value in
+    all-numbered (changes_of c.args.client c.self.inside.logs.items) c.as_slice.result.now (c.self.invariant.numbered c.args.client)
+    (λ name has. subst (λ (xs : List RowChange). Contains (map name_of xs) name) changes (c.in_ok-names.ensures.names name (subst (λ (xs : List RowName). Contains xs name) c.as_slice.ensures.value has)))
+
+pub returns : goal.returns
+returns c =
+    let changes : c.find_changes.result.now ≡ changes_of c.args.client c.self.inside.logs.items = c.find_changes.ensures ∙ ap (changes_of c.args.client) c.deref.ensures.value in
+    rw (← c.self.view_is) (weaker c.finals_in.result c.finals_in.ensures
+    (λ finals listed. finals-of c.self.inside.rows (λ client. changes_of client c.self.inside.logs.items) c.self.invariant c.args.client c.other_than.result c.other_than.ensures c.as_slice.result.now finals.items
+    (λ change has. subst (λ (xs : List RowName). Contains xs (name_of change)) (sym c.as_slice.ensures.value) (c.in_ok-names.ensures.named change (subst (λ (xs : List RowChange). Contains xs change) (sym changes) has)))
+    (λ name has. subst (λ (xs : List RowChange). Contains (map name_of xs) name) changes (c.in_ok-names.ensures.names name (subst (λ (xs : List RowName). Contains xs name) c.as_slice.ensures.value has)))
+    listed))

@@ -1,0 +1,31 @@
+-- The discipline of keys: what locks and refusals keep of the keys of rows.
+use Rattle.std.specs.Prelude.{◌≡◌, ◌≢◌, ⊤, ℕ, List, [], ◌∷◌, IsTrue}
+use Rattle.au_base.specs.declared.cell.Cell.{Cell}
+use Rattle.au_base.specs.declared.numbers.ClientNo.{ClientNo}
+use Rattle.au_base.specs.declared.numbers.RowNo.{RowNo}
+use Rattle.au_base.specs.declared.table.TableName.{TableName}
+use Rattle.au_rows.specs.Held.{HasKey}
+use Rattle.au_txn.specs.declared.change.RowChange.{RowChange}
+use Rattle.au_txn.specs.Rows.{Row, row_at}
+use Rattle.au_txn.specs.Transactions.{NamesKey, laid_over, names_row}
+
+-- two rows of the table that have one key are one row; the rows of a table without a key are free
+abbrev pub KeysDiffer : List ℕ → TableName → List Row → Type 0
+KeysDiffer [] table rows = ⊤
+KeysDiffer (place ∷ places) table rows =
+    (m n : RowNo) (key : List Cell) → HasKey (place ∷ places) key (row_at table m rows) → HasKey (place ∷ places) key (row_at table n rows) → m ≡ n
+
+-- keys differ among the committed rows and in what each client sees; no key of a keyed table, old or new, is in two
+-- clients' changes, and no row is
+pub record IsKeyed (keys : TableName → List ℕ) (rows : List Row) (transactions : ClientNo → List RowChange) : Type 0 where
+  pub committed : (table : TableName) → KeysDiffer (keys table) table rows
+  pub seen : (client : ClientNo) (table : TableName) → KeysDiffer (keys table) table (laid_over rows (transactions client))
+  pub apart : (a b : ClientNo) (table : TableName) (key : List Cell) → a.0 ≢ b.0 → keys table ≢ []
+      → NamesKey (keys table) table key (transactions a) → NamesKey (keys table) table key (transactions b) → ⊥
+  pub owned : (a b : ClientNo) (table : TableName) (row : RowNo) → a.0 ≢ b.0
+      → IsTrue (names_row table row (transactions a)) → IsTrue (names_row table row (transactions b)) → ⊥
+
+-- one client's changes are these, and each other client's are as they were
+pub record ChangesOne (client : ClientNo) (own : List RowChange) (before after : ClientNo → List RowChange) : Type 0 where
+  pub own_are : after client ≡ own
+  pub others_are : (other : ClientNo) → other.0 ≢ client.0 → after other ≡ before other

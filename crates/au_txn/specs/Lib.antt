@@ -1,0 +1,9 @@
+pub mod Counts
+pub mod Desks
+pub mod Finals
+pub mod Inside
+pub mod Keys
+pub mod Listing
+pub mod Logs
+pub mod Rows
+pub mod Transactions

@@ -1,0 +1,140 @@
+//! Lines that change the desk.
+ghost use Rattle.std.specs.Prelude.{◌≡◌, ◌≤◌, ◌⊎◌, IfOk, IsSome, IsTrue, map};
+ghost use Rattle.au_txn.specs.Desks.{is_open, open_of, spare_of};
+ghost use Rattle.au_txn.specs.Rows.{row_at};
+ghost use Rattle.au_txn.specs.Transactions.{IsRowLocked, laid_over};
+
+use crate::case::Case;
+use crate::fault::Fault;
+use au_base::{Cell, ClientNo, List, RowNo, TableName};
+use au_txn::{Desk, RowChange};
+use std::alloc::Global;
+
+/// A copy of cells.
+pub fn copy_of(alloc: Global, cells: &[Cell]) -> Result<Vec<Cell>, Fault>
+    ensures { IfOk result (λ copy. copy.items ≡ cells.now) }
+{
+    let mut copy = Vec::new(alloc);
+    for cell in cells {
+        copy.push(cell.clone()?)?;
+    }
+    Ok(copy)
+}
+
+/// What the client sees of the row, as a list of its own.
+fn seen(
+    alloc: Global,
+    desk: &Desk,
+    client: ClientNo,
+    table: &TableName,
+    row: RowNo,
+) -> Result<Option<List<Cell>>, Fault>
+    requires numbered { 1 ≤ row.0 }
+    ensures { IfOk result (λ old. old ≡ row_at table.now row (laid_over desk.now.rows (open_of desk.now client))) }
+{
+    match desk.seen(client, table, row) {
+        Some(cells) => Ok(Some(List::from_vec(copy_of(alloc, cells)?))),
+        None => Ok(None),
+    }
+}
+
+/// Writes the one change, where nothing is against it.
+fn write_one(
+    alloc: Global,
+    desk: &mut Desk,
+    client: ClientNo,
+    change: RowChange,
+) -> Result<(), Fault>
+    requires there { IsTrue (is_open change.table desk.old.tables) }
+    requires free { ¬ IsRowLocked (open_of desk.old) client change.table change.row }
+    requires numbered { 1 ≤ change.row.0 }
+    requires content { IsSome change.old ⊎ IsSome change.new }
+    requires old { change.old ≡ row_at change.table change.row (laid_over desk.old.rows (open_of desk.old client)) }
+    requires spare { 1 ≤ spare_of client desk.old }
+{
+    let mut contents = Vec::new(alloc);
+    if let Some(cells) = &change.new {
+        contents.push(copy_of(alloc, cells.as_slice())?)?;
+    }
+    let mut changes = Vec::new(alloc);
+    changes.push(change)?;
+    desk.write(client, changes, contents);
+    Ok(())
+}
+
+/// Makes the client's change of the row, and says what came.
+pub fn change(
+    alloc: Global,
+    desk: &mut Desk,
+    client: ClientNo,
+    table: TableName,
+    row: RowNo,
+    new: Option<List<Cell>>,
+) -> Result<&'static str, Fault> {
+    desk.reserve(alloc, client, 1)?;
+    if row.0 == 0 || !desk.is_open(&table) {
+        return Ok("no table");
+    }
+    if desk.locked_row(client, &table, row) {
+        return Ok("locked");
+    }
+    let old = seen(alloc, desk, client, &table, row)?;
+    if old.is_none() && new.is_none() {
+        return Ok("no row");
+    }
+    let change = RowChange {
+        table,
+        row,
+        old,
+        new,
+    };
+    write_one(alloc, desk, client, change)?;
+    Ok("done")
+}
+
+/// Opens a table, and says what came.
+pub fn open_table(
+    alloc: Global,
+    desk: &mut Desk,
+    table: TableName,
+    key: Vec<u32>,
+) -> Result<&'static str, Fault> {
+    desk.reserve(alloc, ClientNo(1), 1)?;
+    if desk.is_open(&table) {
+        return Ok("open already");
+    }
+    desk.open_table(table, key);
+    Ok("done")
+}
+
+/// Drops a table, and says what came.
+pub fn drop_table(desk: &mut Desk, table: &TableName) -> &'static str {
+    if !desk.is_open(table) {
+        return "no table";
+    }
+    if !desk.is_settled(table) {
+        return "not settled";
+    }
+    desk.drop_table(table);
+    "done"
+}
+
+/// Puts so many rows, from number 1 on, each with its number as its cell, as one transaction of the
+/// client.
+pub fn put_many(
+    alloc: Global,
+    desk: &mut Desk,
+    client: ClientNo,
+    case: &Case<'_>,
+) -> Result<&'static str, Fault> {
+    for number in 0..case.number(2)? {
+        let mut cells = List::new(alloc);
+        cells.push(Cell::Num(i64::from(number)))?;
+        let row = RowNo(number.saturating_add(1));
+        let came = change(alloc, desk, client, case.table(alloc, 1)?, row, Some(cells))?;
+        if came != "done" {
+            return Ok(came);
+        }
+    }
+    Ok("done")
+}

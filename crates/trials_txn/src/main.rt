@@ -1,0 +1,100 @@
+//! Tries transactions: each line of standard input makes something of a desk or asks it, its fields
+//! parted by `|`, and is written again with what came.
+//!
+//! - `nothing`: from here on there is no table
+//! - `open|TABLE|PLACES`: a table with a key of the columns at these places, from 0, or without one
+//! - `drop|TABLE`
+//! - `put|CLIENT|TABLE|ROW|CELLS`, `gone|CLIENT|TABLE|ROW`: a change of the client
+//! - `many|CLIENT|TABLE|COUNT`: so many rows, from number 1 on, in one transaction
+//! - `commit|CLIENT`, `roll back|CLIENT`, `forget|CLIENT`
+//! - `view|CLIENT|TABLE`, `count|CLIENT|TABLE`, `under|CLIENT|TABLE|KEY`, `numbers|TABLE`,
+//!   `locked row|CLIENT|TABLE|ROW`, `locked key|CLIENT|TABLE|KEY`, `changes|CLIENT`,
+//!   `finals|CLIENT`, `how many|CLIENT` (changes and finals): what the calls of these names answer
+//!
+//! A table is its owner and its name with a point between them; cells and places have commas
+//! between them, and `-` is NULL.
+#![tactic(auto)]
+
+mod asking;
+mod case;
+mod changing;
+mod fault;
+mod showing;
+
+use au_txn::Desk;
+use case::Case;
+use fault::Fault;
+use std::alloc::Global;
+use std::io;
+
+// What comes of a line that changes the desk, if the case is one.
+fn changed(alloc: Global, desk: &mut Desk, case: &Case<'_>) -> Result<Option<&'static str>, Fault> {
+    match case.call {
+        "open" => {
+            let (table, key) = (case.table(alloc, 0)?, case.places(alloc, 1)?);
+            Ok(Some(changing::open_table(alloc, desk, table, key)?))
+        }
+        "drop" => Ok(Some(changing::drop_table(desk, &case.table(alloc, 0)?))),
+        "put" => {
+            let (client, table) = (case.client(0)?, case.table(alloc, 1)?);
+            let (row, cells) = (case.row(2)?, case.cells(alloc, 3)?);
+            Ok(Some(changing::change(alloc, desk, client, table, row, Some(cells))?))
+        }
+        "gone" => {
+            let (client, table) = (case.client(0)?, case.table(alloc, 1)?);
+            Ok(Some(changing::change(alloc, desk, client, table, case.row(2)?, None)?))
+        }
+        "many" => Ok(Some(changing::put_many(alloc, desk, case.client(0)?, case)?)),
+        _ => ended(desk, case),
+    }
+}
+
+// What comes of a line that ends a client's changes, if the case is one.
+fn ended(desk: &mut Desk, case: &Case<'_>) -> Result<Option<&'static str>, Fault> {
+    match case.call {
+        "commit" => desk.commit(case.client(0)?),
+        "roll back" => desk.rollback(case.client(0)?),
+        "forget" => desk.forget(case.client(0)?),
+        _ => return Ok(None),
+    }
+    Ok(Some("done"))
+}
+
+// What comes of a line.
+fn answer(alloc: Global, desk: &mut Desk, line: &str) -> Result<String, Fault> {
+    let case = Case::read(alloc, line)?;
+    if case.call == "nothing" {
+        *desk = Desk::new(alloc)?;
+        return Ok(String::from_str(alloc, "done")?);
+    }
+    if let Some(text) = changed(alloc, desk, &case)? {
+        return Ok(String::from_str(alloc, text)?);
+    }
+    match asking::asked(alloc, desk, &case)? {
+        Some(text) => Ok(text),
+        None => Err(Fault::NoCase),
+    }
+}
+
+fn tried(rt: HostRuntime, mut desk: Desk) -> io::Result<()> {
+    for line in rt.lines(rt.alloc()) {
+        let line = line?;
+        if line.is_empty() || line.starts_with('#') {
+            println!(rt; "{line}")?;
+            continue;
+        }
+        match answer(rt.alloc(), &mut desk, line.as_str()) {
+            Ok(text) => println!(rt; "{line} = {text}")?,
+            Err(Fault::Memory) => println!(rt; "{line}: out of memory")?,
+            Err(Fault::NoCase) => println!(rt; "{line}: no such case")?,
+        }
+    }
+    Ok(())
+}
+
+fn main(rt: HostRuntime) -> io::Result<()> {
+    match Desk::new(rt.alloc()) {
+        Ok(desk) => tried(rt, desk),
+        Err(_) => println!(rt; "out of memory"),
+    }
+}
