@@ -46,21 +46,27 @@ fn token_lines(alloc: Global, text: &[u8]) -> Result<String, Fault>
 fn condition_line(alloc: Global, text: &[u8]) -> Result<String, Fault>
     requires { length text.now ≤ 1_000_000 }
 {
-    match condition(alloc, text)? {
-        Some(tree) => tree_line(alloc, &tree),
-        None => none_line(alloc),
-    }
+    let tree = condition(alloc, text)?;
+    found_line(alloc, &tree)
 }
 
 fn row_statement_line(alloc: Global, text: &[u8]) -> Result<String, Fault>
     requires { length text.now ≤ 1_000_000 }
 {
-    let tokens = match tokens(alloc, text)? {
-        Ok(tokens) => tokens,
-        Err(fault) => return stuck_line(alloc, fault),
-    };
-    match row_statement(alloc, &tokens)? {
-        Some(tree) => tree_line(alloc, &tree),
+    match tokens(alloc, text)? {
+        Ok(tokens) => row_tree_line(alloc, &tokens),
+        Err(fault) => stuck_line(alloc, fault),
+    }
+}
+
+fn row_tree_line(alloc: Global, tokens: &[Token]) -> Result<String, Fault> {
+    let tree = row_statement(alloc, tokens)?;
+    found_line(alloc, &tree)
+}
+
+fn found_line<T: Debug>(alloc: Global, tree: &Option<T>) -> Result<String, Fault> {
+    match tree {
+        Some(tree) => tree_line(alloc, tree),
         None => none_line(alloc),
     }
 }
