@@ -1,5 +1,5 @@
 -- Facts of all entries of a list, and names no two of which are the same.
-use Rattle.std.proofs.Common.{◌≡◌, ◌≢◌, ℕ, ◌+◌, ◌≤◌, Bool, true, false, not, cond, List, [], ◌∷◌, ◌++◌, map, length, refl, sym, ◌∙◌, subst, arith}
+use Rattle.std.proofs.Common.{◌≡◌, ◌==◌, ◌≢◌, ℕ, ◌+◌, ◌≤◌, Bool, true, false, not, cond, List, [], ◌∷◌, ◌++◌, map, length, refl, sym, ◌∙◌, subst, arith}
 use Rattle.std.specs.List.{AllByRecursion, IsDistinct, filter, list_all}
 use Rattle.std.specs.Set.{distinct_count}
 use Rattle.std.specs.Str.{bytes_eq}
@@ -8,9 +8,10 @@ use Rattle.std.specs.declared.cmp.Ordering.TheVariants.{Less, Equal, Greater}
 use Rattle.std.specs.Ordering.{is_eq, is_lt, nat_cmp}
 use Rattle.std.specs.Cmp.Lexicographic.{nat_list_eq_equiv, slice_cmp, texts_ties}
 use Rattle.std.proofs.lemmas.Bool.{and_parts}
+use Rattle.std.proofs.lemmas.Bool.Decides.{nat_tests}
 use Rattle.std.proofs.lemmas.Map.Made.{distinct_count-from_IsDistinct}
+use Rattle.std.proofs.lemmas.Slice.Eq.{bytes_eq-Decides}
 use Rattle.au_priv.specs.Order.{comes_before, is_in_order}
-use Rattle.au_priv.proofs.Entries.{nat_eq-to, same_name-is, same_name-refl}
 use Rattle.rec_codec.specs.Spelling.{is_without_repeats}
 use Rattle.au_catalog.specs.Demand.{placed}
 
@@ -57,7 +58,7 @@ not_both Greater less equal = let e : false ≡ true = less in cc
 pub before_apart : (a b : List ℕ) → comes_before a b ≡ true → a ≢ b
 before_apart a b before same =
     let itself : is_lt (slice_cmp nat_cmp a a) ≡ true = subst (λ (n : List ℕ). is_lt (slice_cmp nat_cmp a n) ≡ true) (sym same) before in
-    not_both (slice_cmp nat_cmp a a) itself (sym (texts_ties a a) ∙ same_name-refl a)
+    not_both (slice_cmp nat_cmp a a) itself (sym (texts_ties a a) ∙ (bytes_eq-Decides a a).1 refl)
 
 first_apart : (x : List ℕ) (xs : List (List ℕ)) → list_all (comes_before x) xs ≡ true → AllByRecursion (λ y. x ≢ y) xs
 first_apart x [] all = tt
@@ -110,7 +111,7 @@ all_placed P n xs here all =
     all_joined P (filter (λ y. comes_before y n) xs) (n ∷ filter (λ y. not (comes_before y n)) xs) (all_kept P _ xs all) (here, all_kept P _ xs all)
 
 differs : (a b : List ℕ) (same : Bool) → bytes_eq a b ≡ same → a ≢ b → same ≡ false
-differs a b true is apart = absurd (apart (same_name-is a b is))
+differs a b true is apart = absurd (apart ((bytes_eq-Decides a b).0 is))
 differs a b false is apart = refl
 
 distinct : (xs : List (List ℕ)) → AreApart xs → IsDistinct bytes_eq xs
@@ -118,9 +119,12 @@ unfolding IsDistinct
 distinct [] apart = tt
 distinct (x ∷ xs) apart = (all_weaker (λ y. x ≢ y) (λ y. bytes_eq x y ≡ false) (λ y h. differs x y (bytes_eq x y) refl h) xs apart.0, distinct xs apart.1)
 
+same_number : (m n : ℕ) → m ≡ n → (m == n) ≡ true
+same_number m n same = grind (arith, nat_tests)
+
 -- names that are apart are without repeats
 pub no_repeats : (xs : List (List ℕ)) → AreApart xs → is_without_repeats bytes_eq xs ≡ true
-no_repeats xs apart = nat_eq-to (distinct_count bytes_eq xs) (length xs) (distinct_count-from_IsDistinct nat_list_eq_equiv xs (distinct xs apart))
+no_repeats xs apart = same_number (distinct_count bytes_eq xs) (length xs) (distinct_count-from_IsDistinct nat_list_eq_equiv xs (distinct xs apart))
 
 length_kept_at : {X : Type 0} (x : X) (ys : List X) (b : Bool) (n : ℕ) → length ys ≤ n → length (cond b (x ∷ ys) ys) ≤ n + 1
 length_kept_at x ys true n le = omega arith

@@ -1,7 +1,6 @@
 -- What a new store keeps is lawful, and so is the state in which an instance begins.
 use Rattle.std.proofs.Common.{◌≢◌, ℕ, ◌<◌, List, [], ◌∷◌, map, length, refl, ap, arith}
 use Rattle.std.proofs.lemmas.Str.{IsUtf8-from_ascii}
-use Rattle.sql_lex.proofs.Digits.{word_ascii}
 use Rattle.sha2.proofs.Facts256.{length-sha256}
 use Rattle.au_base.specs.declared.limits.TheConstants.{INSTANCES}
 use Rattle.au_base.specs.declared.privilege.Privilege.{Privilege}
@@ -14,13 +13,13 @@ use Rattle.au_engine.specs.Image.{nothing, policy_change, role_grant_change, sys
 use Rattle.au_engine.specs.Lawful.{CanBeWritten, IsLawful, IsLawfulState, ora_mandatory}
 use Rattle.au_engine.specs.Opening.{each_privilege, granted_to_sys, opening, opening_role_grants, opening_system, opening_users, p_all, policy_of_all}
 use Rattle.au_engine.specs.State.{start}
-use Rattle.au_engine.proofs.Written.{name_written, p_all_name, sys_name}
+use Rattle.au_engine.proofs.Written.{ascii, name_written, p_all_name, sys_name}
 
 admin_name : IsName audit_admin
-admin_name = (record { some = omega arith; capped = omega arith }, IsUtf8-from_ascii audit_admin (word_ascii audit_admin refl))
+admin_name = (record { some = omega arith; capped = omega arith }, IsUtf8-from_ascii audit_admin (ascii audit_admin refl))
 
 viewer_name : IsName audit_viewer
-viewer_name = (record { some = omega arith; capped = omega arith }, IsUtf8-from_ascii audit_viewer (word_ascii audit_viewer refl))
+viewer_name = (record { some = omega arith; capped = omega arith }, IsUtf8-from_ascii audit_viewer (ascii audit_viewer refl))
 
 users_written : (password : List ℕ) → CanBeWritten user_change (opening_users password)
 unfolding user verifier

@@ -1,10 +1,12 @@
 -- An image gives back what it was made of.
-use Rattle.std.proofs.Common.{◌≡◌, ◌≢◌, ◌∙◌, ℕ, ◌≤◌, ◌+◌, Bool, true, false, not, ◌||◌, List, [], ◌∷◌, ◌++◌, map, length, refl, sym, ap, subst, append_assoc, inl, inr, arith}
+use Rattle.std.proofs.Common.{◌≡◌, ◌≢◌, ◌∙◌, ℕ, zero, suc, ◌≤◌, ◌+◌, ◌⊎◌, Bool, true, false, not, ◌||◌, List, [], ◌∷◌, ◌++◌, map, length, refl, sym, ap, subst, append_assoc, inl, inr, arith}
 use Rattle.std.specs.Prelude.{IsTrue, Option}
 use Rattle.std.specs.List.{AllByRecursion, Contains, list_all, list_any}
 use Rattle.std.specs.Str.{bytes_eq}
 use Rattle.std.proofs.lemmas.Bool.{and_parts, and_from}
 use Rattle.std.proofs.lemmas.List.{append-nil, map-append, map-id}
+use Rattle.std.proofs.lemmas.List.Elements.{Contains-append_left, Contains-append_right}
+use Rattle.std.proofs.lemmas.Slice.Eq.{bytes_eq-Decides}
 use Rattle.au_base.specs.declared.limits.TheConstants.{GRANTS}
 use Rattle.au_base.specs.declared.privilege.Privilege.{Privilege}
 use Rattle.au_base.specs.BuiltIn.{sys, audit_admin, audit_viewer}
@@ -19,12 +21,8 @@ use Rattle.au_catalog.specs.declared.policy.Evaluate.{Evaluate}
 use Rattle.au_catalog.specs.Changing.{by_name, changed, changed_all, put_in_order, with_enablement, with_tree}
 use Rattle.au_priv.specs.declared.grants.Grants.{Grants}
 use Rattle.au_priv.specs.Changing.{applied_all, role_grant, system_grant}
-use Rattle.au_priv.specs.Order.{comes_before, is_in_order, role_before}
+use Rattle.au_priv.specs.Order.{AreInOrder, comes_before, is_in_order, role_before}
 use Rattle.au_priv.specs.Rights.{HoldsRole, HasNoCircle, IsChain, IsHolder, IsRoleGranted, ObjectEntry, RoleEntry, SystemEntry}
-use Rattle.au_priv.proofs.Chains.{behind, direct, last}
-use Rattle.au_priv.proofs.Entries.{same_name-is}
-use Rattle.au_priv.proofs.Members.{append_left, append_right, here, none, split}
-use Rattle.au_priv.proofs.Regranted.{role_regranted, system_regranted}
 use Rattle.au_engine.specs.Deciding.{has_policy}
 use Rattle.au_engine.specs.Image.{enablement_change, image_changes, image_of, nothing, policy_change, role_change, role_grant_change, system_change, user_change, written_condition}
 use Rattle.au_engine.specs.Lawful.{IsLawful, IsPlain, ora_mandatory}
@@ -129,9 +127,14 @@ made1 kept h = users_made [] kept.users nothing (rises (λ u. u.0) kept.users h.
 made2 : (kept : Kept) → IsOrderly kept → Made (map role_change kept.roles) (stage1 kept) ≡ stage2 kept
 made2 kept h = roles_made [] kept.roles (stage1 kept) (rises (λ r. r) kept.roles (ap (is_in_order comes_before) (map-id kept.roles) ∙ h.roles))
 
-made3 : (kept : Kept) → IsLawful kept → Made (map system_change kept.grants.system) (stage2 kept) ≡ stage3 kept
-made3 kept lawful =
-    system_made kept.grants.system (stage2 kept) ∙ ap (λ (g : Grants). record (stage2 kept) { grants = g }) (system_regranted (with_grants kept []) lawful.grants.0)
+-- that grants in order come back where they are granted in turn, as the public law of grants says it
+pub record ComeBack : Type 0 where
+  pub system : (grants : Grants) → AreInOrder grants → applied_all (map system_grant grants.system) (record grants { system = [] }) ≡ grants
+  pub role : (grants : Grants) → AreInOrder grants → applied_all (map role_grant grants.role) (record grants { role = [] }) ≡ grants
+
+made3 : ComeBack → (kept : Kept) → IsLawful kept → Made (map system_change kept.grants.system) (stage2 kept) ≡ stage3 kept
+made3 back kept lawful =
+    system_made kept.grants.system (stage2 kept) ∙ ap (λ (g : Grants). record (stage2 kept) { grants = g }) (back.system (with_grants kept []) (lawful.grants.0, refl, refl))
 
 -- grants of roles that stand before the others
 front_in_order : {X : Type 0} (before : X → X → Bool) (done rest : List X) → is_in_order before (done ++ rest) ≡ true → is_in_order before done ≡ true
@@ -146,13 +149,13 @@ front_in_order {X} before (x ∷ done) rest ordered =
         let parts = and_parts (test y) (list_all test (ys ++ zs)) all in
         and_from (test y) _ parts.0 (front_all test ys zs parts.1)
 
-roles_at : (kept : Kept) (done rest : List RoleEntry) → IsLawful kept → kept.grants.role ≡ done ++ rest → Made (map role_grant_change done) (stage3 kept) ≡ record (stage2 kept) { grants = with_grants kept done }
-roles_at kept done rest lawful split =
+roles_at : ComeBack → (kept : Kept) (done rest : List RoleEntry) → IsLawful kept → kept.grants.role ≡ done ++ rest → Made (map role_grant_change done) (stage3 kept) ≡ record (stage2 kept) { grants = with_grants kept done }
+roles_at back kept done rest lawful split =
     let ordered : is_in_order role_before done ≡ true = front_in_order role_before done rest (ap (is_in_order role_before) (sym split) ∙ lawful.grants.1) in
-    role_grants_made done (stage3 kept) ∙ ap (λ (g : Grants). record (stage2 kept) { grants = g }) (role_regranted (with_grants kept done) ordered)
+    role_grants_made done (stage3 kept) ∙ ap (λ (g : Grants). record (stage2 kept) { grants = g }) (back.role (with_grants kept done) (lawful.grants.0, ordered, refl))
 
-made4 : (kept : Kept) → IsLawful kept → Made (map role_grant_change kept.grants.role) (stage3 kept) ≡ stage4 kept
-made4 kept lawful = roles_at kept kept.grants.role [] lawful (sym (append-nil kept.grants.role))
+made4 : ComeBack → (kept : Kept) → IsLawful kept → Made (map role_grant_change kept.grants.role) (stage3 kept) ≡ stage4 kept
+made4 back kept lawful = roles_at back kept kept.grants.role [] lawful (sym (append-nil kept.grants.role))
 
 made5 : (kept : Kept) → IsLawful kept → Made (map policy_change kept.policies) (stage4 kept) ≡ stage5 kept
 made5 kept lawful = policies_made [] kept.policies (stage4 kept) (rises (λ p. p.name) kept.policies lawful.ordered) lawful.plain
@@ -183,12 +186,12 @@ parts2 kept = map role_change kept.roles ++ parts3 kept
 after_part : (one two : List Change) (k l m : Kept) → Made one k ≡ l → Made two l ≡ m → Made (one ++ two) k ≡ m
 after_part one two k l m is goes = made_joined one two k ∙ ap (Made two) is ∙ goes
 
-image_made : (kept : Kept) → IsLawful kept → IsOrderly kept → Made (image_changes kept) nothing ≡ stage7 kept
-image_made kept lawful h =
+image_made : ComeBack → (kept : Kept) → IsLawful kept → IsOrderly kept → Made (image_changes kept) nothing ≡ stage7 kept
+image_made back kept lawful h =
     after_part (map user_change kept.users) (parts2 kept) nothing (stage1 kept) (stage7 kept) (made1 kept h)
     (after_part (map role_change kept.roles) (parts3 kept) (stage1 kept) (stage2 kept) (stage7 kept) (made2 kept h)
-    (after_part (map system_change kept.grants.system) (parts4 kept) (stage2 kept) (stage3 kept) (stage7 kept) (made3 kept lawful)
-    (after_part (map role_grant_change kept.grants.role) (parts5 kept) (stage3 kept) (stage4 kept) (stage7 kept) (made4 kept lawful)
+    (after_part (map system_change kept.grants.system) (parts4 kept) (stage2 kept) (stage3 kept) (stage7 kept) (made3 back kept lawful)
+    (after_part (map role_grant_change kept.grants.role) (parts5 kept) (stage3 kept) (stage4 kept) (stage7 kept) (made4 back kept lawful)
     (after_part (map policy_change kept.policies) (parts6 kept) (stage4 kept) (stage5 kept) (stage7 kept) (made5 kept lawful)
     (after_part (map enablement_change kept.enabled) (parts7 kept) (stage5 kept) (stage6 kept) (stage7 kept) (made6 kept h) refl)))))
 
@@ -208,7 +211,7 @@ users_go [] kept = tt
 users_go (u ∷ users) kept = (tt, users_go users _)
 
 not_same : (a b : List ℕ) (same : Bool) → bytes_eq a b ≡ same → a ≢ b → same ≡ false
-not_same a b true is apart = absurd (apart (same_name-is a b is))
+not_same a b true is apart = absurd (apart ((bytes_eq-Decides a b).0 is))
 not_same a b false is apart = refl
 
 none_there : (name : List ℕ) (roles : List (List ℕ)) → AllByRecursion (λ role. comes_before role name ≡ true) roles → not (list_any (λ role. bytes_eq role name) roles) ≡ true
@@ -231,6 +234,13 @@ system_go : (entries : List SystemEntry) (kept : Kept) → AllByRecursion (λ g.
 system_go [] kept all = tt
 system_go (e ∷ entries) kept all = (all.0, system_go entries _ all.1)
 
+-- chains of grants of roles
+direct : (roles : List RoleEntry) (user role : List ℕ) → IsRoleGranted roles user role → HoldsRole roles user role
+direct roles user role granted = ([], (granted, tt))
+
+behind : (roles : List RoleEntry) (user role held : List ℕ) → IsRoleGranted roles user role → HoldsRole roles role held → HoldsRole roles user held
+behind roles user role held granted (path, chain) = (role ∷ path, (granted, chain))
+
 -- fewer grants of roles hold no more
 fewer_hold : (roles fewer : List RoleEntry) → ((entry : RoleEntry) → Contains fewer entry → Contains roles entry) → (user role : List ℕ) (path : List (List ℕ)) → IsChain fewer user (path ++ role ∷ []) → HoldsRole roles user role
 fewer_hold roles fewer within user role [] chain = direct roles user role (chain.0.0, within (user, role, chain.0.0) chain.0.1)
@@ -240,26 +250,26 @@ fewer_hold roles fewer within user role (first ∷ path) chain =
 -- one grant of a circle-free list closes no circle over those before it
 closes_none : (roles done rest : List RoleEntry) (g : RoleEntry) → roles ≡ done ++ g ∷ rest → HasNoCircle roles → IsHolder done g.1 g.0 → ⊥
 closes_none roles done rest g split clear holder =
-    let within : (entry : RoleEntry) → Contains done entry → Contains roles entry = λ entry has. subst (λ (xs : List RoleEntry). Contains xs entry) (sym split) (append_left done (g ∷ rest) entry has) in
-    let granted : IsRoleGranted roles g.0 g.1 = (g.2, subst (λ (xs : List RoleEntry). Contains xs g) (sym split) (append_right done (g ∷ rest) g (here g rest))) in
+    let within : (entry : RoleEntry) → Contains done entry → Contains roles entry = λ entry has. subst (λ (xs : List RoleEntry). Contains xs entry) (sym split) (Contains-append_left done (g ∷ rest) entry has) in
+    let granted : IsRoleGranted roles g.0 g.1 = (g.2, subst (λ (xs : List RoleEntry). Contains xs g) (sym split) (Contains-append_right done (g ∷ rest) g (0, omega arith, refl))) in
     elim holder [
       | inl same ↦ clear g.0 (subst (λ (n : List ℕ). HoldsRole roles g.0 n) (sym same) (direct roles g.0 g.1 granted))
       | inr holds ↦ clear g.0 (behind roles g.0 g.1 g.0 granted (fewer_hold roles done within g.1 g.0 holds.0 holds.1))
     ]
 
-role_grants_go : (kept : Kept) (done rest : List RoleEntry) → IsLawful kept → IsOrderly kept → kept.grants.role ≡ done ++ rest
+role_grants_go : ComeBack → (kept : Kept) (done rest : List RoleEntry) → IsLawful kept → IsOrderly kept → kept.grants.role ≡ done ++ rest
     → AllByRecursion (λ g. IsTrue (has_grantee kept g.0) × IsTrue (has_role kept g.1)) rest → AllGoOn true (record (stage2 kept) { grants = with_grants kept done }) (map role_grant_change rest)
-role_grants_go kept done [] lawful h split all = tt
-role_grants_go kept done (g ∷ rest) lawful h split all =
+role_grants_go back kept done [] lawful h split all = tt
+role_grants_go back kept done (g ∷ rest) lawful h split all =
     let at : List RoleEntry → Kept = λ rs. record (stage2 kept) { grants = with_grants kept rs } in
     let further : kept.grants.role ≡ (done ++ g ∷ []) ++ rest = split ∙ sym (append_assoc done (g ∷ []) rest) in
     let next : changed unread_condition (role_grant_change g) (at done) ≡ at (done ++ g ∷ []) =
-    ap (changed unread_condition (role_grant_change g)) (sym (roles_at kept done (g ∷ rest) lawful split))
+    ap (changed unread_condition (role_grant_change g)) (sym (roles_at back kept done (g ∷ rest) lawful split))
     ∙ sym (made_more (map role_grant_change done) (role_grant_change g) (stage3 kept))
     ∙ ap (λ (cs : List Change). Made cs (stage3 kept)) (sym (map-append role_grant_change done (g ∷ [])))
-    ∙ roles_at kept (done ++ g ∷ []) rest lawful further in (
+    ∙ roles_at back kept (done ++ g ∷ []) rest lawful further in (
       (all.0.0, all.0.1, closes_none kept.grants.role done rest g split h.no_circle),
-      subst (λ (k : Kept). AllGoOn true k (map role_grant_change rest)) (sym next) (role_grants_go kept (done ++ g ∷ []) rest lawful h further all.1),
+      subst (λ (k : Kept). AllGoOn true k (map role_grant_change rest)) (sym next) (role_grants_go back kept (done ++ g ∷ []) rest lawful h further all.1),
     )
 
 policies_go : (policies : List AuditPolicy) (kept : Kept) → AllByRecursion IsPlain policies → AllByRecursion (λ p. p.name ≢ ora_mandatory) policies → AllGoOn true kept (map policy_change policies)
@@ -274,22 +284,22 @@ enabled_go (e ∷ entries) kept all = (all.0, enabled_go entries _ all.1)
 part_goes : (one two : List Change) (k l : Kept) → AllGoOn true k one → Made one k ≡ l → AllGoOn true l two → AllGoOn true k (one ++ two)
 part_goes one two k l goes is more = go_on_joined true k one two goes (subst (λ (x : Kept). AllGoOn true x two) (sym is) more)
 
-image_goes : (kept : Kept) → IsLawful kept → IsOrderly kept → AllGoOn true nothing (image_changes kept)
-image_goes kept lawful h =
+image_goes : ComeBack → (kept : Kept) → IsLawful kept → IsOrderly kept → AllGoOn true nothing (image_changes kept)
+image_goes back kept lawful h =
     part_goes (map user_change kept.users) (parts2 kept) nothing (stage1 kept) (users_go kept.users nothing) (made1 kept h)
     (part_goes (map role_change kept.roles) (parts3 kept) (stage1 kept) (stage2 kept) (roles_go [] kept.roles (stage1 kept) (rises (λ r. r) kept.roles (ap (is_in_order comes_before) (map-id kept.roles) ∙ h.roles))) (made2 kept h)
-    (part_goes (map system_change kept.grants.system) (parts4 kept) (stage2 kept) (stage3 kept) (system_go kept.grants.system (stage2 kept) h.grantees) (made3 kept lawful)
-    (part_goes (map role_grant_change kept.grants.role) (parts5 kept) (stage3 kept) (stage4 kept) (role_grants_go kept [] kept.grants.role lawful h refl h.role_grants) (made4 kept lawful)
+    (part_goes (map system_change kept.grants.system) (parts4 kept) (stage2 kept) (stage3 kept) (system_go kept.grants.system (stage2 kept) h.grantees) (made3 back kept lawful)
+    (part_goes (map role_grant_change kept.grants.role) (parts5 kept) (stage3 kept) (stage4 kept) (role_grants_go back kept [] kept.grants.role lawful h refl h.role_grants) (made4 back kept lawful)
     (part_goes (map policy_change kept.policies) (parts6 kept) (stage4 kept) (stage5 kept) (policies_go kept.policies (stage4 kept) lawful.plain (all_unmapped (λ (n : List ℕ). n ≢ ora_mandatory) (λ (p : AuditPolicy). p.name) kept.policies lawful.unreserved)) (made5 kept lawful)
     (part_goes (map enablement_change kept.enabled) (parts7 kept) (stage5 kept) (stage6 kept) (enabled_go kept.enabled (stage5 kept) h.enablements) (made6 kept h) ((lawful.instance, inl refl), tt))))))
 
 -- the image goes on from nothing, and gives what it was made of
-pub image_leads : (kept : Kept) → IsLawful kept → IsOrderly kept → IsReplayable nothing (image_of kept) × (after_frame nothing (image_of kept) ≡ kept)
-image_leads kept lawful h =
-    let made = image_made kept lawful h in (
+pub image_leads : ComeBack → (kept : Kept) → IsLawful kept → IsOrderly kept → IsReplayable nothing (image_of kept) × (after_frame nothing (image_of kept) ≡ kept)
+image_leads back kept lawful h =
+    let made = image_made back kept lawful h in (
       record {
         stamp = omega arith;
-        changes = image_goes kept lawful h;
+        changes = image_goes back kept lawful h;
         ends = subst (λ (k : Kept). EndsWell k) (sym made) (ends_at kept h);
       },
       ap (λ (k : Kept). record k { trail = kept.trail; last = kept.last }) made ∙ whole kept h,
@@ -307,11 +317,24 @@ first_grant : (roles : List RoleEntry) (user role : List ℕ) (path : List (List
 first_grant roles user role [] chain = (role, chain.0)
 first_grant roles user role (next ∷ path) chain = (next, chain.0)
 
+-- who grants the last role of a chain
+last_grant : (roles : List RoleEntry) (user role : List ℕ) (path : List (List ℕ)) → IsChain roles user (path ++ role ∷ []) → (holder : List ℕ) × IsRoleGranted roles holder role
+last_grant roles user role [] chain = (user, chain.0)
+last_grant roles user role (next ∷ path) chain = last_grant roles next role path chain.1
+
 not_admin : audit_admin ≢ sys
 not_admin same = let sizes = ap length same in omega arith
 
 not_viewer : audit_viewer ≢ sys
 not_viewer same = let sizes = ap length same in omega arith
+
+-- an element is the first or of the rest, and there is none of nothing
+split : {X : Type 0} (y : X) (xs : List X) (x : X) → Contains (y ∷ xs) x → (y ≡ x) ⊎ Contains xs x
+split y xs x (zero, within, is) = inl is
+split y xs x (suc k, within, is) = inr (k, omega arith, is)
+
+none : {X : Type 0} (x : X) → Contains {X = X} [] x → ⊥
+none x (k, within, is) = omega arith
 
 to_sys : (a b : List ℕ) → IsRoleGranted opening_role_grants a b → a ≡ sys
 to_sys a b (admin, has) = elim (split (sys, audit_admin, true) ((sys, audit_viewer, true) ∷ []) (a, b, admin) has) [
@@ -334,8 +357,8 @@ not_sys a b (admin, has) is = elim (split (sys, audit_admin, true) ((sys, audit_
 opening_no_circle : HasNoCircle opening_role_grants
 opening_no_circle name holds =
     let to = first_grant opening_role_grants name name holds.0 holds.1 in
-    let from = last opening_role_grants name name holds in
-    not_sys from.0 name from.2 (to_sys name to.0 to.1)
+    let from = last_grant opening_role_grants name name holds.0 holds.1 in
+    not_sys from.0 name from.1 (to_sys name to.0 to.1)
 
 opening_orderly : (password : List ℕ) → IsOrderly (opening password)
 opening_orderly password = record {
@@ -355,5 +378,5 @@ opening_orderly password = record {
   ends = (refl, (omega arith, omega arith, omega arith, omega arith));
 }
 
-pub opening_leads : (password : List ℕ) → IsReplayable nothing (image_of (opening password)) × (after_frame nothing (image_of (opening password)) ≡ opening password)
-opening_leads password = image_leads (opening password) (opening_lawful password) (opening_orderly password)
+pub opening_leads : ComeBack → (password : List ℕ) → IsReplayable nothing (image_of (opening password)) × (after_frame nothing (image_of (opening password)) ≡ opening password)
+opening_leads back password = image_leads back (opening password) (opening_lawful password) (opening_orderly password)

@@ -14,12 +14,12 @@ use Rattle.au_catalog.specs.declared.policy.AuditPolicy.{AuditPolicy}
 use Rattle.au_catalog.specs.declared.policy.Evaluate.{Evaluate}
 use Rattle.au_catalog.specs.declared.trail_record.Record.{Record}
 use Rattle.au_catalog.specs.Changing.{changed, changed_all, put_in_order, with_tree}
+use Rattle.au_priv.specs.declared.change.GrantChange.{GrantChange}
 use Rattle.au_priv.specs.declared.change.GrantChange.TheVariants as grant
-use Rattle.au_priv.specs.Changing.{with_admin}
+use Rattle.au_priv.specs.Changing.{applied, with_admin}
 use Rattle.au_priv.specs.Holding.{grants_privilege, grants_role}
 use Rattle.au_priv.specs.Order.{AreInOrder, comes_before, is_in_order, placed, role_before, system_before}
-use Rattle.au_priv.specs.Rights.{RoleEntry, SystemEntry}
-use Rattle.au_priv.proofs.Ordered.{applied_in_order}
+use Rattle.au_priv.specs.Rights.{Grants, RoleEntry, SystemEntry}
 use Rattle.rec_codec.specs.Changes.{IsChangeSpellable, change, role_grant, system_grant}
 use Rattle.rec_codec.specs.Frames.{body}
 use Rattle.rec_codec.specs.Parts.{stamp, truth}
@@ -86,8 +86,12 @@ pub record HasLawfulParts (kept : Kept) : Type 0 where
   pub ordered : is_in_order comes_before (policy_names kept.policies) ≡ true
   pub unreserved : AllByRecursion (λ name. name ≢ ora_mandatory) (policy_names kept.policies)
 
-one_lawful : (image : Bool) (c : Change) (kept : Kept) → HasLawfulParts kept → IsChangeSpellable c → GoesOn image kept c → HasLawfulParts (changed unread_condition c kept)
-one_lawful image (User name verifier) kept h spelled goes = record {
+-- that grants stand in order after any change, as the public law of grants says it
+abbrev pub KeepsOrder : Type 0
+KeepsOrder = (grants : Grants) (change : GrantChange) → AreInOrder grants → AreInOrder (applied change grants)
+
+one_lawful : KeepsOrder → (image : Bool) (c : Change) (kept : Kept) → HasLawfulParts kept → IsChangeSpellable c → GoesOn image kept c → HasLawfulParts (changed unread_condition c kept)
+one_lawful keeps image (User name verifier) kept h spelled goes = record {
   instance = h.instance;
   users = all_put (λ (x : List ℕ × List ℕ). IsChangeSpellable (user_change x)) _ (name, verifier) kept.users spelled h.users;
   roles = h.roles;
@@ -100,7 +104,7 @@ one_lawful image (User name verifier) kept h spelled goes = record {
   ordered = h.ordered;
   unreserved = h.unreserved;
 }
-one_lawful image (Role name) kept h spelled goes = record {
+one_lawful keeps image (Role name) kept h spelled goes = record {
   instance = h.instance;
   users = h.users;
   roles = all_put (λ (x : List ℕ). IsChangeSpellable (role_change x)) _ name kept.roles spelled h.roles;
@@ -113,7 +117,7 @@ one_lawful image (Role name) kept h spelled goes = record {
   ordered = h.ordered;
   unreserved = h.unreserved;
 }
-one_lawful image (SysGrant grantee p admin) kept h spelled goes = record {
+one_lawful keeps image (SysGrant grantee p admin) kept h spelled goes = record {
   instance = h.instance;
   users = h.users;
   roles = h.roles;
@@ -121,12 +125,12 @@ one_lawful image (SysGrant grantee p admin) kept h spelled goes = record {
   role_grants = h.role_grants;
   policies = h.policies;
   enabled = h.enabled;
-  grants = applied_in_order kept.grants (grant.SystemGrant grantee p admin) h.grants;
+  grants = keeps kept.grants (grant.SystemGrant grantee p admin) h.grants;
   plain = h.plain;
   ordered = h.ordered;
   unreserved = h.unreserved;
 }
-one_lawful image (RoleGrant grantee role admin) kept h spelled goes = record {
+one_lawful keeps image (RoleGrant grantee role admin) kept h spelled goes = record {
   instance = h.instance;
   users = h.users;
   roles = h.roles;
@@ -134,12 +138,12 @@ one_lawful image (RoleGrant grantee role admin) kept h spelled goes = record {
   role_grants = role_at (grants_role grantee role) (grantee, role, admin) kept.grants.role (list_any (grants_role grantee role) kept.grants.role) spelled h.role_grants;
   policies = h.policies;
   enabled = h.enabled;
-  grants = applied_in_order kept.grants (grant.RoleGrant grantee role admin) h.grants;
+  grants = keeps kept.grants (grant.RoleGrant grantee role admin) h.grants;
   plain = h.plain;
   ordered = h.ordered;
   unreserved = h.unreserved;
 }
-one_lawful image (Policy name privileges actions roles when) kept h spelled goes =
+one_lawful keeps image (Policy name privileges actions roles when) kept h spelled goes =
     let new : AuditPolicy = record { name = name; privileges = privileges; actions = actions; roles = roles; when = with_tree unread_condition when } in
     record {
       instance = h.instance;
@@ -156,7 +160,7 @@ one_lawful image (Policy name privileges actions roles when) kept h spelled goes
       unreserved = all_mapped (λ (n : List ℕ). n ≢ ora_mandatory) (λ (p : AuditPolicy). p.name) _ (all_put (λ (p : AuditPolicy). p.name ≢ ora_mandatory) _ new kept.policies goes.0
           (all_unmapped (λ (n : List ℕ). n ≢ ora_mandatory) (λ (p : AuditPolicy). p.name) kept.policies h.unreserved));
     }
-one_lawful image (Enable policy enabled) kept h spelled goes = record {
+one_lawful keeps image (Enable policy enabled) kept h spelled goes = record {
   instance = h.instance;
   users = h.users;
   roles = h.roles;
@@ -169,7 +173,7 @@ one_lawful image (Enable policy enabled) kept h spelled goes = record {
   ordered = h.ordered;
   unreserved = h.unreserved;
 }
-one_lawful image (Start instance) kept h spelled goes = record {
+one_lawful keeps image (Start instance) kept h spelled goes = record {
   instance = goes.0;
   users = h.users;
   roles = h.roles;
@@ -183,11 +187,11 @@ one_lawful image (Start instance) kept h spelled goes = record {
   unreserved = h.unreserved;
 }
 
-all_lawful : (image : Bool) (changes : List Change) (kept : Kept) → HasLawfulParts kept → AllByRecursion IsChangeSpellable changes → AllGoOn image kept changes
+all_lawful : KeepsOrder → (image : Bool) (changes : List Change) (kept : Kept) → HasLawfulParts kept → AllByRecursion IsChangeSpellable changes → AllGoOn image kept changes
     → HasLawfulParts (changed_all unread_condition changes kept)
-all_lawful image [] kept h spelled goes = h
-all_lawful image (c ∷ changes) kept h spelled goes =
-    all_lawful image changes (changed unread_condition c kept) (one_lawful image c kept h spelled.0 goes.0) spelled.1 goes.1
+all_lawful keeps image [] kept h spelled goes = h
+all_lawful keeps image (c ∷ changes) kept h spelled goes =
+    all_lawful keeps image changes (changed unread_condition c kept) (one_lawful keeps image c kept h spelled.0 goes.0) spelled.1 goes.1
 
 lawful_parts : (kept : Kept) → IsLawful kept → HasLawfulParts kept
 lawful_parts kept h = record {
@@ -205,11 +209,11 @@ lawful_parts kept h = record {
 }
 
 -- what is kept is lawful after a frame with these parts
-pub with_lawful : (image : Bool) (kept : Kept) (s : Stamp) (changes : List Change) (records : List Record) → IsLawful kept → s.0 ≤ LAST_MOMENT
+pub with_lawful : KeepsOrder → (image : Bool) (kept : Kept) (s : Stamp) (changes : List Change) (records : List Record) → IsLawful kept → s.0 ≤ LAST_MOMENT
     → AllByRecursion IsChangeSpellable changes → AllByRecursion trail_record.IsSpellable records → AllGoOn image kept changes → EndsWell (changed_all unread_condition changes kept)
     → IsLawful (kept_with kept s changes records)
-with_lawful image kept s changes records lawful moment spelled recorded goes ends =
-    let h = all_lawful image changes kept (lawful_parts kept lawful) spelled goes in
+with_lawful keeps image kept s changes records lawful moment spelled recorded goes ends =
+    let h = all_lawful keeps image changes kept (lawful_parts kept lawful) spelled goes in
     record {
       last = moment;
       instance = h.instance;
@@ -232,9 +236,9 @@ unfolding stamp
 moment_written s h = leb-true s.0 LAST_MOMENT h.1
 
 -- what changes that go on make is lawful, with the records of a frame that can be written
-pub parts_lawful : (image : Bool) (kept made : Kept) (s : Stamp) (changes : List Change) (records : List Record) → IsLawful kept → body.IsSpellable (s, (changes, records)) → PartsGoOn image kept s changes
+pub parts_lawful : KeepsOrder → (image : Bool) (kept made : Kept) (s : Stamp) (changes : List Change) (records : List Record) → IsLawful kept → body.IsSpellable (s, (changes, records)) → PartsGoOn image kept s changes
     → made ≡ changed_all unread_condition changes kept → IsLawful (record made { trail = kept.trail ++ records; last = s })
 unfolding body change
-parts_lawful image kept made s changes records lawful spelled goes is =
+parts_lawful keeps image kept made s changes records lawful spelled goes is =
     subst (λ (k : Kept). IsLawful (record k { trail = kept.trail ++ records; last = s })) (sym is)
-    (with_lawful image kept s changes records lawful (moment_written s spelled.0) spelled.1.0.1 spelled.1.1.1 goes.changes goes.ends)
+    (with_lawful keeps image kept s changes records lawful (moment_written s spelled.0) spelled.1.0.1 spelled.1.1.1 goes.changes goes.ends)

@@ -1,6 +1,7 @@
 -- What a step, a run and a history come to is one.
 use Rattle.std.proofs.Common.{◌≡◌, ◌∙◌, ℕ, List, [], ◌∷◌, refl, sym, ap, subst, inl, inr}
 use Rattle.std.specs.Prelude.{Option, Some, None, MatchOption, Result}
+use Rattle.au_base.specs.declared.action.Action.{Action}
 use Rattle.au_base.specs.declared.action.Action.TheVariants.{Select}
 use Rattle.au_base.specs.declared.ask.Ask.{Ask}
 use Rattle.au_base.specs.declared.ask.Ask.TheVariants.{Local, Logon, Sql, Logoff}
@@ -12,8 +13,9 @@ use Rattle.au_base.specs.declared.table.TableName.{TableName}
 use Rattle.au_catalog.specs.declared.policy.AuditPolicy.{AuditPolicy}
 use Rattle.au_catalog.specs.declared.policy.Enabled.{Enabled}
 use Rattle.au_catalog.specs.Demand.{enablement_of}
+use Rattle.au_priv.specs.declared.allowed.Allowed.{Allowed}
 use Rattle.au_priv.specs.declared.grants.Grants.{Grants}
-use Rattle.au_priv.proofs.Answers.{exactly}
+use Rattle.au_priv.specs.Allowing.{AllowedIs}
 use Rattle.au_engine.specs.declared.decision.Decision.{Decision}
 use Rattle.au_engine.specs.declared.form.BuiltForm.{BuiltForm}
 use Rattle.au_engine.specs.declared.form.BuiltForm.TheVariants.{SelectNumber, CountTrail, AuditAll, NoauditAll}
@@ -29,10 +31,17 @@ use Rattle.au_engine.specs.Reading.{IsUnbuilt, ReadsForm, form_of, unread, not_b
 use Rattle.au_engine.specs.State.{State, stamp_of}
 use Rattle.au_engine.specs.Step.{Event, Logged, LoggedStep, SessionStep, StatementStep, StepAt, after_statement, nothing_logged, session_of, statement_logged}
 
+-- that texts have one reading, and rights one answer, as the public laws of readings and rights say it
+pub record Determined : Type 0 where
+  pub statement : (text : List ℕ) (x y : Statement) → Reads text x → Reads text y → x ≡ y
+  pub code : (text : List ℕ) (a b : Code) → IsUnread text a → IsUnread text b → a ≡ b
+  pub apart : (text : List ℕ) (x : Statement) (code : Code) → Reads text x → IsUnread text code → ⊥
+  pub allowed : (grants : Grants) (user : List ℕ) (table : TableName) (action : Action) (one other : Allowed) → AllowedIs grants user table action one → AllowedIs grants user table action other → one ≡ other
+
 -- a query of one table is decided once
-one_select : (grants : Grants) (user : List ℕ) (table : TableName) (a b : Decision) → DecidesSelect grants user table a → DecidesSelect grants user table b → a ≡ b
-one_select grants user table a b (right, is, x) (other, too, y) =
-    let same : right ≡ other = (exactly grants user table Select right is other).1 too in x ∙ ap by_right same ∙ sym y
+one_select : Determined → (grants : Grants) (user : List ℕ) (table : TableName) (a b : Decision) → DecidesSelect grants user table a → DecidesSelect grants user table b → a ≡ b
+one_select one grants user table a b (right, is, x) (other, too, y) =
+    let same : right ≡ other = one.allowed grants user table Select right other is too in x ∙ ap by_right same ∙ sym y
 
 -- the system privileges by which a user may change policies are determined
 one_use : (grants : Grants) (user : List ℕ) (a b : List Privilege) → MayAudit grants user a → MayAudit grants user b → a ≡ b
@@ -73,27 +82,21 @@ one_change grants policies enabled user policy makes a b (inr (used, may, x)) (i
     one_enabling policies enabled policy makes other a b (subst (λ (u : List Privilege). Enables policies enabled policy makes u a) (one_use grants user used other may too) x) y
 
 -- a statement is decided once
-pub one_decision : (grants : Grants) (policies : List AuditPolicy) (enabled : List (List ℕ × Enabled)) (user : List ℕ) (form : BuiltForm) (a b : Decision)
+pub one_decision : Determined → (grants : Grants) (policies : List AuditPolicy) (enabled : List (List ℕ × Enabled)) (user : List ℕ) (form : BuiltForm) (a b : Decision)
     → Decides grants policies enabled user form a → Decides grants policies enabled user form b → a ≡ b
-one_decision grants policies enabled user (SelectNumber number) a b x y = one_select grants user _ a b x y
-one_decision grants policies enabled user CountTrail a b x y = one_select grants user _ a b x y
-one_decision grants policies enabled user AuditAll a b x y = one_change grants policies enabled user _ _ a b x y
-one_decision grants policies enabled user NoauditAll a b x y = one_change grants policies enabled user _ _ a b x y
+one_decision one grants policies enabled user (SelectNumber number) a b x y = one_select one grants user _ a b x y
+one_decision one grants policies enabled user CountTrail a b x y = one_select one grants user _ a b x y
+one_decision one grants policies enabled user AuditAll a b x y = one_change grants policies enabled user _ _ a b x y
+one_decision one grants policies enabled user NoauditAll a b x y = one_change grants policies enabled user _ _ a b x y
 
-one_statement : (m : State) (session : Session) (form : BuiltForm) (text : List ℕ) (stamp : ℕ) (a b : Reply) (l o : Logged) (n k : State)
+one_statement : Determined → (m : State) (session : Session) (form : BuiltForm) (text : List ℕ) (stamp : ℕ) (a b : Reply) (l o : Logged) (n k : State)
     → StatementStep m session form text stamp a l n → StatementStep m session form text stamp b o k → (a ≡ b) × (l ≡ o) × (n ≡ k)
-one_statement m session form text stamp a b l o n k x y =
-    let same : x.decision ≡ y.decision = one_decision m.kept.grants m.kept.policies m.kept.enabled session.user form x.decision y.decision x.decides y.decides in (
+one_statement one m session form text stamp a b l o n k x y =
+    let same : x.decision ≡ y.decision = one_decision one m.kept.grants m.kept.policies m.kept.enabled session.user form x.decision y.decision x.decides y.decides in (
       x.replies ∙ ap (λ (d : Decision). reply_of _ form d.code) same ∙ sym y.replies,
       x.logs ∙ ap (λ (d : Decision). statement_logged m session stamp form text d) same ∙ sym y.logs,
       x.next ∙ ap (λ (d : Decision). after_statement m session stamp form text d) same ∙ sym y.next,
     )
-
--- that texts have one reading, as the public law of readings says it
-pub record OneReading : Type 0 where
-  pub statement : (text : List ℕ) (x y : Statement) → Reads text x → Reads text y → x ≡ y
-  pub code : (text : List ℕ) (a b : Code) → IsUnread text a → IsUnread text b → a ≡ b
-  pub apart : (text : List ℕ) (x : Statement) (code : Code) → Reads text x → IsUnread text code → ⊥
 
 given : BuiltForm → Option BuiltForm
 given form = Some form
@@ -106,52 +109,52 @@ no_form : (a : BuiltForm) → Some a ≡ None → ⊥
 no_form a h = cc
 
 -- a text is one built statement at most
-one_form : OneReading → (text : List ℕ) (a b : BuiltForm) → ReadsForm text a → ReadsForm text b → a ≡ b
+one_form : Determined → (text : List ℕ) (a b : BuiltForm) → ReadsForm text a → ReadsForm text b → a ≡ b
 unfolding given
 one_form one text a b r s = same_form a b (sym r.built ∙ ap form_of (one.statement text r.statement s.statement r.reads s.reads) ∙ s.built)
 
 -- and none where it is told to be none
-form_apart : OneReading → (text : List ℕ) (form : BuiltForm) (code : Code) → ReadsForm text form → IsUnbuilt text code → ⊥
+form_apart : Determined → (text : List ℕ) (form : BuiltForm) (code : Code) → ReadsForm text form → IsUnbuilt text code → ⊥
 form_apart one text form code r (unread u) = one.apart text r.statement code r.reads u
 form_apart one text form code r (not_built {statement = x} reads none) = no_form form (sym r.built ∙ ap form_of (one.statement text r.statement x r.reads reads) ∙ none)
 
-one_unbuilt : OneReading → (text : List ℕ) (a b : Code) → IsUnbuilt text a → IsUnbuilt text b → a ≡ b
+one_unbuilt : Determined → (text : List ℕ) (a b : Code) → IsUnbuilt text a → IsUnbuilt text b → a ≡ b
 one_unbuilt one text a b (unread u) (unread v) = one.code text a b u v
 one_unbuilt one text a b (unread u) (not_built {statement = x} reads none) = absurd (one.apart text x a reads u)
 one_unbuilt one text a b (not_built {statement = x} reads none) (unread v) = absurd (one.apart text x b reads v)
 one_unbuilt one text a b (not_built reads none) (not_built also nor) = refl
 
-one_text : OneReading → (m : State) (session : Session) (text : List ℕ) (stamp : ℕ) (a b : Reply) (l o : Logged) (n k : State)
+one_text : Determined → (m : State) (session : Session) (text : List ℕ) (stamp : ℕ) (a b : Reply) (l o : Logged) (n k : State)
     → SessionStep m session text stamp a l n → SessionStep m session text stamp b o k → (a ≡ b) × (l ≡ o) × (n ≡ k)
 one_text one m session text stamp a b l o n k (inl x) (inl y) =
-    one_statement m session y.form text stamp a b l o n k
+    one_statement one m session y.form text stamp a b l o n k
     (subst (λ (f : BuiltForm). StatementStep m session f text stamp a l n) (one_form one text x.form y.form x.reads y.reads) x.step) y.step
 one_text one m session text stamp a b l o n k (inl x) (inr y) = absurd (form_apart one text x.form y.code x.reads y.unread)
 one_text one m session text stamp a b l o n k (inr x) (inl y) = absurd (form_apart one text y.form x.code y.reads x.unread)
 one_text one m session text stamp a b l o n k (inr x) (inr y) =
     (x.replies ∙ ap code_reply (one_unbuilt one text x.code y.code x.unread y.unread) ∙ sym y.replies, x.logs ∙ sym y.logs, x.same ∙ sym y.same)
 
-one_of_session : OneReading → (m : State) (found : Option Session) (text : List ℕ) (stamp : ℕ) (refusal a b : Reply) (l o : Logged) (n k : State)
+one_of_session : Determined → (m : State) (found : Option Session) (text : List ℕ) (stamp : ℕ) (refusal a b : Reply) (l o : Logged) (n k : State)
     → MatchOption found ((a ≡ refusal) × (l ≡ nothing_logged) × (n ≡ m)) (λ session. SessionStep m session text stamp a l n)
     → MatchOption found ((b ≡ refusal) × (o ≡ nothing_logged) × (k ≡ m)) (λ session. SessionStep m session text stamp b o k) → (a ≡ b) × (l ≡ o) × (n ≡ k)
 one_of_session one m None text stamp refusal a b l o n k x y = (x.0 ∙ sym y.0, x.1 ∙ sym y.1, x.2 ∙ sym y.2)
 one_of_session one m (Some session) text stamp refusal a b l o n k x y = one_text one m session text stamp a b l o n k x y
 
 -- a step has one reply, leaves one thing to be kept, and has one next state
-pub one_logged : OneReading → (m n k : State) (client : ClientNo) (ask : Ask) (stamp : ℕ) (a b : Reply) (l o : Logged)
+pub one_logged : Determined → (m n k : State) (client : ClientNo) (ask : Ask) (stamp : ℕ) (a b : Reply) (l o : Logged)
     → LoggedStep m client ask stamp a l n → LoggedStep m client ask stamp b o k → (a ≡ b) × (l ≡ o) × (n ≡ k)
 one_logged one m n k client Local stamp a b l o x y = (x.0 ∙ sym y.0, x.1 ∙ sym y.1, x.2 ∙ sym y.2)
 one_logged one m n k client (Sql text) stamp a b l o x y = one_of_session one m (session_of m.sessions client) text stamp _ a b l o n k x y
 one_logged one m n k client (Logon user password) stamp a b l o x y = absurd x
 one_logged one m n k client Logoff stamp a b l o x y = absurd x
 
-pub one_step : OneReading → (m n k : State) (client : ClientNo) (ask : Ask) (stamp : ℕ) (a b : Reply)
+pub one_step : Determined → (m n k : State) (client : ClientNo) (ask : Ask) (stamp : ℕ) (a b : Reply)
     → StepAt m client ask stamp a n → StepAt m client ask stamp b k → (a ≡ b) × (n ≡ k)
 one_step one m n k client ask stamp a b x y =
     let same = one_logged one m n k client ask stamp a b x.0 y.0 x.1 y.1 in (same.0, same.2)
 
 -- a run has one list of replies and one end
-pub one_run : OneReading → (m n k : State) (events : List Event) (rs ss : List Reply) → Run m events rs n → Run m events ss k → (rs ≡ ss) × (n ≡ k)
+pub one_run : Determined → (m n k : State) (events : List Event) (rs ss : List Reply) → Run m events rs n → Run m events ss k → (rs ≡ ss) × (n ≡ k)
 one_run one m n k [] [] [] x y = (refl, x ∙ sym y)
 one_run one m n k (e ∷ es) (r ∷ rs) (s ∷ ss) x y =
     let first : (r ≡ s) × (x.0 ≡ y.0) = one_step one m x.0 y.0 e.client e.ask (stamp_of m e.reading) r s x.1 y.1 in
@@ -169,7 +172,7 @@ same_step m n c d a b p q r s ec ea ep er h =
     (subst (λ (x : ℕ). StepAt m c a (stamp_of m x) s n) ep (subst (λ (x : Reply). StepAt m c a (stamp_of m p) x n) er h)))
 
 -- runs with the same entries end in the same state
-one_end : OneReading → (m n k : State) (es fs : List Event) (rs ss : List Reply) → Run m es rs n → Run m fs ss k → entries_of es rs ≡ entries_of fs ss → n ≡ k
+one_end : Determined → (m n k : State) (es fs : List Event) (rs ss : List Reply) → Run m es rs n → Run m fs ss k → entries_of es rs ≡ entries_of fs ss → n ≡ k
 one_end one m n k [] [] [] [] x y same = x ∙ sym y
 one_end one m n k (e ∷ es) (f ∷ fs) (r ∷ rs) (s ∷ ss) x y same =
     let there : StepAt m f.client f.ask (stamp_of m f.reading) s x.0 = same_step m x.0 e.client f.client e.ask f.ask e.reading f.reading r s (cc) (cc) (cc) (cc) x.1 in
@@ -185,7 +188,7 @@ one_end one m n k (e ∷ es) [] (r ∷ rs) (s ∷ ss) x y same = absurd y
 one_end one m n k (e ∷ es) (f ∷ fs) (r ∷ rs) [] x y same = absurd y
 
 -- what happened leads to one state
-pub one_history : OneReading → (m n : State) (entries : List Entry) → IsHistory entries m → IsHistory entries n → m ≡ n
+pub one_history : Determined → (m n : State) (entries : List Entry) → IsHistory entries m → IsHistory entries n → m ≡ n
 one_history one m n (history.Opened k ∷ entries) x y =
     one_end one k m n x.events y.events x.replies y.replies x.run y.run (sym x.told ∙ y.told)
 one_history one m n (history.Stepped client ask reading reply ∷ entries) x y = absurd x

@@ -41,8 +41,7 @@ use Rattle.rec_codec.specs.Changes.{IsChangeSpellable, IsEnabledSpellable, enabl
 use Rattle.rec_codec.specs.Parts.{names, outcomes, privilege, privileges_in_order}
 use Rattle.rec_codec.specs.Records.{trail_record}
 use Rattle.sql_lex.specs.declared.token.Token.{Token}
-use Rattle.sql_lex.specs.Tokens.{StandInOrder}
-use Rattle.sql_lex.proofs.Leading.{in_order}
+use Rattle.sql_lex.specs.Tokens.{AreTokens}
 use Rattle.au_engine.specs.declared.decision.Decision.{Decision}
 use Rattle.au_engine.specs.declared.form.BuiltForm.{BuiltForm}
 use Rattle.au_engine.specs.declared.form.BuiltForm.TheVariants.{SelectNumber, CountTrail, AuditAll, NoauditAll}
@@ -63,22 +62,18 @@ use Rattle.au_engine.specs.Replaying.{AllGoOn, has_user, named_users}
 use Rattle.au_engine.specs.Staging.{ChangeEnablements, enabled_after}
 use Rattle.au_engine.specs.State.{State}
 use Rattle.au_engine.specs.Step.{Logged, LoggedStep, LocalStep, SessionStep, StatementStep, after_logon, after_refused_logon, after_statement, facts_of, is_crowded, is_idle, kept_after, last_after, logon_facts, logon_place, logon_records, next_number, no_session, nothing_logged, recorded, session_of, statement_logged, statement_place, with_counts}
-use Rattle.au_engine.proofs.Texts.{no_statement}
+use Rattle.au_engine.proofs.Texts.{no_statement, tokens_some}
 use Rattle.au_engine.proofs.Apart.{all_joined, all_kept}
 use Rattle.au_engine.proofs.Stages.{decided_changes, staged}
 use Rattle.au_engine.proofs.Written.{CanBeRecorded, IsObject, audsys_name, dual_name, name_written, p_all_name, records_written, sys_name, trail_name}
 
 -- a text that is some form has a byte at least
-behind_tokens : (start : ℕ) (ts : List Token) (end : ℕ) → StandInOrder start ts end → start ≤ end
-behind_tokens start [] end h = h
-behind_tokens start (t ∷ ts) end h = let more = behind_tokens t.to ts end h.2 in omega (arith, h.0, h.1)
-
-some_bytes : (text : List ℕ) (ts : List Token) (x : Statement) (n : ℕ) → IsStatement text ts x → StandInOrder 0 ts n → 1 ≤ n
-some_bytes text [] x n s h = absurd (no_statement text x s)
-some_bytes text (t ∷ ts) x n s h = let more = behind_tokens t.to ts n h.2 in omega (arith, h.0, h.1)
+some_bytes : (text : List ℕ) (ts : List Token) (x : Statement) → IsStatement text ts x → AreTokens text ts → 1 ≤ length text
+some_bytes text [] x s h = absurd (no_statement text x s)
+some_bytes text (t ∷ ts) x s h = tokens_some 0 text t ts (length text) [] h
 
 read_some : (text : List ℕ) (form : BuiltForm) → ReadsForm text form → 1 ≤ length text
-read_some text form r = let s = r.reads in some_bytes text s.tokens r.statement (length text) s.statement (in_order 0 text s.tokens (length text) [] s.cut)
+read_some text form r = let s = r.reads in some_bytes text s.tokens r.statement s.statement s.cut
 
 -- what a decision must be so that it can be written
 pub record CanBeLogged (decision : Decision) : Type 0 where

@@ -1,10 +1,13 @@
 -- Which records can be written.
-use Rattle.std.proofs.Common.{◌≡◌, ◌≢◌, ℕ, ◌≤◌, ◌<◌, ◌^◌, Bool, true, false, List, [], ◌∷◌, length, refl, arith}
-use Rattle.std.specs.Prelude.{Option, Some, None, IsUtf8, if◌then◌else◌}
-use Rattle.std.specs.List.{AllByRecursion, filter}
+use Rattle.std.proofs.Common.{◌≡◌, ◌≢◌, ℕ, ◌≤◌, ◌<◌, ◌^◌, Bool, true, false, List, [], ◌∷◌, length, get_or, refl, arith}
+use Rattle.std.specs.Prelude.{Option, Some, None, IsAscii, IsUtf8, nat_lt, if◌then◌else◌}
+use Rattle.std.specs.List.{AllByRecursion, filter, list_all}
 use Rattle.std.proofs.lemmas.Bool.{le-leb, and_from}
+use Rattle.std.proofs.lemmas.Bool.Decides.{nat_tests}
+use Rattle.std.proofs.lemmas.List.Elements.{All-get_or, All-from_get_or}
+use Rattle.std.proofs.lemmas.List.Sums.{AllPass-from_list_all}
 use Rattle.std.proofs.lemmas.Str.{IsUtf8-from_ascii}
-use Rattle.sql_lex.proofs.Digits.{word_ascii}
+use Rattle.std.proofs.lemmas.Str.Ascii.{IsAscii-from_all}
 use Rattle.au_base.specs.declared.calendar.TheConstants.{LAST_MOMENT}
 use Rattle.au_base.specs.declared.limits.TheConstants.{CATALOG_OBJECTS}
 use Rattle.au_base.specs.declared.numbers.Stamp.{Stamp}
@@ -28,23 +31,34 @@ use Rattle.au_engine.specs.Lawful.{IsLawful, ora_mandatory, policy_names}
 use Rattle.au_engine.specs.Opening.{p_all}
 use Rattle.au_engine.proofs.Apart.{AreApart, all_kept, all_mapped, all_placed, all_unmapped, all_weaker, apart_in_order, kept_apart, length_kept, length_placed, no_repeats, placed_apart}
 
+-- a byte of ASCII
+abbrev pub is_ascii : ℕ → Bool
+is_ascii b = nat_lt b 128
+
+ascii_byte : (b : ℕ) → is_ascii b ≡ true → b < 128
+ascii_byte b h = grind (arith, nat_tests)
+
+pub ascii : (text : List ℕ) → list_all is_ascii text ≡ true → IsAscii text
+ascii text h =
+    IsAscii-from_all text (All-from_get_or (λ b. b < 128) text 0 (λ i inside. ascii_byte (get_or text i 0) (All-get_or (λ x. is_ascii x ≡ true) text i 0 inside (AllPass-from_list_all is_ascii text h))))
+
 pub sys_name : IsName sys
-sys_name = (record { some = omega arith; capped = omega arith }, IsUtf8-from_ascii sys (word_ascii sys refl))
+sys_name = (record { some = omega arith; capped = omega arith }, IsUtf8-from_ascii sys (ascii sys refl))
 
 pub audsys_name : IsName trail.owner
-audsys_name = (record { some = omega arith; capped = omega arith }, IsUtf8-from_ascii trail.owner (word_ascii trail.owner refl))
+audsys_name = (record { some = omega arith; capped = omega arith }, IsUtf8-from_ascii trail.owner (ascii trail.owner refl))
 
 pub dual_name : IsName dual.name
-dual_name = (record { some = omega arith; capped = omega arith }, IsUtf8-from_ascii dual.name (word_ascii dual.name refl))
+dual_name = (record { some = omega arith; capped = omega arith }, IsUtf8-from_ascii dual.name (ascii dual.name refl))
 
 pub trail_name : IsName trail.name
-trail_name = (record { some = omega arith; capped = omega arith }, IsUtf8-from_ascii trail.name (word_ascii trail.name refl))
+trail_name = (record { some = omega arith; capped = omega arith }, IsUtf8-from_ascii trail.name (ascii trail.name refl))
 
 pub p_all_name : IsName p_all
-p_all_name = (record { some = omega arith; capped = omega arith }, IsUtf8-from_ascii p_all (word_ascii p_all refl))
+p_all_name = (record { some = omega arith; capped = omega arith }, IsUtf8-from_ascii p_all (ascii p_all refl))
 
 pub mandatory_name : IsName ora_mandatory
-mandatory_name = (record { some = omega arith; capped = omega arith }, IsUtf8-from_ascii ora_mandatory (word_ascii ora_mandatory refl))
+mandatory_name = (record { some = omega arith; capped = omega arith }, IsUtf8-from_ascii ora_mandatory (ascii ora_mandatory refl))
 
 pub name_written : (bytes : List ℕ) → IsName bytes → name.IsSpellable bytes
 unfolding name

@@ -43,7 +43,7 @@ use au_base::{
     TableName, Text,
 };
 use au_catalog::{Catalog, Change, Kept, Record};
-use au_priv::Grants;
+use au_priv::{Grants, changes_keep_order};
 use rec_codec::Frame;
 use sql_ast::Statement;
 use std::alloc::Global;
@@ -354,6 +354,7 @@ impl Engine {
         match self.draft(alloc, image, stamp, changes.as_slice())? {
             None => Ok(false),
             Some(draft) => {
+                changes_keep_order();
                 self.take(stamp, draft, records)?;
                 Ok(true)
             }
@@ -378,6 +379,7 @@ impl Engine {
         if !self.goes_on_at(stamp) {
             return Ok(false);
         }
+        changes_keep_order();
         self.append(stamp, records)?;
         Ok(true)
     }

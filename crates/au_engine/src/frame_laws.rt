@@ -13,6 +13,8 @@ ghost use Rattle.au_engine.specs.Replaying.{EndsWell};
 ghost use Rattle.au_engine.specs.Returning.{IsOrderly, LeadsTo, start_frame};
 ghost use Rattle.au_engine.specs.State.{IsStampOf, State, start};
 
+use au_priv::grants_in_order_come_back;
+
 /// The frame that a step writes goes on from what is kept before it, and gives what is kept after
 /// it; a step that writes none leaves what is kept. That SYS is a user and that there is no more of
 /// anything than there may be stays so.
@@ -26,7 +28,9 @@ pub fn frames_lead_on()
 pub fn images_come_back()
     ensures kept { (kept : Kept) → IsLawful kept → IsOrderly kept → LeadsTo nothing (Option.Some (image_of kept)) kept }
     ensures opening { (password : List ℕ) → LeadsTo nothing (Option.Some (image_of (opening password))) (opening password) }
-{}
+{
+    grants_in_order_come_back();
+}
 
 /// The event with which an instance begins goes on from what is kept, and gives what is kept then.
 pub fn starts_lead_on()

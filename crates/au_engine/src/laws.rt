@@ -7,6 +7,7 @@ ghost use Rattle.au_engine.specs.History.{Entry, IsHistory, Opened, Run, stepped
 ghost use Rattle.au_engine.specs.State.{State};
 ghost use Rattle.au_engine.specs.Step.{Event, Logged, LoggedStep, Step, StepAt};
 
+use au_priv::rights_have_one_answer;
 use sql_parse_admin::one_reading;
 
 /// A store that was just opened has a history, which goes on by each step from where it ends. Two
@@ -26,4 +27,5 @@ pub fn one_result()
     ensures history { (m n : State) (entries : List Entry) → IsHistory entries m → IsHistory entries n → m ≡ n }
 {
     one_reading();
+    rights_have_one_answer();
 }

@@ -1,11 +1,33 @@
-use Rattle.std.proofs.Common.{◌≡◌, ◌<◌, ◌⊎◌, ℕ, suc, zero, inl, inr, Bool, true, List, length, get_or, take, refl, sym, ap, subst, ◌∙◌, arith}
-use Rattle.std.specs.List.{Contains, filter}
+use Rattle.std.proofs.Common.{◌≡◌, ◌<◌, ◌⊎◌, ℕ, suc, zero, inl, inr, Bool, true, false, cond, List, [], ◌∷◌, length, get_or, take, refl, sym, ap, subst, ◌∙◌, arith}
+use Rattle.std.specs.List.{Contains, filter, list_all}
+use Rattle.std.proofs.lemmas.Bool.{and_parts}
 use Rattle.std.proofs.lemmas.List.{get_or-take, get_or_read_under, length-take}
 use Rattle.au_base.specs.Order.{IsNewAmong, IsTransitive, is_in_order, name_before}
 use Rattle.au_base.specs.OrderLaws.{names_transitive}
-use Rattle.au_base.proofs.Members.{passes}
-use Rattle.au_base.proofs.Placing.{before_later}
 use Rattle.trials_base.proofs.order.is_new_among.Goals as goal
+
+-- what a filter keeps passes its test
+passes_at : {X : Type 0} (test : X → Bool) (y : X) (rest : List X) (x : X) (b : Bool) → test y ≡ b → (Contains rest x → test x ≡ true) → Contains (cond b (y ∷ rest) rest) x → test x ≡ true
+passes_at test y rest x true is more (zero, within, same) = ap test (sym same) ∙ is
+passes_at test y rest x true is more (suc k, within, same) = more (k, omega arith, same)
+passes_at test y rest x false is more has = more has
+
+passes : {X : Type 0} (test : X → Bool) (xs : List X) (x : X) → Contains (filter test xs) x → test x ≡ true
+passes test [] x (k, within, same) = absurd (omega arith)
+passes test (y ∷ xs) x has = passes_at test y (filter test xs) x (test y) refl (passes test xs x) has
+
+-- each element of a list in order comes before each later one
+all_at : {X : Type 0} (test : X → Bool) (xs : List X) → list_all test xs ≡ true → (k : ℕ) (d : X) → k < length xs → test (get_or xs k d) ≡ true
+all_at test [] all k d within = absurd (omega arith)
+all_at test (y ∷ xs) all zero d within = (and_parts (test y) (list_all test xs) all).0
+all_at test (y ∷ xs) all (suc k) d within = all_at test xs (and_parts (test y) (list_all test xs) all).1 k d (omega arith)
+
+before_later : {X : Type 0} (before : X → X → Bool) (xs : List X) → is_in_order before xs ≡ true
+    → (i j : ℕ) (d : X) → i < j → j < length xs → before (get_or xs i d) (get_or xs j d) ≡ true
+before_later before [] ordered i j d one within = absurd (omega arith)
+before_later before (x ∷ xs) ordered i zero d one within = absurd (omega arith)
+before_later before (x ∷ xs) ordered zero (suc j) d one within = all_at (before x) xs (and_parts (list_all (before x) xs) (is_in_order before xs) ordered).0 j d (omega arith)
+before_later before (x ∷ xs) ordered (suc i) (suc j) d one within = before_later before xs (and_parts (list_all (before x) xs) (is_in_order before xs) ordered).1 i j d (omega arith) (omega arith)
 
 place_cases : (i j : ℕ) → (i < j) ⊎ ((i ≡ j) ⊎ (j < i))
 place_cases zero zero = inr (inl refl)

@@ -17,7 +17,7 @@ pub take-requires-clause-lawful : goal.take-requires-clause-lawful
 take-requires-clause-lawful c =
     let kept = c.args.self.now.state.kept in
     let made = rw (c.in-Some.is, c.as_slice.ensures) at c.in_ok-draft.ensures.made in
-    parts_lawful c.args.image kept (drafted c.in-Some.draft kept) c.args.stamp c.args.changes c.args.records c.in_ok-draft.ensures.lawful c.requires made.0 made.1
+    parts_lawful c.changes_keep_order.ensures c.args.image kept (drafted c.in-Some.draft kept) c.args.stamp c.args.changes c.args.records c.in_ok-draft.ensures.lawful c.requires made.0 made.1
 
 pub take-requires-clause-few : goal.take-requires-clause-few
 take-requires-clause-few c =

@@ -1,5 +1,5 @@
 use Rattle.au_turn.specs.Pass.{seen}
-use Rattle.au_turn.proofs.PassLaws.{went_once}
+use Rattle.trials_turn.proofs.PassSteps.{went_once}
 use Rattle.trials_turn.proofs.tests.workers.ask.Goals as goal
 
 pub give_back-requires-clause-value : goal.give_back-requires-clause-value

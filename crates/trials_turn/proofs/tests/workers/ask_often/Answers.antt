@@ -1,5 +1,5 @@
 use Rattle.std.proofs.Common.{rules}
-use Rattle.au_turn.proofs.PassLaws.{went_none, went_on}
+use Rattle.trials_turn.proofs.PassSteps.{went_none, went_on}
 use Rattle.trials_turn.proofs.tests.workers.ask_often.Goals as goal
 
 pub loop-number-init : goal.loop-number-init
