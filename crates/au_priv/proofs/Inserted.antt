@@ -24,9 +24,13 @@ cut test (x ∷ xs) (suc k) within front behind =
     let rest = cut test xs k (omega (arith, within)) (λ i d less. front (suc i) d (omega (arith, less))) (λ i d from to. behind (suc i) d (omega (arith, from)) (omega (arith, to))) in
     (ap (λ b. cond b (x ∷ filter test xs) (filter test xs)) passes ∙ ap (λ ys. x ∷ ys) rest.0, ap (λ b. cond (not b) (x ∷ filter (λ y. not (test y)) xs) (filter (λ y. not (test y)) xs)) passes ∙ rest.1)
 
+pub cut_at : {X : Type 0} (fields : X → List (List ℕ)) (entry : X) (xs : List X) (k : ℕ) → IsPlaceOf fields (fields entry) xs k
+    → (filter (λ x. fields_before (fields x) (fields entry)) xs ≡ take k xs) × (filter (λ x. not (fields_before (fields x) (fields entry))) xs ≡ drop k xs)
+cut_at fields entry xs k place = cut (λ x. fields_before (fields x) (fields entry)) xs k place.0 (λ i d less. place.1.0 i d (omega arith) less) (λ i d from to. place.1.1 i d from to)
+
 pub inserted : {X : Type 0} (fields : X → List (List ℕ)) (entry : X) (xs : List X) (k : ℕ) → IsPlaceOf fields (fields entry) xs k → insert xs k entry ≡ placed (λ a b. fields_before (fields a) (fields b)) entry xs
 inserted fields entry xs k place =
-    let parts = cut (λ x. fields_before (fields x) (fields entry)) xs k place.0 (λ i d less. place.1.0 i d (omega arith) less) (λ i d from to. place.1.1 i d from to) in
+    let parts = cut_at fields entry xs k place in
     λ j. sym parts.0 j ++ entry ∷ sym parts.1 j
 
 -- the same of a lent list

@@ -5,12 +5,16 @@ pub mod AtPlaces
 pub mod Chains
 pub mod Circles
 pub mod Entries
+pub mod Growths
 pub mod Halving
 pub mod Holders
 pub mod Inserted
 pub mod Limits
 pub mod Members
+pub mod Merging
+pub mod Moving
 pub mod Ordered
+pub mod Orders
 pub mod Reached
 pub mod Refusals
 pub mod Regranted

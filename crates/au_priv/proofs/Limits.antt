@@ -52,7 +52,7 @@ parts : {X : Type 0} (test : X → Bool) (xs : List X) → length (filter test x
 parts test [] = refl
 parts test (x ∷ xs) = parts_at x (filter test xs) (filter (λ y. not (test y)) xs) xs (test x) (parts test xs)
 
-placed_length : {X : Type 0} (before : X → X → Bool) (entry : X) (xs : List X) → length (placed before entry xs) ≡ length xs + 1
+pub placed_length : {X : Type 0} (before : X → X → Bool) (entry : X) (xs : List X) → length (placed before entry xs) ≡ length xs + 1
 placed_length before entry xs =
     let whole = parts (λ other. before other entry) xs in
     let all = joined_length (filter (λ other. before other entry) xs) (entry ∷ filter (λ other. not (before other entry)) xs) in

@@ -46,7 +46,7 @@ passes_at test y rest x true is more has = elim (split y rest x has) [
 ]
 passes_at test y rest x false is more has = more has
 
-passes : {X : Type 0} (test : X → Bool) (xs : List X) (x : X) → Contains (filter test xs) x → test x ≡ true
+pub passes : {X : Type 0} (test : X → Bool) (xs : List X) (x : X) → Contains (filter test xs) x → test x ≡ true
 passes test [] x has = absurd (none x has)
 passes test (y ∷ xs) x has = passes_at test y (filter test xs) x (test y) refl (passes test xs x) has
 
@@ -82,7 +82,7 @@ same_order before f same [] = refl
 same_order before f same (x ∷ xs) = λ i. same_firsts before f same x xs i && same_order before f same xs i
 
 -- the order of entries by their fields
-abbrev cmp_by : {X : Type 0} → (X → List (List ℕ)) → X → X → Ordering
+abbrev pub cmp_by : {X : Type 0} → (X → List (List ℕ)) → X → X → Ordering
 cmp_by fields = on fields (slice_cmp (slice_cmp nat_cmp))
 
 total_by : {X : Type 0} (fields : X → List (List ℕ)) → IsTotalOrder (cmp_by fields)
@@ -148,21 +148,21 @@ code_at : (a b : List (List ℕ)) (place : ℕ) → a ≡ b → get_or (get_or a
 code_at a b place same = ap (λ (list : List (List ℕ)). get_or (get_or list place []) 0 0) same
 
 -- an entry that the order doesn't tell from a grant passes the grant's test
-system_told : (grantee : Name) (privilege : Privilege) (admin : Bool) (x : SystemEntry) → is_eq (cmp_by system_fields x (grantee, privilege, admin)) ≡ true → grants_privilege grantee privilege x ≡ true
+pub system_told : (grantee : Name) (privilege : Privilege) (admin : Bool) (x : SystemEntry) → is_eq (cmp_by system_fields x (grantee, privilege, admin)) ≡ true → grants_privilege grantee privilege x ≡ true
 system_told grantee privilege admin x is =
     let same = same_fields (system_fields x) (system_fields (grantee, privilege, admin)) is in
     let grantees : x.0 ≡ grantee = field_at _ _ 0 same in
     let codes : privileges.code_of x.1 ≡ privileges.code_of privilege = code_at _ _ 1 same in
     and_from _ _ (same_name-to _ _ grantees) (nat_eq-to _ _ codes)
 
-role_told : (grantee role : Name) (admin : Bool) (x : RoleEntry) → is_eq (cmp_by role_fields x (grantee, role, admin)) ≡ true → grants_role grantee role x ≡ true
+pub role_told : (grantee role : Name) (admin : Bool) (x : RoleEntry) → is_eq (cmp_by role_fields x (grantee, role, admin)) ≡ true → grants_role grantee role x ≡ true
 role_told grantee role admin x is =
     let same = same_fields (role_fields x) (role_fields (grantee, role, admin)) is in
     let grantees : x.0 ≡ grantee = field_at _ _ 0 same in
     let roles : x.1 ≡ role = field_at _ _ 1 same in
     and_from _ _ (same_name-to _ _ grantees) (same_name-to _ _ roles)
 
-object_told : (grantee : Name) (table : TableName) (action : Action) (x : ObjectEntry) → is_eq (cmp_by object_fields x (grantee, table, action)) ≡ true → grants_object grantee table action x ≡ true
+pub object_told : (grantee : Name) (table : TableName) (action : Action) (x : ObjectEntry) → is_eq (cmp_by object_fields x (grantee, table, action)) ≡ true → grants_object grantee table action x ≡ true
 object_told grantee table action x is =
     let same = same_fields (object_fields x) (object_fields (grantee, table, action)) is in
     let grantees : x.0 ≡ grantee = field_at _ _ 0 same in
@@ -174,7 +174,7 @@ object_told grantee table action x is =
     (nat_eq-to _ _ codes)
 
 -- an entry that fails the grant's test is told from the grant
-told_apart : {X : Type 0} (fields : X → List (List ℕ)) (test : X → Bool) (entry : X) (xs : List X) → ((x : X) → is_eq (cmp_by fields x entry) ≡ true → test x ≡ true)
+pub told_apart : {X : Type 0} (fields : X → List (List ℕ)) (test : X → Bool) (entry : X) (xs : List X) → ((x : X) → is_eq (cmp_by fields x entry) ≡ true → test x ≡ true)
     → list_any test xs ≡ false → (x : X) → Contains xs x → is_eq (cmp_by fields x entry) ≡ false
 told_apart fields test entry xs told none_is x has = at (is_eq (cmp_by fields x entry)) refl
   where
@@ -183,7 +183,7 @@ told_apart fields test entry xs told none_is x has = at (is_eq (cmp_by fields x 
     at false is = refl
 
 -- the admin option isn't a field that orders
-admin_same : {X Y : Type 0} (fields : X × Y × Bool → List (List ℕ)) → ((x : X × Y × Bool) (a : Bool) → fields (x.0, x.1, a) ≡ fields x)
+pub admin_same : {X Y : Type 0} (fields : X × Y × Bool → List (List ℕ)) → ((x : X × Y × Bool) (a : Bool) → fields (x.0, x.1, a) ≡ fields x)
     → (test : X × Y × Bool → Bool) (admin : Bool) (x : X × Y × Bool) → fields (with_admin test admin x) ≡ fields x
 admin_same fields apart test admin x = at (test x)
   where

@@ -8,7 +8,7 @@ use Rattle.au_priv.specs.declared.grants.Grants.{Grants}
 use Rattle.au_priv.specs.declared.walking.Progress.{Progress}
 use Rattle.au_priv.specs.Changing.{applied_all}
 use Rattle.au_priv.specs.Pairs.{Pair}
-use Rattle.au_priv.specs.Walking.{Walked, AllPass, SomeRefused, made, made_all}
+use Rattle.au_priv.specs.Walking.{Walked, AllPass, RefusesPair, SomeRefused, made, made_all}
 
 pub applied_joined : (xs ys : List GrantChange) (grants : Grants) → applied_all (xs ++ ys) grants ≡ applied_all ys (applied_all xs grants)
 applied_joined [] ys grants = refl
@@ -134,3 +134,13 @@ pub more_in : {X : Type 0} (F : X → List Pair) (xs : List X) (i : ℕ) (item r
 more_in F xs i item read start mid end walked within before done third last =
     walked_more F xs i read start mid end within before
     (subst (λ (r : Result Progress Code). Walked mid (F (get_or xs i read)) r) last (subst (λ x. Walked mid (F x) walked) third done))
+
+-- one pair more, which isn't refused
+pub walked_one : (start end : Progress) (pair : Pair) (grants : Grants) → grants ≡ start.after → ((code : Code) → ¬ RefusesPair start.after pair code) → end.changes ≡ start.changes ++ made grants pair
+    → end.after ≡ applied_all (made grants pair) grants → Walked start (pair ∷ []) (Ok end)
+walked_one start end pair grants same free changes after =
+    let all : made grants pair ≡ made start.after pair ++ [] = ap (λ (g : Grants). made g pair) same ∙ sym (append-nil (made start.after pair)) in (
+      (free, tt),
+      changes ∙ ap (λ (list : List GrantChange). start.changes ++ list) all,
+      after ∙ ap (λ (g : Grants). applied_all (made grants pair) g) same ∙ ap (λ (list : List GrantChange). applied_all list start.after) all,
+    )

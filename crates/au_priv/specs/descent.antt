@@ -1,5 +1,6 @@
 pub mod Asking
 pub mod Editing
+pub mod Growing
 pub mod Halving
 pub mod Search
 pub mod Spared

@@ -208,7 +208,8 @@ fn grant_privilege(
     }
 }
 
-fn set_privilege_admin(
+/// Gives the grant this admin option, where it is there.
+pub fn set_privilege_admin(
     entries: &mut Vec<(Name, Privilege, bool)>,
     grantee: &Name,
     privilege: Privilege,
@@ -265,7 +266,13 @@ fn grant_role(entries: &mut Vec<(Name, Name, bool)>, grantee: Name, name: Name, 
     }
 }
 
-fn set_role_admin(entries: &mut Vec<(Name, Name, bool)>, grantee: &Name, name: &Name, admin: bool)
+/// Gives the grant this admin option, where it is there.
+pub fn set_role_admin(
+    entries: &mut Vec<(Name, Name, bool)>,
+    grantee: &Name,
+    name: &Name,
+    admin: bool,
+)
     requires order { IsTrue (is_in_order role_before entries.old.items) }
     ensures items { entries.new.items ≡ map (with_admin (grants_role grantee.now name.now) admin) entries.old.items }
     ensures capacity { vec_capacity entries.new ≡ vec_capacity entries.old }
@@ -325,8 +332,8 @@ fn add_object(
     insert_at(entries, place, (grantee, table, action));
 }
 
-// Inserts the entry at the place.
-fn insert_at<T: Drop>(entries: &mut Vec<T>, place: usize, entry: T)
+/// Inserts the entry at the place. There is room for it, and the call takes no memory.
+pub fn insert_at<T: Drop>(entries: &mut Vec<T>, place: usize, entry: T)
     requires place { place ≤ vec_len entries.old }
     requires room { vec_len entries.old < vec_capacity entries.old }
     ensures items { entries.new.items ≡ insert entries.old.items place entry }

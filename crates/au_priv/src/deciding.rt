@@ -10,8 +10,8 @@ ghost use Rattle.au_priv.specs.Rights.{HoldsPrivilege};
 
 use crate::allowing::refusal;
 use crate::change::GrantChange;
+use crate::course::Course;
 use crate::decided::{Decided, Known};
-use crate::draft::GrantDraft;
 use crate::grants::Grants;
 use crate::holding::has_right;
 use crate::pair::Way;
@@ -127,7 +127,7 @@ fn decide_right_pairs(
         return Ok((code, List::new(alloc)));
     }
     let start = Progress {
-        after: GrantDraft::of(case.grants.clone()?),
+        after: Course::of(alloc, case.grants.clone()?),
         changes: List::new(alloc),
     };
     match walk_rights(alloc, start, way, rights, grantees)? {
@@ -168,7 +168,7 @@ fn decide_object_pairs(
         return Ok((code, List::new(alloc)));
     }
     let start = Progress {
-        after: GrantDraft::of(case.grants.clone()?),
+        after: Course::of(alloc, case.grants.clone()?),
         changes: List::new(alloc),
     };
     match walk_object_rights(alloc, start, way, table, rights, grantees)? {

@@ -2,12 +2,12 @@
 ghost use Rattle.std.specs.Prelude.{◌≡◌, ◌∷◌, ◌++◌, ◌↔◌, [], IfOk, IsTrue, map, MatchOption, length};
 ghost use Rattle.std.specs.List.{filter, list_any};
 ghost use Rattle.au_base.specs.declared.code.Code.{Code};
+ghost use Rattle.au_priv.specs.Changing.{applied_all};
 ghost use Rattle.au_priv.specs.Pairs.{right_pair, object_pair, pairs};
 ghost use Rattle.au_priv.specs.Walking.{Walked, RefusesPair, Closes, ClosesCircle, IsOverLimit, is_effective, is_new, missing_code, made};
 
 use crate::change::GrantChange;
-use crate::direct::{has_object, has_privilege, has_privilege_as, has_role, has_role_as};
-use crate::draft::GrantDraft;
+use crate::course::Course;
 use crate::pair::{Way, changes_of_object_right, changes_of_right};
 use au_base::limits::GRANTS;
 use au_base::{Code, List, Memory, Name, ObjectRight, Right, TableName};
@@ -17,7 +17,7 @@ use std::alloc::Global;
 #[derive(Debug, Drop)]
 pub struct Progress {
     /// The grants after the changes.
-    pub after: GrantDraft,
+    pub after: Course,
     /// The changes.
     pub changes: List<GrantChange>,
 }
@@ -111,21 +111,35 @@ fn walk_pair(
 ) -> Result<Result<Progress, Code>, Memory>
     ensures { IfOk result (Walked start (pair.now ∷ [])) }
 {
-    if let Some(code) = pair_refusal(alloc, &start.after, pair)? {
-        return Ok(Err(code));
-    }
     let Progress { after, changes } = start;
+    let mut after = after;
+    match pair_refusal(alloc, &mut after, pair)? {
+        Some(code) => Ok(Err(code)),
+        None => Ok(Ok(walked_on(alloc, after, changes, pair)?)),
+    }
+}
+
+// How far a statement is done after one pair more, which isn't refused.
+fn walked_on(
+    alloc: Global,
+    after: Course,
+    changes: List<GrantChange>,
+    pair: &[GrantChange],
+) -> Result<Progress, Memory>
+    ensures changes { IfOk result (λ end. end.changes ≡ changes ++ made after pair.now) }
+    ensures after { IfOk result (λ end. end.after ≡ applied_all (made after pair.now) after) }
+{
     let made = effective(alloc, &after, pair)?;
     let after = after.after(made.as_slice())?;
-    Ok(Ok(Progress {
+    Ok(Progress {
         after,
         changes: joined(changes, made)?,
-    }))
+    })
 }
 
 fn effective(
     alloc: Global,
-    grants: &GrantDraft,
+    grants: &Course,
     pair: &[GrantChange],
 ) -> Result<List<GrantChange>, Memory>
     ensures { IfOk result (λ changes. changes ≡ made grants.now pair.now) }
@@ -150,19 +164,20 @@ fn joined(changes: List<GrantChange>, more: List<GrantChange>) -> Result<List<Gr
 
 fn pair_refusal(
     alloc: Global,
-    grants: &GrantDraft,
+    grants: &mut Course,
     pair: &[GrantChange],
 ) -> Result<Option<Code>, Memory>
-    ensures { IfOk result (λ found. MatchOption found ((code : Code) → ¬ RefusesPair grants.now pair.now code) (RefusesPair grants.now pair.now)) }
+    ensures refusal { IfOk result (λ found. MatchOption found ((code : Code) → ¬ RefusesPair grants.old pair.now code) (RefusesPair grants.old pair.now)) }
+    ensures same { grants.new ≡ grants.old }
 {
     if closes_circle(alloc, grants, pair)? {
         return Ok(Some(Code::CIRCULAR_ROLE_GRANT));
     }
-    Ok(open_refusal(grants, pair))
+    Ok(open_refusal(&*grants, pair))
 }
 
 // The refusal of a pair that closes no circle.
-fn open_refusal(grants: &GrantDraft, pair: &[GrantChange]) -> Option<Code>
+fn open_refusal(grants: &Course, pair: &[GrantChange]) -> Option<Code>
     requires { ¬ ClosesCircle grants.now.role pair.now }
     ensures { MatchOption result ((code : Code) → ¬ RefusesPair grants.now pair.now code) (RefusesPair grants.now pair.now) }
 {
@@ -175,8 +190,9 @@ fn open_refusal(grants: &GrantDraft, pair: &[GrantChange]) -> Option<Code>
     missing(pair)
 }
 
-fn closes_circle(alloc: Global, grants: &GrantDraft, pair: &[GrantChange]) -> Result<bool, Memory>
-    ensures { IfOk result (λ closes. IsTrue closes ↔ ClosesCircle grants.now.role pair.now) }
+fn closes_circle(alloc: Global, grants: &mut Course, pair: &[GrantChange]) -> Result<bool, Memory>
+    ensures closes { IfOk result (λ closes. IsTrue closes ↔ ClosesCircle grants.old.role pair.now) }
+    ensures same { grants.new ≡ grants.old }
 {
     for change in pair {
         if closes(alloc, grants, change)? {
@@ -186,8 +202,9 @@ fn closes_circle(alloc: Global, grants: &GrantDraft, pair: &[GrantChange]) -> Re
     Ok(false)
 }
 
-fn closes(alloc: Global, grants: &GrantDraft, change: &GrantChange) -> Result<bool, Memory>
-    ensures { IfOk result (λ closes. IsTrue closes ↔ Closes grants.now.role change.now) }
+fn closes(alloc: Global, grants: &mut Course, change: &GrantChange) -> Result<bool, Memory>
+    ensures closes { IfOk result (λ closes. IsTrue closes ↔ Closes grants.old.role change.now) }
+    ensures same { grants.new ≡ grants.old }
 {
     match change {
         GrantChange::RoleGrant(grantee, role, _) => grants.closes_circle(alloc, grantee, role),
@@ -195,17 +212,18 @@ fn closes(alloc: Global, grants: &GrantDraft, change: &GrantChange) -> Result<bo
     }
 }
 
-fn is_over_limit(grants: &GrantDraft, pair: &[GrantChange]) -> bool
+fn is_over_limit(grants: &Course, pair: &[GrantChange]) -> bool
     ensures { IsTrue result ↔ IsOverLimit grants.now pair.now }
 {
+    let (system, role, object) = grants.counts();
     let room = GRANTS
-        .saturating_sub(grants.system_grants().len())
-        .saturating_sub(grants.role_grants().len())
-        .saturating_sub(grants.object_grants().len());
+        .saturating_sub(system)
+        .saturating_sub(role)
+        .saturating_sub(object);
     room < new_count(grants, pair)
 }
 
-fn new_count(grants: &GrantDraft, pair: &[GrantChange]) -> usize
+fn new_count(grants: &Course, pair: &[GrantChange]) -> usize
     ensures { result ≡ length (filter (is_new grants.now) pair.now) }
 {
     pair.iter()
@@ -213,50 +231,46 @@ fn new_count(grants: &GrantDraft, pair: &[GrantChange]) -> usize
         .count()
 }
 
-fn has_some_effect(grants: &GrantDraft, pair: &[GrantChange]) -> bool
+fn has_some_effect(grants: &Course, pair: &[GrantChange]) -> bool
     ensures { result ≡ list_any (is_effective grants.now) pair.now }
 {
     pair.iter().any(|change| has_effect(grants, change))
 }
 
-fn has_effect(grants: &GrantDraft, change: &GrantChange) -> bool
+fn has_effect(grants: &Course, change: &GrantChange) -> bool
     ensures { result ≡ is_effective grants.now change.now }
 {
     match change {
         GrantChange::SystemGrant(grantee, privilege, admin) => {
-            !has_privilege_as(grants.system_grants(), grantee, *privilege, *admin)
+            !grants.has_privilege_as(grantee, *privilege, *admin)
         }
         GrantChange::SystemRevoke(grantee, privilege) => {
-            has_privilege(grants.system_grants(), grantee, *privilege)
+            grants.has_privilege(grantee, *privilege)
         }
         GrantChange::RoleGrant(grantee, role, admin) => {
-            !has_role_as(grants.role_grants(), grantee, role.as_str(), *admin)
+            !grants.has_role_as(grantee, role.as_str(), *admin)
         }
-        GrantChange::RoleRevoke(grantee, role) => {
-            has_role(grants.role_grants(), grantee, role.as_str())
-        }
+        GrantChange::RoleRevoke(grantee, role) => { grants.has_role(grantee, role.as_str()) }
         GrantChange::ObjectGrant(grantee, table, action) => {
-            !has_object(grants.object_grants(), grantee, table, *action)
+            !grants.has_object(grantee, table, *action)
         }
         GrantChange::ObjectRevoke(grantee, table, action) => {
-            has_object(grants.object_grants(), grantee, table, *action)
+            grants.has_object(grantee, table, *action)
         }
         _ => true,
     }
 }
 
-fn is_new_grant(grants: &GrantDraft, change: &GrantChange) -> bool
+fn is_new_grant(grants: &Course, change: &GrantChange) -> bool
     ensures { result ≡ is_new grants.now change.now }
 {
     match change {
         GrantChange::SystemGrant(grantee, privilege, _) => {
-            !has_privilege(grants.system_grants(), grantee, *privilege)
+            !grants.has_privilege(grantee, *privilege)
         }
-        GrantChange::RoleGrant(grantee, role, _) => {
-            !has_role(grants.role_grants(), grantee, role.as_str())
-        }
+        GrantChange::RoleGrant(grantee, role, _) => { !grants.has_role(grantee, role.as_str()) }
         GrantChange::ObjectGrant(grantee, table, action) => {
-            !has_object(grants.object_grants(), grantee, table, *action)
+            !grants.has_object(grantee, table, *action)
         }
         _ => false,
     }

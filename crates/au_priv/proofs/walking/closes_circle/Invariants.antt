@@ -5,4 +5,4 @@ use Rattle.au_priv.specs.Walking.{Closes}
 use Rattle.au_priv.proofs.walking.closes_circle.Given as goal
 
 abbrev pub invariant-loop-change : goal.invariant-loop-change
-invariant-loop-change l = (k : ℕ) (change : GrantChange) → k < l.change-index → slice_get l.pair k ≡ Some change → ¬ Closes l.grants.role change
+invariant-loop-change l = ((k : ℕ) (change : GrantChange) → k < l.change-index → slice_get l.pair k ≡ Some change → ¬ Closes l.fn.grants.role change) × (l.grants ≡ l.fn.grants)
