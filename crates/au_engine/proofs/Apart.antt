@@ -12,7 +12,7 @@ use Rattle.std.proofs.lemmas.Map.Made.{distinct_count-from_IsDistinct}
 use Rattle.au_priv.specs.Order.{comes_before, is_in_order}
 use Rattle.au_priv.proofs.Entries.{nat_eq-to, same_name-is, same_name-refl}
 use Rattle.rec_codec.specs.Spelling.{is_without_repeats}
-use Rattle.au_catalog.specs.Demand.{placed}
+use Rattle.au_entries.specs.Demand.{placed}
 
 pub all_joined : {X : Type 0} (P : X → Type 0) (xs ys : List X) → AllByRecursion P xs → AllByRecursion P ys → AllByRecursion P (xs ++ ys)
 all_joined P [] ys one two = two

@@ -7,13 +7,13 @@ use Rattle.std.proofs.lemmas.Bool.{leb-true}
 use Rattle.au_base.specs.declared.calendar.TheConstants.{LAST_MOMENT}
 use Rattle.au_base.specs.declared.limits.TheConstants.{INSTANCES}
 use Rattle.au_base.specs.declared.numbers.Stamp.{Stamp}
-use Rattle.au_catalog.specs.declared.change.Change.{Change}
-use Rattle.au_catalog.specs.declared.change.Change.TheVariants.{User, Role, SysGrant, RoleGrant, Policy, Enable, Start}
-use Rattle.au_catalog.specs.declared.kept.Kept.{Kept}
-use Rattle.au_catalog.specs.declared.policy.AuditPolicy.{AuditPolicy}
-use Rattle.au_catalog.specs.declared.policy.Evaluate.{Evaluate}
-use Rattle.au_catalog.specs.declared.trail_record.Record.{Record}
-use Rattle.au_catalog.specs.Changing.{changed, changed_all, put_in_order, with_tree}
+use Rattle.au_entries.specs.declared.change.Change.{Change}
+use Rattle.au_entries.specs.declared.change.Change.TheVariants.{User, Role, SysGrant, RoleGrant, Policy, Enable, Start}
+use Rattle.au_entries.specs.declared.kept.Kept.{Kept}
+use Rattle.au_entries.specs.declared.policy.AuditPolicy.{AuditPolicy}
+use Rattle.au_entries.specs.declared.policy.Evaluate.{Evaluate}
+use Rattle.au_entries.specs.declared.trail_record.Record.{Record}
+use Rattle.au_entries.specs.Changing.{changed, changed_all, put_in_order, with_tree}
 use Rattle.au_priv.specs.declared.change.GrantChange.TheVariants as grant
 use Rattle.au_priv.specs.Changing.{with_admin}
 use Rattle.au_priv.specs.Holding.{grants_privilege, grants_role}
@@ -182,6 +182,7 @@ one_lawful image (Start instance) kept h spelled goes = record {
   ordered = h.ordered;
   unreserved = h.unreserved;
 }
+one_lawful image _ kept h spelled goes = absurd goes
 
 all_lawful : (image : Bool) (changes : List Change) (kept : Kept) → HasLawfulParts kept → AllByRecursion IsChangeSpellable changes → AllGoOn image kept changes
     → HasLawfulParts (changed_all unread_condition changes kept)
