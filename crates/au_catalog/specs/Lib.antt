@@ -1,4 +1,4 @@
-pub mod Changing
-pub mod Demand
-pub mod Enabling
-pub mod Matching
+pub use Rattle.au_entries.specs.Changing
+pub use Rattle.au_entries.specs.Demand
+pub use Rattle.au_entries.specs.Enabling
+pub use Rattle.au_entries.specs.Matching

@@ -1,17 +1,7 @@
 //! What the catalogue has.
 
-use crate::fine_grained::FgaPolicy;
-use crate::policy::{AuditPolicy, Enabled};
-use au_base::{Column, List, Name, Stamp, TableName};
-
-/// A table that was created.
-#[derive(Debug, Drop, PartialEq, Eq)]
-pub struct Table {
-    pub name: TableName,
-    pub columns: List<Column>,
-    /// The places of the key's columns, from 0.
-    pub key: List<u32>,
-}
+use au_base::{List, Name, Stamp};
+use au_entries::{AuditPolicy, Enabled, FgaPolicy, Table};
 
 /// All that statements of definition change but grants. Each list is in the byte order of its
 /// names.

@@ -13,7 +13,7 @@ use Rattle.std.proofs.lemmas.Map.Made.{distinct_count-from_IsDistinct}
 use Rattle.std.proofs.lemmas.Slice.Eq.{bytes_eq-Decides}
 use Rattle.au_priv.specs.Order.{comes_before, is_in_order}
 use Rattle.rec_codec.specs.Spelling.{is_without_repeats}
-use Rattle.au_catalog.specs.Demand.{placed}
+use Rattle.au_entries.specs.Demand.{placed}
 
 pub all_joined : {X : Type 0} (P : X → Type 0) (xs ys : List X) → AllByRecursion P xs → AllByRecursion P ys → AllByRecursion P (xs ++ ys)
 all_joined P [] ys one two = two

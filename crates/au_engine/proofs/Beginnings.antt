@@ -6,7 +6,7 @@ use Rattle.au_base.specs.declared.limits.TheConstants.{INSTANCES}
 use Rattle.au_base.specs.declared.privilege.Privilege.{Privilege}
 use Rattle.au_base.specs.BuiltIn.{sys, audit_admin, audit_viewer}
 use Rattle.au_base.specs.Naming.{IsName}
-use Rattle.au_catalog.specs.declared.kept.Kept.{Kept}
+use Rattle.au_entries.specs.declared.kept.Kept.{Kept}
 use Rattle.rec_codec.specs.Changes.{IsChangeSpellable, parts, policy, role_grant, system_grant, user, when}
 use Rattle.rec_codec.specs.Parts.{action, names, privilege, privileges_in_order, table, truth, verifier}
 use Rattle.au_engine.specs.Image.{nothing, policy_change, role_grant_change, system_change, user_change}

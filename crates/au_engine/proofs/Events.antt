@@ -7,7 +7,7 @@ use Rattle.au_base.specs.declared.calendar.TheConstants.{LAST_MOMENT}
 use Rattle.au_base.specs.declared.limits.TheConstants.{INSTANCES}
 use Rattle.au_base.specs.declared.numbers.ClientNo.{ClientNo}
 use Rattle.au_base.specs.declared.reply.Reply.{Reply}
-use Rattle.au_catalog.specs.declared.kept.Kept.{Kept}
+use Rattle.au_entries.specs.declared.kept.Kept.{Kept}
 use Rattle.rec_codec.specs.declared.frame.Frame.TheVariants.{Event}
 use Rattle.rec_codec.specs.Changes.{IsChangeSpellable, change}
 use Rattle.rec_codec.specs.Frames.{IsSpellable, body}

@@ -3,10 +3,10 @@ use Rattle.std.proofs.Common.{◌≡◌, ◌∙◌, ℕ, ◌<◌, ◌≤◌, ◌
 use Rattle.std.specs.Prelude.{Option, Some, None, MatchOption}
 use Rattle.std.proofs.lemmas.List.{take_more, take_all, take-append-drop, drop_more}
 use Rattle.au_base.specs.declared.numbers.Stamp.{Stamp}
-use Rattle.au_catalog.specs.declared.change.Change.{Change}
-use Rattle.au_catalog.specs.declared.change.Change.TheVariants.{User, Role, SysGrant, RoleGrant, Policy, Enable, Start}
-use Rattle.au_catalog.specs.declared.kept.Kept.{Kept}
-use Rattle.au_catalog.specs.Changing.{changed, changed_all}
+use Rattle.au_entries.specs.declared.change.Change.{Change}
+use Rattle.au_entries.specs.declared.change.Change.TheVariants.{User, Role, SysGrant, RoleGrant, Policy, Enable, Start}
+use Rattle.au_entries.specs.declared.kept.Kept.{Kept}
+use Rattle.au_entries.specs.Changing.{changed, changed_all}
 use Rattle.au_engine.specs.declared.draft.Draft.{Draft}
 use Rattle.au_engine.specs.Drafting.{IsPlainChange, drafted}
 use Rattle.au_engine.specs.Replaying.{AllGoOn, EndsWell, GoesOn, PartsGoOn}
@@ -44,6 +44,7 @@ plain_change image kept (RoleGrant grantee role admin) goes = tt
 plain_change image kept (Policy name privileges actions roles when) goes = goes.1
 plain_change image kept (Enable policy enabled) goes = tt
 plain_change image kept (Start instance) goes = tt
+plain_change image kept _ goes = absurd goes
 
 -- a loop over the changes goes on by one that goes on
 pub follows_more : (image : Bool) (kept next made : Kept) (changes : List Change) (i : ℕ) (change : Change) → i < length changes → change ≡ get_or changes i change

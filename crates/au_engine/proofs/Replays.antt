@@ -7,13 +7,13 @@ use Rattle.std.proofs.lemmas.Bool.{leb-true}
 use Rattle.au_base.specs.declared.calendar.TheConstants.{LAST_MOMENT}
 use Rattle.au_base.specs.declared.limits.TheConstants.{INSTANCES}
 use Rattle.au_base.specs.declared.numbers.Stamp.{Stamp}
-use Rattle.au_catalog.specs.declared.change.Change.{Change}
-use Rattle.au_catalog.specs.declared.change.Change.TheVariants.{User, Role, SysGrant, RoleGrant, Policy, Enable, Start}
-use Rattle.au_catalog.specs.declared.kept.Kept.{Kept}
-use Rattle.au_catalog.specs.declared.policy.AuditPolicy.{AuditPolicy}
-use Rattle.au_catalog.specs.declared.policy.Evaluate.{Evaluate}
-use Rattle.au_catalog.specs.declared.trail_record.Record.{Record}
-use Rattle.au_catalog.specs.Changing.{changed, changed_all, put_in_order, with_tree}
+use Rattle.au_entries.specs.declared.change.Change.{Change}
+use Rattle.au_entries.specs.declared.change.Change.TheVariants.{User, Role, SysGrant, RoleGrant, Policy, Enable, Start}
+use Rattle.au_entries.specs.declared.kept.Kept.{Kept}
+use Rattle.au_entries.specs.declared.policy.AuditPolicy.{AuditPolicy}
+use Rattle.au_entries.specs.declared.policy.Evaluate.{Evaluate}
+use Rattle.au_entries.specs.declared.trail_record.Record.{Record}
+use Rattle.au_entries.specs.Changing.{changed, changed_all, put_in_order, with_tree}
 use Rattle.au_priv.specs.declared.change.GrantChange.{GrantChange}
 use Rattle.au_priv.specs.declared.change.GrantChange.TheVariants as grant
 use Rattle.au_priv.specs.Changing.{applied, with_admin}
@@ -186,6 +186,7 @@ one_lawful keeps image (Start instance) kept h spelled goes = record {
   ordered = h.ordered;
   unreserved = h.unreserved;
 }
+one_lawful keeps image _ kept h spelled goes = absurd goes
 
 all_lawful : KeepsOrder → (image : Bool) (changes : List Change) (kept : Kept) → HasLawfulParts kept → AllByRecursion IsChangeSpellable changes → AllGoOn image kept changes
     → HasLawfulParts (changed_all unread_condition changes kept)

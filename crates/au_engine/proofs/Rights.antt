@@ -1,14 +1,14 @@
 -- Who may change policies, and what is decided then.
 use Rattle.std.proofs.Common.{◌≡◌, ◌↔◌, ◌∙◌, ℕ, List, [], Bool, true, false, sym, ap, subst, inr}
 use Rattle.std.specs.Prelude.{◌∷◌, ◌≢◌, IsTrue, Result, Ok, Err}
-use Rattle.au_catalog.specs.declared.change.Change.TheVariants.{Enable}
+use Rattle.au_entries.specs.declared.change.Change.TheVariants.{Enable}
 use Rattle.au_base.specs.declared.code.Code.{Code}
 use Rattle.au_base.specs.declared.privilege.Privilege.{Privilege}
 use Rattle.au_base.specs.declared.privilege.Privilege.TheVariants.{AuditSystem}
 use Rattle.au_base.specs.BuiltIn.{audit_admin}
-use Rattle.au_catalog.specs.declared.policy.AuditPolicy.{AuditPolicy}
-use Rattle.au_catalog.specs.declared.policy.Enabled.{Enabled}
-use Rattle.au_catalog.specs.Demand.{enablement_of}
+use Rattle.au_entries.specs.declared.policy.AuditPolicy.{AuditPolicy}
+use Rattle.au_entries.specs.declared.policy.Enabled.{Enabled}
+use Rattle.au_entries.specs.Demand.{enablement_of}
 use Rattle.au_priv.specs.declared.grants.Grants.{Grants}
 use Rattle.au_priv.specs.Rights.{HoldsPrivilege, HoldsRole}
 use Rattle.au_engine.specs.declared.decision.Decision.{Decision}

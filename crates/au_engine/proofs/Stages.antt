@@ -1,12 +1,12 @@
 -- Changes of enablements change nothing else of what is kept.
 use Rattle.std.proofs.Common.{◌≡◌, ℕ, List, [], ◌∷◌, length, refl, sym, subst, inl, inr}
 use Rattle.std.specs.Prelude.{Result, Option, option_to_list, unwrap_or}
-use Rattle.au_catalog.specs.declared.change.Change.{Change}
-use Rattle.au_catalog.specs.declared.change.Change.TheVariants.{Enable}
-use Rattle.au_catalog.specs.declared.kept.Kept.{Kept}
-use Rattle.au_catalog.specs.declared.policy.AuditPolicy.{AuditPolicy}
-use Rattle.au_catalog.specs.declared.policy.Enabled.{Enabled}
-use Rattle.au_catalog.specs.Changing.{changed_all}
+use Rattle.au_entries.specs.declared.change.Change.{Change}
+use Rattle.au_entries.specs.declared.change.Change.TheVariants.{Enable}
+use Rattle.au_entries.specs.declared.kept.Kept.{Kept}
+use Rattle.au_entries.specs.declared.policy.AuditPolicy.{AuditPolicy}
+use Rattle.au_entries.specs.declared.policy.Enabled.{Enabled}
+use Rattle.au_entries.specs.Changing.{changed_all}
 use Rattle.au_base.specs.declared.code.Code.{Code}
 use Rattle.au_base.specs.declared.privilege.Privilege.{Privilege}
 use Rattle.au_base.specs.declared.table.TableName.{TableName}
@@ -21,7 +21,7 @@ use Rattle.au_engine.specs.Deciding.{Decides, DecidesEnabling, DecidesSelect, En
 use Rattle.au_engine.specs.Staging.{ChangeEnablements, enabled_after}
 use Rattle.au_base.specs.declared.numbers.Stamp.{Stamp}
 use Rattle.au_base.specs.declared.reply.Reply.{Reply}
-use Rattle.au_catalog.specs.declared.trail_record.Record.{Record}
+use Rattle.au_entries.specs.declared.trail_record.Record.{Record}
 use Rattle.au_engine.specs.declared.prepared.SessionChange.TheVariants.{Counts}
 use Rattle.au_engine.specs.declared.session.Session.{Session}
 use Rattle.au_engine.specs.Prepared.{after}

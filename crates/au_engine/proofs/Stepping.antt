@@ -21,18 +21,18 @@ use Rattle.au_base.specs.declared.reply.Reply.{Reply}
 use Rattle.au_base.specs.Actions as actions
 use Rattle.au_base.specs.BuiltIn.{sys, dual, trail}
 use Rattle.au_base.specs.Naming.{IsName}
-use Rattle.au_catalog.specs.declared.change.Change.{Change}
-use Rattle.au_catalog.specs.declared.change.Change.TheVariants.{Enable}
-use Rattle.au_catalog.specs.declared.facts.Facts.{Facts}
-use Rattle.au_catalog.specs.declared.kept.Kept.{Kept}
-use Rattle.au_catalog.specs.declared.policy.AuditPolicy.{AuditPolicy}
-use Rattle.au_catalog.specs.declared.policy.Enabled.{Enabled}
-use Rattle.au_catalog.specs.declared.policy.Enabled.TheVariants.{Off, By, Except}
-use Rattle.au_catalog.specs.declared.policy.Outcomes.{Outcomes}
-use Rattle.au_catalog.specs.declared.trail_record.Record.{Record}
-use Rattle.au_catalog.specs.Changing.{put_in_order, with_enablement}
-use Rattle.au_catalog.specs.Demand.{demanded}
-use Rattle.au_catalog.specs.Enabling.{audited, both_outcomes, noaudited, with_outcomes}
+use Rattle.au_entries.specs.declared.change.Change.{Change}
+use Rattle.au_entries.specs.declared.change.Change.TheVariants.{Enable}
+use Rattle.au_entries.specs.declared.facts.Facts.{Facts}
+use Rattle.au_entries.specs.declared.kept.Kept.{Kept}
+use Rattle.au_entries.specs.declared.policy.AuditPolicy.{AuditPolicy}
+use Rattle.au_entries.specs.declared.policy.Enabled.{Enabled}
+use Rattle.au_entries.specs.declared.policy.Enabled.TheVariants.{Off, By, Except}
+use Rattle.au_entries.specs.declared.policy.Outcomes.{Outcomes}
+use Rattle.au_entries.specs.declared.trail_record.Record.{Record}
+use Rattle.au_entries.specs.Changing.{put_in_order, with_enablement}
+use Rattle.au_entries.specs.Demand.{demanded}
+use Rattle.au_entries.specs.Enabling.{audited, both_outcomes, noaudited, with_outcomes}
 use Rattle.au_priv.specs.declared.allowed.Allowed.{Allowed}
 use Rattle.au_priv.specs.declared.allowed.Allowed.TheVariants.{Owner, Object, System, Refused}
 use Rattle.au_priv.specs.declared.grants.Grants.{Grants}

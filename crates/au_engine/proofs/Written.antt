@@ -15,10 +15,10 @@ use Rattle.au_base.specs.declared.numbers.SessionNo.{SessionNo}
 use Rattle.au_base.specs.Actions as actions
 use Rattle.au_base.specs.BuiltIn.{sys, dual, trail}
 use Rattle.au_base.specs.Naming.{IsName}
-use Rattle.au_catalog.specs.declared.facts.Facts.{Facts}
-use Rattle.au_catalog.specs.declared.kept.Kept.{Kept}
-use Rattle.au_catalog.specs.declared.policy.AuditPolicy.{AuditPolicy}
-use Rattle.au_catalog.specs.Demand.{demanded, demands, is_mandatory, placed}
+use Rattle.au_entries.specs.declared.facts.Facts.{Facts}
+use Rattle.au_entries.specs.declared.kept.Kept.{Kept}
+use Rattle.au_entries.specs.declared.policy.AuditPolicy.{AuditPolicy}
+use Rattle.au_entries.specs.Demand.{demanded, demands, is_mandatory, placed}
 use Rattle.rec_codec.specs.Changes.{IsChangeSpellable, policy}
 use Rattle.rec_codec.specs.Parts.{name, text, stamp, session, action, return_code, names, privileges_in_order}
 use Rattle.rec_codec.specs.Records as records

@@ -1,11 +1,11 @@
 -- What is recorded of an event (Database Reference, "UNIFIED_AUDIT_TRAIL").
 use Rattle.std.specs.Prelude.{ℕ, Bool, List, [], ◌∷◌, Option, Some, None, is_none}
-use Rattle.au_catalog.specs.declared.facts.Facts.{Facts}
-use Rattle.au_catalog.specs.declared.policy.AuditPolicy.{AuditPolicy}
-use Rattle.au_catalog.specs.declared.policy.Enabled.{Enabled}
-use Rattle.au_catalog.specs.declared.trail_record.Record.{Record}
-use Rattle.au_catalog.specs.declared.trail_record.RecordKind.TheVariants.{Standard}
-use Rattle.au_catalog.specs.Demand.{demanded}
+use Rattle.au_entries.specs.declared.facts.Facts.{Facts}
+use Rattle.au_entries.specs.declared.policy.AuditPolicy.{AuditPolicy}
+use Rattle.au_entries.specs.declared.policy.Enabled.{Enabled}
+use Rattle.au_entries.specs.declared.trail_record.Record.{Record}
+use Rattle.au_entries.specs.declared.trail_record.RecordKind.TheVariants.{Standard}
+use Rattle.au_entries.specs.Demand.{demanded}
 use Rattle.au_priv.specs.declared.grants.Grants.{Grants}
 use Rattle.au_engine.specs.declared.place.Place.{Place}
 

@@ -11,12 +11,12 @@ use Rattle.au_base.specs.declared.privilege.Privilege.{Privilege}
 use Rattle.au_base.specs.declared.privilege.Privilege.TheVariants.{AuditSystem}
 use Rattle.au_base.specs.declared.table.TableName.{TableName}
 use Rattle.au_base.specs.BuiltIn.{audit_admin, dual, trail}
-use Rattle.au_catalog.specs.declared.change.Change.{Change}
-use Rattle.au_catalog.specs.declared.change.Change.TheVariants.{Enable}
-use Rattle.au_catalog.specs.declared.policy.AuditPolicy.{AuditPolicy}
-use Rattle.au_catalog.specs.declared.policy.Enabled.{Enabled}
-use Rattle.au_catalog.specs.Demand.{enablement_of}
-use Rattle.au_catalog.specs.Enabling.{audited, noaudited}
+use Rattle.au_entries.specs.declared.change.Change.{Change}
+use Rattle.au_entries.specs.declared.change.Change.TheVariants.{Enable}
+use Rattle.au_entries.specs.declared.policy.AuditPolicy.{AuditPolicy}
+use Rattle.au_entries.specs.declared.policy.Enabled.{Enabled}
+use Rattle.au_entries.specs.Demand.{enablement_of}
+use Rattle.au_entries.specs.Enabling.{audited, noaudited}
 use Rattle.au_priv.specs.declared.allowed.Allowed.{Allowed}
 use Rattle.au_priv.specs.declared.allowed.Allowed.TheVariants.{Owner, Object, System, Refused}
 use Rattle.au_priv.specs.declared.grants.Grants.{Grants}

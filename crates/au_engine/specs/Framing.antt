@@ -4,10 +4,10 @@ use Rattle.au_base.specs.declared.ask.Ask.{Ask}
 use Rattle.au_base.specs.declared.ask.Ask.TheVariants.{Sql}
 use Rattle.au_base.specs.declared.numbers.ClientNo.{ClientNo}
 use Rattle.au_base.specs.declared.reply.Reply.{Reply}
-use Rattle.au_catalog.specs.declared.change.Change.{Change}
-use Rattle.au_catalog.specs.declared.trail_record.Record.{Record}
+use Rattle.au_entries.specs.declared.change.Change.{Change}
+use Rattle.au_entries.specs.declared.trail_record.Record.{Record}
 use Rattle.rec_codec.specs.declared.frame.Frame.{Frame}
-use Rattle.rec_codec.specs.declared.frame.Frame.TheVariants.{Image, Event}
+use Rattle.rec_codec.specs.declared.frame.Frame.TheVariants.{Image, Event, Purge}
 use Rattle.rec_codec.specs.Frames.{IsSpellable, framed}
 use Rattle.au_engine.specs.State.{State}
 use Rattle.au_engine.specs.Step.{Logged, LoggedStep, is_idle}
@@ -31,10 +31,12 @@ IsText _ = ⊤
 abbrev pub changes_in : Frame → List Change
 changes_in (Image last changes records) = changes
 changes_in (Event stamp changes records) = changes
+changes_in (Purge stamp before changes records) = changes
 
 abbrev pub records_in : Frame → List Record
 records_in (Image last changes records) = records
 records_in (Event stamp changes records) = records
+records_in (Purge stamp before changes records) = records
 
 -- the frame, where there is one, has a body
 abbrev pub IsWritable : Option Frame → Type 0

@@ -4,9 +4,9 @@ use Rattle.std.specs.List.{AllByRecursion}
 use Rattle.au_base.specs.Limits.{LAST_MOMENT}
 use Rattle.au_base.specs.Limits.{CATALOG_OBJECTS, INSTANCES}
 use Rattle.au_base.specs.Naming.{IsName}
-use Rattle.au_catalog.specs.declared.change.Change.{Change}
-use Rattle.au_catalog.specs.declared.kept.Kept.{Kept}
-use Rattle.au_catalog.specs.declared.policy.AuditPolicy.{AuditPolicy}
+use Rattle.au_entries.specs.declared.change.Change.{Change}
+use Rattle.au_entries.specs.declared.kept.Kept.{Kept}
+use Rattle.au_entries.specs.declared.policy.AuditPolicy.{AuditPolicy}
 use Rattle.au_priv.specs.Order.{AreInOrder, comes_before, is_in_order}
 use Rattle.rec_codec.specs.Changes.{IsChangeSpellable}
 use Rattle.rec_codec.specs.Records.{trail_record}

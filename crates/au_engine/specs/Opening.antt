@@ -7,8 +7,8 @@ use Rattle.au_base.specs.declared.action.Action.TheVariants.{All}
 use Rattle.au_base.specs.declared.privilege.Privilege.{Privilege}
 use Rattle.au_base.specs.declared.privilege.Privilege.TheVariants.{AlterUser, AuditSystem, CreateAnyTable, CreateRole, CreateSession, CreateTable, CreateUser, DeleteAnyTable, DropAnyRole, DropAnyTable, DropUser, GrantAnyObjectPrivilege, GrantAnyPrivilege, GrantAnyRole, InsertAnyTable, SelectAnyTable, UpdateAnyTable}
 use Rattle.au_base.specs.BuiltIn.{sys, audit_admin, audit_viewer}
-use Rattle.au_catalog.specs.declared.kept.Kept.{Kept}
-use Rattle.au_catalog.specs.declared.policy.AuditPolicy.{AuditPolicy}
+use Rattle.au_entries.specs.declared.kept.Kept.{Kept}
+use Rattle.au_entries.specs.declared.policy.AuditPolicy.{AuditPolicy}
 use Rattle.au_priv.specs.declared.grants.Grants.{Grants}
 
 -- the digest of the user's name, a byte 0 and the password

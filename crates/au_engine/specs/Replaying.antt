@@ -6,18 +6,18 @@ use Rattle.std.specs.Str.{bytes_eq}
 use Rattle.au_base.specs.Limits.{CATALOG_OBJECTS, GRANTS, INSTANCES}
 use Rattle.au_base.specs.declared.numbers.Stamp.{Stamp}
 use Rattle.au_base.specs.BuiltIn.{sys}
-use Rattle.au_catalog.specs.declared.change.Change.{Change}
-use Rattle.au_catalog.specs.declared.change.Change.TheVariants.{User, Role, SysGrant, RoleGrant, Policy, Enable, Start}
-use Rattle.au_catalog.specs.declared.kept.Kept.{Kept}
-use Rattle.au_catalog.specs.declared.policy.AuditPolicy.{AuditPolicy}
-use Rattle.au_catalog.specs.declared.policy.Enabled.{Enabled}
-use Rattle.au_catalog.specs.declared.policy.Enabled.TheVariants.{Off, By, Except}
-use Rattle.au_catalog.specs.declared.trail_record.Record.{Record}
-use Rattle.au_catalog.specs.Changing.{changed, changed_all}
+use Rattle.au_entries.specs.declared.change.Change.{Change}
+use Rattle.au_entries.specs.declared.change.Change.TheVariants.{User, Role, SysGrant, RoleGrant, Policy, Enable, Start}
+use Rattle.au_entries.specs.declared.kept.Kept.{Kept}
+use Rattle.au_entries.specs.declared.policy.AuditPolicy.{AuditPolicy}
+use Rattle.au_entries.specs.declared.policy.Enabled.{Enabled}
+use Rattle.au_entries.specs.declared.policy.Enabled.TheVariants.{Off, By, Except}
+use Rattle.au_entries.specs.declared.trail_record.Record.{Record}
+use Rattle.au_entries.specs.Changing.{changed, changed_all}
 use Rattle.au_priv.specs.declared.grants.Grants.{Grants}
 use Rattle.au_priv.specs.Rights.{IsHolder, grant_count}
 use Rattle.rec_codec.specs.declared.frame.Frame.{Frame}
-use Rattle.rec_codec.specs.declared.frame.Frame.TheVariants.{Image, Event}
+use Rattle.rec_codec.specs.declared.frame.Frame.TheVariants.{Image, Event, Purge}
 use Rattle.au_engine.specs.Deciding.{has_policy}
 use Rattle.au_engine.specs.Lawful.{ora_mandatory}
 use Rattle.au_engine.specs.Step.{unread_condition}
@@ -41,7 +41,7 @@ named_users (Except users outcomes) = users
 -- The change goes on from what is kept before it. What it stands on is there: the grantee, the role that is granted, the
 -- policy that is enabled and the users that this names. A role is new, and a role grant closes no circle. No policy has
 -- the name of what is mandatory, or a condition: none is read yet. The number of an instance is over the one before,
--- except in an image.
+-- except in an image. Other changes don't go on yet.
 abbrev pub GoesOn : Bool → Kept → Change → Type 0
 GoesOn image kept (User name verifier) = Unit {0}
 GoesOn image kept (Role name) = IsTrue (not (has_role kept name))
@@ -50,6 +50,7 @@ GoesOn image kept (RoleGrant grantee role admin) = IsTrue (has_grantee kept gran
 GoesOn image kept (Policy name privileges actions roles when) = (name ≢ ora_mandatory) × (when ≡ None)
 GoesOn image kept (Enable policy enabled) = IsTrue (has_policy kept.policies policy) × IsTrue (list_all (has_user kept) (named_users enabled))
 GoesOn image kept (Start instance) = (instance ≤ INSTANCES) × (IsTrue image ⊎ (kept.instance < instance))
+GoesOn image kept _ = ⊥
 
 -- each change goes on from what those before it leave
 abbrev pub AllGoOn : Bool → Kept → List Change → Type 0
@@ -80,17 +81,20 @@ pub record PartsGoOn (image : Bool) (kept : Kept) (last : Stamp) (listed : List 
   pub changes : AllGoOn image kept listed
   pub ends : EndsWell (changed_all unread_condition listed kept)
 
--- the frame goes on from what is kept
+-- the frame goes on from what is kept; a purge doesn't yet
 abbrev pub IsReplayable : Kept → Frame → Type 0
 IsReplayable kept (Image last changes records) = PartsGoOn true kept last changes
 IsReplayable kept (Event stamp changes records) = PartsGoOn false kept stamp changes
+IsReplayable kept (Purge stamp before changes records) = ⊥
 
 -- what is kept after the frame
 abbrev pub after_frame : Kept → Frame → Kept
 after_frame kept (Image last changes records) = kept_with kept last changes records
 after_frame kept (Event stamp changes records) = kept_with kept stamp changes records
+after_frame kept (Purge stamp before changes records) = kept
 
 -- the frame is an image
 abbrev pub IsImage : Frame → Type 0
 IsImage (Image last changes records) = Unit {0}
 IsImage (Event stamp changes records) = ⊥
+IsImage (Purge stamp before changes records) = ⊥

@@ -1,9 +1,9 @@
 -- Frames that give back what they were written of.
 use Rattle.std.specs.Prelude.{◌≡◌, ◌≢◌, ℕ, ◌+◌, IsTrue, [], ◌∷◌, map, Option, Some, None}
 use Rattle.std.specs.List.{AllByRecursion, list_all}
-use Rattle.au_catalog.specs.declared.change.Change.TheVariants.{Start}
-use Rattle.au_catalog.specs.declared.kept.Kept.{Kept}
-use Rattle.au_catalog.specs.declared.policy.Enabled.TheVariants.{Off}
+use Rattle.au_entries.specs.declared.change.Change.TheVariants.{Start}
+use Rattle.au_entries.specs.declared.kept.Kept.{Kept}
+use Rattle.au_entries.specs.declared.policy.Enabled.TheVariants.{Off}
 use Rattle.au_priv.specs.Order.{comes_before, is_in_order}
 use Rattle.au_priv.specs.Rights.{HasNoCircle}
 use Rattle.rec_codec.specs.declared.frame.Frame.{Frame}

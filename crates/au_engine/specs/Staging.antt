@@ -1,9 +1,9 @@
 -- What is staged of changes: the built statements change enablements alone.
 use Rattle.std.specs.Prelude.{ℕ, List, [], ◌∷◌}
-use Rattle.au_catalog.specs.declared.change.Change.{Change}
-use Rattle.au_catalog.specs.declared.change.Change.TheVariants.{Enable}
-use Rattle.au_catalog.specs.declared.policy.Enabled.{Enabled}
-use Rattle.au_catalog.specs.Changing.{with_enablement}
+use Rattle.au_entries.specs.declared.change.Change.{Change}
+use Rattle.au_entries.specs.declared.change.Change.TheVariants.{Enable}
+use Rattle.au_entries.specs.declared.policy.Enabled.{Enabled}
+use Rattle.au_entries.specs.Changing.{with_enablement}
 
 -- the change is one of an enablement
 abbrev pub ChangesEnablement : Change → Type 0

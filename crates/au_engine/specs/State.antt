@@ -6,8 +6,8 @@ use Rattle.au_base.specs.declared.numbers.RowNo.{RowNo}
 use Rattle.au_base.specs.declared.numbers.Stamp.{Stamp}
 use Rattle.au_base.specs.declared.table.TableName.{TableName}
 use Rattle.au_catalog.specs.declared.catalog.Catalog.{Catalog}
-use Rattle.au_catalog.specs.declared.kept.Kept.{Kept}
-use Rattle.au_catalog.specs.declared.trail_record.Record.{Record}
+use Rattle.au_entries.specs.declared.kept.Kept.{Kept}
+use Rattle.au_entries.specs.declared.trail_record.Record.{Record}
 use Rattle.au_priv.specs.declared.grants.Grants.{Grants}
 use Rattle.au_engine.specs.declared.session.Session.{Session}
 

@@ -11,11 +11,11 @@ use Rattle.au_base.specs.declared.numbers.SessionNo.{SessionNo}
 use Rattle.au_base.specs.declared.numbers.Stamp.{Stamp}
 use Rattle.au_base.specs.declared.reply.Reply.{Reply}
 use Rattle.au_base.specs.BuiltIn.{sys}
-use Rattle.au_catalog.specs.declared.change.Change.{Change}
-use Rattle.au_catalog.specs.declared.facts.Facts.{Facts}
-use Rattle.au_catalog.specs.declared.kept.Kept.{Kept}
-use Rattle.au_catalog.specs.declared.trail_record.Record.{Record}
-use Rattle.au_catalog.specs.Changing.{changed_all}
+use Rattle.au_entries.specs.declared.change.Change.{Change}
+use Rattle.au_entries.specs.declared.facts.Facts.{Facts}
+use Rattle.au_entries.specs.declared.kept.Kept.{Kept}
+use Rattle.au_entries.specs.declared.trail_record.Record.{Record}
+use Rattle.au_entries.specs.Changing.{changed_all}
 use Rattle.sql_ast.specs.declared.expression.Expr.{Expr}
 use Rattle.sql_ast.specs.declared.expression.Expr.TheVariants.{Null}
 use Rattle.au_engine.specs.declared.decision.Decision.{Decision}

@@ -1,7 +1,7 @@
 //! What an event leaves in the trail.
 ghost use Rattle.std.specs.Prelude.{◌≡◌, ◌++◌, IfOk, OnOk, not, option_to_list};
 ghost use Rattle.std.specs.List.{filter};
-ghost use Rattle.au_catalog.specs.Demand.{comes_before, demanded, demanding, demands, is_mandatory, placed};
+ghost use Rattle.au_entries.specs.Demand.{comes_before, demanded, demanding, demands, is_mandatory, placed};
 ghost use Rattle.au_engine.specs.Auditing.{holds_always, record_of, records_naming, records_of};
 
 use crate::enablement::is_enabled;

@@ -1,8 +1,8 @@
 //! What changes are being made of.
 ghost use Rattle.std.specs.Prelude.{◌≡◌, IfOk, Option};
 ghost use Rattle.std.specs.List.{AllByRecursion};
-ghost use Rattle.au_catalog.specs.declared.kept.Kept.{Kept as AnyKept};
-ghost use Rattle.au_catalog.specs.Changing.{by_name, changed, put_in_order, with_enablement};
+ghost use Rattle.au_entries.specs.declared.kept.Kept.{Kept as AnyKept};
+ghost use Rattle.au_entries.specs.Changing.{by_name, changed, put_in_order, with_enablement};
 ghost use Rattle.au_priv.specs.Changing.{applied};
 ghost use Rattle.au_engine.specs.Drafting.{IsPlainChange, drafted};
 ghost use Rattle.au_engine.specs.Lawful.{IsPlain};
@@ -165,6 +165,8 @@ pub fn after(alloc: Global, draft: Draft, change: &Change) -> Result<Draft, Memo
             instance: *instance,
             ..draft
         }),
+        // no other change goes on yet
+        _ => unreachable!(),
     }
 }
 

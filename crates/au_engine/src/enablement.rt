@@ -4,9 +4,9 @@ ghost use Rattle.std.specs.List.{filter, find};
 ghost use Rattle.std.specs.Option.{option_copied};
 ghost use Rattle.std.specs.Ordering.{is_gt, is_lt};
 ghost use Rattle.std.specs.Str.{bytes_eq};
-ghost use Rattle.au_catalog.specs.Changing.{by_name, put_in_order, with_enablement};
-ghost use Rattle.au_catalog.specs.Demand.{enablement_of};
-ghost use Rattle.au_catalog.specs.Matching.{is_enabled_for};
+ghost use Rattle.au_entries.specs.Changing.{by_name, put_in_order, with_enablement};
+ghost use Rattle.au_entries.specs.Demand.{enablement_of};
+ghost use Rattle.au_entries.specs.Matching.{is_enabled_for};
 ghost use Rattle.au_engine.specs.Staging.{ChangeEnablements, enabled_after, enabled_by};
 
 use au_base::{Code, List, Memory, Name};

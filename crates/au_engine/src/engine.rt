@@ -1,7 +1,7 @@
 //! The engine: the whole state, and its steps.
 ghost use Rattle.std.specs.Prelude.{◌≡◌, ◌↔◌, ◌≤◌, ◌<◌, [], codes, IfOk, IsTrue, MatchOption, OnErr, OnOk, if◌then◌else◌, is_some, option_to_list};
 ghost use Rattle.au_base.specs.Limits.{GRANTS, INSTANCES, INSTANCE_SESSIONS};
-ghost use Rattle.au_catalog.specs.Changing.{changed_all};
+ghost use Rattle.au_entries.specs.Changing.{changed_all};
 ghost use Rattle.rec_codec.specs.Frames.{IsSpellable, body, framed};
 ghost use Rattle.au_priv.specs.Rights.{grant_count};
 ghost use Rattle.au_engine.specs.Abandoning.{abandoned};
@@ -180,6 +180,8 @@ impl Engine {
                 changes,
                 records,
             } => self.follow(alloc, false, stamp, changes, records),
+            // a purge doesn't go on yet
+            Frame::Purge { .. } => Ok(false),
         }
     }
 

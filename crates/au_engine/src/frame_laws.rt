@@ -3,7 +3,7 @@ ghost use Rattle.std.specs.Prelude.{ℕ, ◌<◌, List, Option};
 ghost use Rattle.au_base.specs.declared.ask.Ask.{Ask};
 ghost use Rattle.au_base.specs.declared.numbers.ClientNo.{ClientNo};
 ghost use Rattle.au_base.specs.Limits.{INSTANCES};
-ghost use Rattle.au_catalog.specs.declared.kept.Kept.{Kept};
+ghost use Rattle.au_entries.specs.declared.kept.Kept.{Kept};
 ghost use Rattle.rec_codec.specs.declared.frame.Frame.{Frame};
 ghost use Rattle.au_engine.specs.Framing.{IsFrameOf, IsText};
 ghost use Rattle.au_engine.specs.Image.{image_of, nothing};

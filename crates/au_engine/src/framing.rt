@@ -129,6 +129,11 @@ fn parts_of(frame: Frame) -> (List<Change>, List<Record>)
             records,
             ..
         } => (changes, records),
+        Frame::Purge {
+            changes,
+            records,
+            ..
+        } => (changes, records),
     }
 }
 

@@ -4,8 +4,8 @@ ghost use Rattle.std.specs.List.{list_all, list_any};
 ghost use Rattle.std.specs.Str.{bytes_eq};
 ghost use Rattle.au_base.specs.Limits.{CATALOG_OBJECTS, GRANTS, INSTANCES};
 ghost use Rattle.au_base.specs.BuiltIn.{sys};
-ghost use Rattle.au_catalog.specs.declared.kept.Kept.{Kept as AnyKept};
-ghost use Rattle.au_catalog.specs.Changing.{changed_all};
+ghost use Rattle.au_entries.specs.declared.kept.Kept.{Kept as AnyKept};
+ghost use Rattle.au_entries.specs.Changing.{changed_all};
 ghost use Rattle.au_priv.specs.Rights.{IsHolder};
 ghost use Rattle.au_engine.specs.Deciding.{has_policy};
 ghost use Rattle.au_engine.specs.Drafting.{drafted};
@@ -126,6 +126,8 @@ fn goes_on(alloc: Global, image: bool, draft: &Draft, change: &Change) -> Result
         Change::Policy { name, when, .. } => Ok(is_unreserved(name) && when.is_none()),
         Change::Enable(policy, enabled) => Ok(enablement_goes_on(draft, policy, enabled)),
         Change::Start(instance) => Ok(instance_goes_on(image, draft.instance, *instance)),
+        // other changes don't go on yet
+        _ => Ok(false),
     }
 }
 

@@ -2,14 +2,14 @@
 use Rattle.std.proofs.Common.{◌≡◌, ◌<◌, ℕ, Bool, true, false, if◌then◌else◌, List, [], ◌∷◌, ◌++◌, length, Option, Some, None, Result, Ok, Err, IfOk, refl, sym, ◌∙◌, subst, arith}
 use Rattle.au_base.specs.declared.ask.Ask.{Ask}
 use Rattle.au_base.specs.declared.numbers.ClientNo.{ClientNo}
-use Rattle.au_catalog.specs.declared.change.Change.{Change}
-use Rattle.au_catalog.specs.declared.kept.Kept.{Kept}
-use Rattle.au_catalog.specs.declared.trail_record.Record.{Record}
+use Rattle.au_entries.specs.declared.change.Change.{Change}
+use Rattle.au_entries.specs.declared.kept.Kept.{Kept}
+use Rattle.au_entries.specs.declared.trail_record.Record.{Record}
 use Rattle.au_journal.specs.Frames as journal
 use Rattle.au_journal.specs.declared.seat.Seat.{Seat}
 use Rattle.au_journal.specs.Seats.{IsFramed, needed_of}
 use Rattle.rec_codec.specs.declared.frame.Frame.{Frame}
-use Rattle.rec_codec.specs.declared.frame.Frame.TheVariants.{Image, Event}
+use Rattle.rec_codec.specs.declared.frame.Frame.TheVariants.{Image, Event, Purge}
 use Rattle.rec_codec.specs.Frames.{spelled, framed}
 use Rattle.au_engine.specs.Framing.{IsFrameOf, IsWritable, Writes, framed_option}
 use Rattle.au_engine.specs.Replaying.{IsImage}
@@ -27,6 +27,7 @@ framed_is f = refl
 pub spelled_some : (f : Frame) → 0 < length (spelled f)
 spelled_some (Image last changes records) = omega arith
 spelled_some (Event moment changes records) = omega arith
+spelled_some (Purge moment before changes records) = omega arith
 
 pub is_framed : (bytes : List ℕ) (f : Frame) → bytes ≡ framed f → IsFramed bytes (spelled f)
 is_framed bytes f is = record { is = is ∙ framed_is f; some = spelled_some f }
@@ -68,6 +69,7 @@ event_only : (stamp : ℕ) (idle : Bool) (changes : List Change) (records : List
 event_only stamp true changes records f is image = absurd (let none : Some f ≡ None = is in cc)
 event_only stamp false changes records (Image last listed held) is image = absurd (let other : Some (Image last listed held) ≡ Some (Event (record { 0 = stamp }) changes records) = is in cc)
 event_only stamp false changes records (Event moment listed held) is image = image
+event_only stamp false changes records (Purge moment before listed held) is image = image
 
 carries_frame : (m n : State) (client : ClientNo) (ask : Ask) (stamp : ℕ) (frame : Option Frame) → IsFrameOf m client ask stamp n frame → IsWritable frame
     → LeadsTo m.kept frame n.kept → CarriesTo m.kept (framed_option frame) n.kept

@@ -1,7 +1,7 @@
 -- From what a walk reads to what is said of a store that is opened, over plain variables.
 use Rattle.std.proofs.Common.{◌≡◌, inl, inr, ℕ, ◌+◌, ◌≤◌, ◌<◌, ◌^◌, Bool, true, false, List, [], ◌∷◌, ◌++◌, length, refl, sym, ◌∙◌, ap, subst, arith, append_assoc, length-append}
 use Rattle.std.proofs.lemmas.List.{append-nil, append_cancel_left}
-use Rattle.au_catalog.specs.declared.kept.Kept.{Kept}
+use Rattle.au_entries.specs.declared.kept.Kept.{Kept}
 use Rattle.au_io.specs.declared.disk.Area.{Area}
 use Rattle.au_io.specs.Areas.{Areas, area_of, IsBounded}
 use Rattle.au_io.specs.Disk.{Meaning, Passes, Stays}
@@ -19,7 +19,7 @@ use Rattle.au_store.specs.declared.open_fault.OpenFault.{OpenFault}
 use Rattle.au_store.specs.declared.open_fault.OpenFault.TheVariants as fault
 use Rattle.au_journal.proofs.Standing.{front-push, front-nil, length-spelled}
 use Rattle.rec_codec.specs.declared.frame.Frame.{Frame}
-use Rattle.rec_codec.specs.declared.frame.Frame.TheVariants.{Image, Event}
+use Rattle.rec_codec.specs.declared.frame.Frame.TheVariants.{Image, Event, Purge}
 use Rattle.rec_codec.specs.Frames.{IsFrame, IsSpellable, spelled as frame_body}
 use Rattle.au_engine.specs.Image.{nothing}
 use Rattle.au_engine.specs.Replaying.{EndsWell, IsReplayable, after_frame, IsImage}
@@ -60,6 +60,7 @@ wrong_going_on one_front body kept f is never next by =
 pub frame_ends : (kept : Kept) (f : Frame) → IsReplayable kept f → EndsWell (after_frame kept f)
 frame_ends kept (Image last changes records) goes = goes.ends
 frame_ends kept (Event stamp changes records) goes = goes.ends
+frame_ends kept (Purge stamp before changes records) goes = absurd goes
 
 -- bodies are replayed to one thing
 begins_once : OneFront → (body : List ℕ) (a b : Kept) → BeginsBy body a → BeginsBy body b → a ≡ b

@@ -1,7 +1,7 @@
 -- That what is so of a store between two calls is so after each.
 use Rattle.std.proofs.Common.{◌≡◌, inl, true, false, refl, ◌∙◌, ap}
 use Rattle.au_io.specs.Disk.{Meaning}
-use Rattle.au_catalog.specs.declared.kept.Kept.{Kept}
+use Rattle.au_entries.specs.declared.kept.Kept.{Kept}
 use Rattle.au_journal.specs.declared.doubt.Doubt.TheVariants.{Settled}
 use Rattle.au_journal.specs.declared.mended.Mended.{Mended}
 use Rattle.au_journal.specs.declared.mended.Mended.TheVariants as mend

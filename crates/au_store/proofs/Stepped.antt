@@ -3,7 +3,7 @@ use Rattle.std.proofs.Common.{◌≡◌, false, inl, inr, ⊎_elim, ℕ, ◌+◌
 use Rattle.au_base.specs.declared.reply.Reply.{Reply}
 use Rattle.au_base.specs.declared.reply.Said.{Said}
 use Rattle.au_base.specs.declared.reply.Said.TheVariants as said
-use Rattle.au_catalog.specs.declared.kept.Kept.{Kept}
+use Rattle.au_entries.specs.declared.kept.Kept.{Kept}
 use Rattle.au_engine.specs.declared.prepared.Prepared.{Prepared}
 use Rattle.au_engine.specs.Framing.{Writes, framed_option}
 use Rattle.au_engine.specs.Prepared.{after}

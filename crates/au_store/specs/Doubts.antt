@@ -1,7 +1,7 @@
 -- The step that is in doubt, and what it would leave.
 use Rattle.std.specs.Prelude.{◌≡◌, ◌≢◌}
 use Rattle.au_base.specs.declared.reply.Reply.{Reply}
-use Rattle.au_catalog.specs.declared.kept.Kept.{Kept}
+use Rattle.au_entries.specs.declared.kept.Kept.{Kept}
 use Rattle.au_io.specs.Disk.{Meaning}
 use Rattle.au_journal.specs.declared.doubt.Doubt.TheVariants.{Settled}
 use Rattle.au_journal.specs.declared.seat.Seat.{Seat}

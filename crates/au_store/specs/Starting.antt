@@ -1,7 +1,7 @@
 -- What opening a store does, by what it answers.
 use Rattle.std.specs.Prelude.{◌≡◌, ◌⊎◌, ◌≤◌, ◌<◌, ⊤, ℕ, ◌+◌, List, length, Result, Ok, Err}
 use Rattle.au_base.specs.Limits.{INSTANCES}
-use Rattle.au_catalog.specs.declared.kept.Kept.{Kept}
+use Rattle.au_entries.specs.declared.kept.Kept.{Kept}
 use Rattle.au_io.specs.Areas.{Areas}
 use Rattle.au_io.specs.Disk.{Meaning}
 use Rattle.au_io.specs.Faults.{HasRisen}

@@ -2,7 +2,7 @@
 use Rattle.std.specs.Prelude.{◌≡◌, ℕ, true, false}
 use Rattle.au_io.specs.Disk.{Meaning}
 use Rattle.au_journal.specs.declared.seat.Seat.{Seat}
-use Rattle.au_catalog.specs.declared.kept.Kept.{Kept}
+use Rattle.au_entries.specs.declared.kept.Kept.{Kept}
 use Rattle.au_engine.specs.Replaying.{EndsWell}
 use Rattle.au_engine.specs.State.{State, Reserved}
 use Rattle.au_store.specs.Recovery.{ReplayedTo}

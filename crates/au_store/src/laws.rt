@@ -1,6 +1,6 @@
 //! Laws of what stands on a disk.
 ghost use Rattle.std.specs.Prelude.{◌≡◌, ℕ};
-ghost use Rattle.au_catalog.specs.declared.kept.Kept.{Kept};
+ghost use Rattle.au_entries.specs.declared.kept.Kept.{Kept};
 ghost use Rattle.au_io.specs.Areas.{Areas, IsBounded};
 ghost use Rattle.au_io.specs.declared.disk.Area.{Area};
 ghost use Rattle.au_journal.specs.Walk.{IsUnformatted};

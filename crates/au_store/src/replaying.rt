@@ -1,6 +1,6 @@
 //! Replaying what stands in a journal.
 ghost use Rattle.std.specs.Prelude.{◌≡◌, ◌↔◌, ◌≤◌, ◌+◌, ◌^◌, IsTrue, ◌++◌, ◌∷◌, [], ⊤, ℕ, List, length, true, IfOk, IfErr, MatchBool, MatchOption};
-ghost use Rattle.au_catalog.specs.declared.kept.Kept.{Kept};
+ghost use Rattle.au_entries.specs.declared.kept.Kept.{Kept};
 ghost use Rattle.au_io.specs.Disk.{Stays};
 ghost use Rattle.au_journal.specs.Journals.{disk_of, seat_of};
 ghost use Rattle.au_journal.specs.Seats.{IsSettled};

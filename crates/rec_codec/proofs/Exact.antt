@@ -5,7 +5,7 @@ use Rattle.std.specs.List.{flat_map, AllByRecursion}
 use Rattle.std.proofs.lemmas.Bool.{cases_lt, ltb-false, le-ltb, eqb-true}
 use Rattle.std.proofs.lemmas.List.{take_at, drop_at, take-append-drop, length-append, length-take, get_or-drop, get_or-take, get_or_past}
 use Rattle.std.proofs.lemmas.Nat.{be_bytes_2, be_bytes_4, be_bytes_8, from_be_bytes-to_be_bytes_2, from_be_bytes-to_be_bytes_4, from_be_bytes-to_be_bytes_8}
-use Rattle.rec_codec.specs.Spelling.{Spelling, ◌>>=◌, byte, byte_first, number, number_first, run, run_first, long, option, option_first, option_spelled, many_first, counted, pair, only, such_that, made_of, nothing, led_by, led_first, coded, coded_first, Behind, behind, no_other}
+use Rattle.rec_codec.specs.Spelling.{Spelling, ◌>>=◌, byte, byte_first, number, number_first, run, run_first, long, option, option_first, option_spelled, many_first, counted, pair, only, such_that, made_of, nothing, led_by, led_first, coded, coded_first, Behind, behind, below, no_other}
 
 abbrev pub IsBytes : List ℕ → Type 0
 IsBytes bytes = (i : ℕ) → get_or bytes i 0 < 256
@@ -335,5 +335,14 @@ behind_behind {A} s t a make others spells fit exact rest = record {
               rest_fits = u.rest_fits;
             }))
         | inr p ↦ rest.takes tag bytes x fits p.1
+      ];
+}
+
+pub below_behind : {X : Type 0} (s : Spelling X) (t : ℕ) (low high : Behind X) → IsBehind s low → IsBehind s high → IsBehind s (below t low high)
+below_behind s t low high under over = record {
+  takes = λ tag bytes x fits e.
+      elim (chosen (ltb tag t) (low tag bytes) (high tag bytes) (Some x) e) [
+        | inl p ↦ under.takes tag bytes x fits p.1
+        | inr p ↦ over.takes tag bytes x fits p.1
       ];
 }

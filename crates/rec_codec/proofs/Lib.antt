@@ -1,8 +1,10 @@
 mod CodeLaws
 mod Counting
+mod Elements
 mod Exact
 mod Loops
 mod Names
 mod PartLemmas
 mod Table
+mod TableRows
 mod Whole

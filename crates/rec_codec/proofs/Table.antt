@@ -2,65 +2,30 @@
 use Rattle.std.proofs.Common.{◌≡◌, ℕ, Bool, true, false, cond, eqb, List, [], ◌∷◌, ◌++◌, Some, None, refl, sym, ap, subst, ◌∙◌, inl, inr}
 use Rattle.std.specs.Prelude.{◌||◌, IsTrue, nat_le, ◌&&◌, length}
 use Rattle.std.specs.Int.{w16, w32, w64}
-use Rattle.std.specs.Str.{IsUtf8, is_utf8, bytes_eq}
-use Rattle.std.proofs.lemmas.Str.{IsUtf8-from_is_utf8, is_utf8-from_IsUtf8}
-use Rattle.au_base.specs.Naming.{IsName}
-use Rattle.rec_codec.proofs.Names.{IsName-from_is_name, is_name-from_IsName}
+use Rattle.std.specs.Str.{bytes_eq}
 use Rattle.std.proofs.lemmas.Bool.{eqb-true}
 use Rattle.au_base.specs.Actions as actions
 use Rattle.au_base.specs.Privileges as privileges
-use Rattle.au_catalog.specs.declared.change.Change.{Change}
-use Rattle.au_catalog.specs.declared.change.Change.TheVariants.{User, Role, SysGrant, RoleGrant, Policy, Enable, Start}
-use Rattle.au_catalog.specs.declared.policy.Enabled.{Enabled}
-use Rattle.au_catalog.specs.declared.policy.Enabled.TheVariants.{Off, By, Except}
-use Rattle.au_catalog.specs.declared.policy.Evaluate.TheVariants.{Statement, Session, Instance}
-use Rattle.au_catalog.specs.declared.policy.Outcomes.{Outcomes}
-use Rattle.au_catalog.specs.declared.trail_record.RecordKind.{RecordKind}
-use Rattle.au_catalog.specs.declared.trail_record.RecordKind.TheVariants.{Standard, FineGrained}
+use Rattle.au_entries.specs.declared.change.Change.{Change}
+use Rattle.au_entries.specs.declared.change.Change.TheVariants.{User, UserGone, Role, RoleGone, SysGrant, SysRevoke, RoleGrant, RoleRevoke, ObjGrant, ObjRevoke, Table, TableGone, Put, Gone, Policy, PolicyGone, Enable, Fga, FgaGone, Archive, Start}
+use Rattle.au_entries.specs.declared.policy.Enabled.{Enabled}
+use Rattle.au_entries.specs.declared.policy.Enabled.TheVariants.{Off, By, Except}
+use Rattle.au_entries.specs.declared.policy.Evaluate.TheVariants.{Statement, Session, Instance}
+use Rattle.au_entries.specs.declared.policy.Outcomes.{Outcomes}
+use Rattle.au_entries.specs.declared.trail_record.RecordKind.{RecordKind}
+use Rattle.au_entries.specs.declared.trail_record.RecordKind.TheVariants.{Standard, FineGrained}
 use Rattle.rec_codec.specs.declared.frame.Frame.{Frame}
-use Rattle.rec_codec.specs.declared.frame.Frame.TheVariants.{Image, Event}
-use Rattle.rec_codec.specs.Spelling.{Spelling, byte, counted, is_without_repeats, led_by, long, Behind, nothing, number, option, pair, such_that, tagged_first}
+use Rattle.rec_codec.specs.declared.frame.Frame.TheVariants.{Image, Event, Purge}
+use Rattle.rec_codec.specs.Spelling.{Spelling, below, byte, counted, is_without_repeats, led_by, long, Behind, nothing, number, option, pair, such_that, tagged_first}
 use Rattle.rec_codec.specs.Parts.{is_name, name, text, truth, truth_code, truth_with, stamp, session, return_code, verifier, privilege, privilege_with, action, action_with, outcomes, outcomes_code, outcomes_with, table, names, is_rising, privileges_in_order}
-use Rattle.rec_codec.specs.Changes.{Condition, parts, same_part, when, when_behind, are_users, users, off, enabled, enabled_behind, user, system_grant, role_grant, policy, made_policy, enablement, change, change_behind}
+use Rattle.rec_codec.specs.Changes.{Condition, parts, same_part, when, when_behind, are_users, users, off, enabled, enabled_behind, user, system_grant, system_revoke, role_grant, role_revoke, is_object_action, object_action, object_right, created, row, put, policy, made_policy, enablement, types, fga_name, fga_parts, fga, made_fga, named_behind, granted_behind, tabled_behind, audited_behind, change, change_behind}
 use Rattle.rec_codec.specs.Records.{kind, kind_code, kind_with, done_action, statement_text, demanding, origin, deed, grounds, trail_record}
-use Rattle.rec_codec.specs.Frames.{body, frame, frame_behind}
+use Rattle.rec_codec.specs.Frames.{body, purge, frame, frame_behind}
+use Rattle.rec_codec.specs.Tables.{cells, columns, places, row_number}
+use Rattle.rec_codec.proofs.TableRows.{cells_exact, columns_exact, places_exact, row_number_exact}
+use Rattle.rec_codec.proofs.Elements.{exact16, exact32, exact64, name_exact, tagged_takes, text_exact, truth_exact}
 use Rattle.rec_codec.proofs.CodeLaws.{privilege_forth, privilege_back, action_forth, action_back}
-use Rattle.rec_codec.proofs.Exact.{IsBytes, IsExact, Takes, IsBehind, behind_behind, bind_some, byte_exact, chosen, coded_exact, counted_exact, led_by_exact, long_exact, made_of_exact, no_other_behind, nothing_exact, number_exact, only_exact, option_exact, pair_exact, run_exact, some_is, such_that_exact, wide16, wide32, wide64, IsBytes-rest}
-
-exact16 : IsExact (number w16)
-exact16 = number_exact w16 wide16
-
-exact32 : IsExact (number w32)
-exact32 = number_exact w32 wide32
-
-exact64 : IsExact (number w64)
-exact64 = number_exact w64 wide64
-
-pub name_exact : IsExact name
-unfolding name
-name_exact = only_exact (long (number w16)) IsName is_name IsName-from_is_name is_name-from_IsName (long_exact (number w16) exact16)
-
-text_exact : IsExact text
-unfolding text
-text_exact = only_exact (long (number w32)) IsUtf8 is_utf8 IsUtf8-from_is_utf8 is_utf8-from_IsUtf8 (long_exact (number w32) exact32)
-
-truth_forth : (b : Bool) → truth_with (truth_code b) ≡ Some b
-truth_forth false = refl
-truth_forth true = refl
-
-truth_back : (n : ℕ) (b : Bool) → truth_with n ≡ Some b → truth_code b ≡ n
-truth_back n b e =
-    elim (chosen (eqb n 0) (Some false) (cond (eqb n 1) (Some true) None) (Some b) e) [
-      | inl p ↦ ap truth_code (sym (some_is false b p.1)) ∙ sym (eqb-true _ _ p.0)
-      | inr p ↦ (elim (chosen (eqb n 1) (Some true) None (Some b) p.1) [
-        | inl q ↦ ap truth_code (sym (some_is true b q.1)) ∙ sym (eqb-true _ _ q.0)
-        | inr q ↦ absurd (cc q.1)
-      ])
-    ]
-
-truth_exact : IsExact truth
-unfolding truth
-truth_exact = coded_exact truth_code truth_with truth_forth truth_back
+use Rattle.rec_codec.proofs.Exact.{IsBytes, IsExact, Takes, IsBehind, behind_behind, below_behind, bind_some, byte_exact, chosen, coded_exact, counted_exact, led_by_exact, long_exact, made_of_exact, no_other_behind, nothing_exact, number_exact, only_exact, option_exact, pair_exact, run_exact, some_is, such_that_exact, wide16, wide32, wide64, IsBytes-rest}
 
 kind_forth : (k : RecordKind) → kind_with (kind_code k) ≡ Some k
 kind_forth Standard = refl
@@ -168,11 +133,6 @@ when_reads =
     (behind_behind when 3 text (λ condition. Some (Instance, condition)) _ (λ x. refl) (λ x h. h) text_exact
     (no_other_behind when))))
 
--- a spelling that begins with a tag
-tagged_takes : {X : Type 0} (s : Spelling X) (others : Behind X) → IsBehind s others → ((bytes : List ℕ) → s.first bytes ≡ tagged_first others bytes) → (bytes : List ℕ) (x : X × List ℕ) → IsBytes bytes → s.first bytes ≡ Some x → Takes s bytes x
-tagged_takes s others reads same [] x fits e = let none : tagged_first others [] ≡ Some x = sym (same []) ∙ e in absurd cc
-tagged_takes s others reads same (tag ∷ bytes) x fits e = reads.takes tag bytes x (IsBytes-rest tag bytes fits) (sym (same (tag ∷ bytes)) ∙ e)
-
 when_again : (x : Condition) (rest : List ℕ) → when.IsSpellable x → when.first (when.spelled x ++ rest) ≡ Some (x, rest)
 unfolding when when_behind
 when_again None rest h = refl
@@ -231,9 +191,37 @@ system_grant_exact : IsExact system_grant
 unfolding system_grant
 system_grant_exact = pair_exact name (pair privilege truth) name_exact (pair_exact privilege truth privilege_exact truth_exact)
 
+system_revoke_exact : IsExact system_revoke
+unfolding system_revoke
+system_revoke_exact = pair_exact name privilege name_exact privilege_exact
+
 role_grant_exact : IsExact role_grant
 unfolding role_grant
 role_grant_exact = pair_exact name (pair name truth) name_exact (pair_exact name truth name_exact truth_exact)
+
+role_revoke_exact : IsExact role_revoke
+unfolding role_revoke
+role_revoke_exact = pair_exact name name name_exact name_exact
+
+object_action_exact : IsExact object_action
+unfolding object_action
+object_action_exact = such_that_exact action is_object_action action_exact
+
+object_right_exact : IsExact object_right
+unfolding object_right
+object_right_exact = pair_exact name (pair table object_action) name_exact (pair_exact table object_action table_exact object_action_exact)
+
+created_exact : IsExact created
+unfolding created
+created_exact = pair_exact table (pair columns places) table_exact (pair_exact columns places columns_exact places_exact)
+
+row_exact : IsExact row
+unfolding row
+row_exact = pair_exact table row_number table_exact row_number_exact
+
+put_exact : IsExact put
+unfolding put
+put_exact = pair_exact table (pair row_number cells) table_exact (pair_exact row_number cells row_number_exact cells_exact)
 
 policy_exact : IsExact policy
 unfolding policy
@@ -247,26 +235,99 @@ enablement_exact : IsExact enablement
 unfolding enablement
 enablement_exact = pair_exact name enabled name_exact enabled_exact
 
-change_reads : IsBehind change change_behind
-unfolding change change_behind
-change_reads =
+types_exact : IsExact types
+unfolding types
+types_exact = such_that_exact byte (λ t. nat_le 1 t && nat_le t 15) byte_exact
+
+fga_name_exact : IsExact fga_name
+unfolding fga_name
+fga_name_exact = pair_exact table name table_exact name_exact
+
+fga_parts_exact : IsExact fga_parts
+unfolding fga_parts
+fga_parts_exact =
+    pair_exact (option text) (pair names (pair truth (pair types truth))) (option_exact text text_exact)
+    (pair_exact names (pair truth (pair types truth)) names_exact
+    (pair_exact truth (pair types truth) truth_exact
+    (pair_exact types truth types_exact truth_exact)))
+
+fga_exact : IsExact fga
+unfolding fga
+fga_exact = pair_exact fga_name fga_parts fga_name_exact fga_parts_exact
+
+archive_exact : IsExact (option stamp)
+archive_exact = option_exact stamp stamp_exact
+
+named_reads : IsBehind change named_behind
+unfolding change named_behind
+named_reads =
     behind_behind change 1 user (λ x. User x.0 x.1) _ (λ x. refl) (λ x h. h) user_exact
+    (behind_behind change 2 name UserGone _ (λ x. refl) (λ x h. h) name_exact
     (behind_behind change 3 name Role _ (λ x. refl) (λ x h. h) name_exact
-    (behind_behind change 5 system_grant (λ x. SysGrant x.0 x.1.0 x.1.1) _ (λ x. refl) (λ x h. h) system_grant_exact
+    (behind_behind change 4 name RoleGone _ (λ x. refl) (λ x h. h) name_exact
+    (no_other_behind change))))
+
+granted_reads : IsBehind change granted_behind
+unfolding change granted_behind
+granted_reads =
+    behind_behind change 5 system_grant (λ x. SysGrant x.0 x.1.0 x.1.1) _ (λ x. refl) (λ x h. h) system_grant_exact
+    (behind_behind change 6 system_revoke (λ x. SysRevoke x.0 x.1) _ (λ x. refl) (λ x h. h) system_revoke_exact
     (behind_behind change 7 role_grant (λ x. RoleGrant x.0 x.1.0 x.1.1) _ (λ x. refl) (λ x h. h) role_grant_exact
-    (behind_behind change 15 policy made_policy _ (λ x. refl) (λ x h. h) policy_exact
+    (behind_behind change 8 role_revoke (λ x. RoleRevoke x.0 x.1) _ (λ x. refl) (λ x h. h) role_revoke_exact
+    (behind_behind change 9 object_right (λ x. ObjGrant x.0 x.1.0 x.1.1) _ (λ x. refl) (λ x h. h) object_right_exact
+    (behind_behind change 10 object_right (λ x. ObjRevoke x.0 x.1.0 x.1.1) _ (λ x. refl) (λ x h. h) object_right_exact
+    (no_other_behind change))))))
+
+tabled_reads : IsBehind change tabled_behind
+unfolding change tabled_behind
+tabled_reads =
+    behind_behind change 11 created (λ x. Table x.0 x.1.0 x.1.1) _ (λ x. refl) (λ x h. h) created_exact
+    (behind_behind change 12 table TableGone _ (λ x. refl) (λ x h. h) table_exact
+    (behind_behind change 13 put (λ x. Put x.0 x.1.0 x.1.1) _ (λ x. refl) (λ x h. h) put_exact
+    (behind_behind change 14 row (λ x. Gone x.0 x.1) _ (λ x. refl) (λ x h. h) row_exact
+    (no_other_behind change))))
+
+audited_reads : IsBehind change audited_behind
+unfolding change audited_behind
+audited_reads =
+    behind_behind change 15 policy made_policy _ (λ x. refl) (λ x h. h) policy_exact
+    (behind_behind change 16 name PolicyGone _ (λ x. refl) (λ x h. h) name_exact
     (behind_behind change 17 enablement (λ x. Enable x.0 x.1) _ (λ x. refl) (λ x h. h) enablement_exact
+    (behind_behind change 18 fga made_fga _ (λ x. refl) (λ x h. h) fga_exact
+    (behind_behind change 19 fga_name (λ x. FgaGone x.0 x.1) _ (λ x. refl) (λ x h. h) fga_name_exact
+    (behind_behind change 20 (option stamp) Archive _ (λ x. refl) (λ x h. h) archive_exact
     (behind_behind change 21 (number w32) Start _ (λ x. refl) (λ x h. h) exact32
     (no_other_behind change)))))))
 
+change_reads : IsBehind change change_behind
+unfolding change_behind
+change_reads =
+    below_behind change 5 named_behind (below 11 granted_behind (below 15 tabled_behind audited_behind)) named_reads
+    (below_behind change 11 granted_behind (below 15 tabled_behind audited_behind) granted_reads
+    (below_behind change 15 tabled_behind audited_behind tabled_reads audited_reads))
+
 change_again : (x : Change) (rest : List ℕ) → change.IsSpellable x → change.first (change.spelled x ++ rest) ≡ Some (x, rest)
-unfolding change change_behind
+unfolding change change_behind named_behind granted_behind tabled_behind audited_behind
 change_again (User n v) rest h = rw (user_exact.again (n, v) rest h) refl
+change_again (UserGone n) rest h = rw (name_exact.again n rest h) refl
 change_again (Role n) rest h = rw (name_exact.again n rest h) refl
+change_again (RoleGone n) rest h = rw (name_exact.again n rest h) refl
 change_again (SysGrant n p a) rest h = rw (system_grant_exact.again (n, (p, a)) rest h) refl
+change_again (SysRevoke n p) rest h = rw (system_revoke_exact.again (n, p) rest h) refl
 change_again (RoleGrant n r a) rest h = rw (role_grant_exact.again (n, (r, a)) rest h) refl
+change_again (RoleRevoke n r) rest h = rw (role_revoke_exact.again (n, r) rest h) refl
+change_again (ObjGrant n t a) rest h = rw (object_right_exact.again (n, (t, a)) rest h) refl
+change_again (ObjRevoke n t a) rest h = rw (object_right_exact.again (n, (t, a)) rest h) refl
+change_again (Table t cs k) rest h = rw (created_exact.again (t, (cs, k)) rest h) refl
+change_again (TableGone t) rest h = rw (table_exact.again t rest h) refl
+change_again (Put t r cs) rest h = rw (put_exact.again (t, (r, cs)) rest h) refl
+change_again (Gone t r) rest h = rw (row_exact.again (t, r) rest h) refl
 change_again (Policy n ps ts rs w) rest h = rw (policy_exact.again (n, (ps, (ts, (rs, w)))) rest h) refl
+change_again (PolicyGone n) rest h = rw (name_exact.again n rest h) refl
 change_again (Enable n e) rest h = rw (enablement_exact.again (n, e) rest h) refl
+change_again (Fga t n c cs a ts e) rest h = rw (fga_exact.again ((t, n), (c, (cs, (a, (ts, e))))) rest h) refl
+change_again (FgaGone t n) rest h = rw (fga_name_exact.again (t, n) rest h) refl
+change_again (Archive s) rest h = rw (archive_exact.again s rest h) refl
 change_again (Start i) rest h = rw (exact32.again i rest h) refl
 
 change_first : (bytes : List ℕ) → change.first bytes ≡ tagged_first change_behind bytes
@@ -330,17 +391,26 @@ body_exact =
     pair_exact stamp (pair (counted (number w32) change) (counted (number w32) trail_record)) stamp_exact
     (pair_exact (counted (number w32) change) (counted (number w32) trail_record) (counted_exact (number w32) change exact32 change_exact) (counted_exact (number w32) trail_record exact32 trail_record_exact))
 
+purge_exact : IsExact purge
+unfolding purge
+purge_exact =
+    pair_exact stamp (pair (option stamp) (pair (counted (number w32) change) (counted (number w32) trail_record))) stamp_exact
+    (pair_exact (option stamp) (pair (counted (number w32) change) (counted (number w32) trail_record)) archive_exact
+    (pair_exact (counted (number w32) change) (counted (number w32) trail_record) (counted_exact (number w32) change exact32 change_exact) (counted_exact (number w32) trail_record exact32 trail_record_exact)))
+
 frame_reads : IsBehind frame frame_behind
 unfolding frame frame_behind
 frame_reads =
     behind_behind frame 1 body (λ x. Image x.0 x.1.0 x.1.1) _ (λ x. refl) (λ x h. h) body_exact
     (behind_behind frame 2 body (λ x. Event x.0 x.1.0 x.1.1) _ (λ x. refl) (λ x h. h) body_exact
-    (no_other_behind frame))
+    (behind_behind frame 3 purge (λ x. Purge x.0 x.1.0 x.1.1.0 x.1.1.1) _ (λ x. refl) (λ x h. h) purge_exact
+    (no_other_behind frame)))
 
 frame_again : (x : Frame) (rest : List ℕ) → frame.IsSpellable x → frame.first (frame.spelled x ++ rest) ≡ Some (x, rest)
 unfolding frame frame_behind
 frame_again (Image last changes records) rest h = rw (body_exact.again (last, (changes, records)) rest h) refl
 frame_again (Event moment changes records) rest h = rw (body_exact.again (moment, (changes, records)) rest h) refl
+frame_again (Purge moment before changes records) rest h = rw (purge_exact.again (moment, (before, (changes, records))) rest h) refl
 
 frame_first : (bytes : List ℕ) → frame.first bytes ≡ tagged_first frame_behind bytes
 unfolding frame

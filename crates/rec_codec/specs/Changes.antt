@@ -1,21 +1,27 @@
 -- How changes are spelled: a tag, and behind it the parts of the change.
-use Rattle.std.specs.Prelude.{ℕ, List, [], ◌∷◌, map, length, nat_le, ◌&&◌, Bool, ⊤, Option, Some, None}
+use Rattle.std.specs.Prelude.{ℕ, List, [], ◌∷◌, map, length, nat_le, nat_lt, ◌&&◌, Bool, ⊤, Option, Some, None, if◌then◌else◌}
 use Rattle.std.specs.Int.{w16, w32}
 use Rattle.std.specs.Option.{option_eq}
 use Rattle.std.specs.Str.{bytes_eq}
+use Rattle.au_base.specs.Actions as actions
 use Rattle.au_base.specs.declared.action.Action.{Action}
+use Rattle.au_base.specs.declared.cell.Cell.{Cell}
+use Rattle.au_base.specs.declared.numbers.RowNo.{RowNo}
+use Rattle.au_base.specs.declared.numbers.Stamp.{Stamp}
 use Rattle.au_base.specs.declared.privilege.Privilege.{Privilege}
+use Rattle.au_base.specs.declared.table.Column.{Column}
 use Rattle.au_base.specs.declared.table.TableName.{TableName}
-use Rattle.au_catalog.specs.declared.change.Change.{Change}
-use Rattle.au_catalog.specs.declared.change.Change.TheVariants.{User, Role, SysGrant, RoleGrant, Policy, Enable, Start}
-use Rattle.au_catalog.specs.declared.policy.Enabled.{Enabled}
-use Rattle.au_catalog.specs.declared.policy.Enabled.TheVariants.{Off, By, Except}
-use Rattle.au_catalog.specs.declared.policy.Evaluate.{Evaluate}
-use Rattle.au_catalog.specs.declared.policy.Evaluate.TheVariants.{Statement, Session, Instance}
-use Rattle.au_catalog.specs.declared.policy.Outcomes.{Outcomes}
+use Rattle.au_entries.specs.declared.change.Change.{Change}
+use Rattle.au_entries.specs.declared.change.Change.TheVariants.{User, UserGone, Role, RoleGone, SysGrant, SysRevoke, RoleGrant, RoleRevoke, ObjGrant, ObjRevoke, Table, TableGone, Put, Gone, Policy, PolicyGone, Enable, Fga, FgaGone, Archive, Start}
+use Rattle.au_entries.specs.declared.policy.Enabled.{Enabled}
+use Rattle.au_entries.specs.declared.policy.Enabled.TheVariants.{Off, By, Except}
+use Rattle.au_entries.specs.declared.policy.Evaluate.{Evaluate}
+use Rattle.au_entries.specs.declared.policy.Evaluate.TheVariants.{Statement, Session, Instance}
+use Rattle.au_entries.specs.declared.policy.Outcomes.{Outcomes}
 use Rattle.au_priv.specs.Holding.{same_action, same_table}
-use Rattle.rec_codec.specs.Spelling.{Spelling, Behind, behind, counted, is_without_repeats, led_by, no_other, nothing, number, option, pair, such_that, tagged_first}
-use Rattle.rec_codec.specs.Parts.{name, text, truth, verifier, privilege, action, outcomes, table, names, privileges_in_order}
+use Rattle.rec_codec.specs.Spelling.{Spelling, Behind, behind, below, byte, counted, is_without_repeats, led_by, no_other, nothing, number, option, pair, such_that, tagged_first}
+use Rattle.rec_codec.specs.Parts.{name, text, truth, stamp, verifier, privilege, action, outcomes, table, names, privileges_in_order}
+use Rattle.rec_codec.specs.Tables.{cells, columns, places, row_number}
 
 -- a part of a policy: an action, on one table where one is named
 abbrev pub Part : Type 0
@@ -92,8 +98,34 @@ user = pair name verifier
 unfoldable pub system_grant : Spelling (List ℕ × (Privilege × Bool))
 system_grant = pair name (pair privilege truth)
 
+unfoldable pub system_revoke : Spelling (List ℕ × Privilege)
+system_revoke = pair name privilege
+
 unfoldable pub role_grant : Spelling (List ℕ × (List ℕ × Bool))
 role_grant = pair name (pair name truth)
+
+unfoldable pub role_revoke : Spelling (List ℕ × List ℕ)
+role_revoke = pair name name
+
+-- one of SELECT, INSERT, UPDATE and DELETE
+abbrev pub is_object_action : Action → Bool
+is_object_action a = nat_le 1 (actions.code_of a) && nat_le (actions.code_of a) 4
+
+unfoldable pub object_action : Spelling Action
+object_action = such_that action is_object_action
+
+-- an object privilege: the grantee, the table and the action
+unfoldable pub object_right : Spelling (List ℕ × (TableName × Action))
+object_right = pair name (pair table object_action)
+
+unfoldable pub created : Spelling (TableName × (List Column × List ℕ))
+created = pair table (pair columns places)
+
+unfoldable pub row : Spelling (TableName × RowNo)
+row = pair table row_number
+
+unfoldable pub put : Spelling (TableName × (RowNo × List Cell))
+put = pair table (pair row_number cells)
 
 unfoldable pub policy : Spelling (List ℕ × (List Privilege × (List Part × (List (List ℕ) × Condition))))
 policy = pair name (pair privileges_in_order (pair parts (pair names when)))
@@ -104,35 +136,115 @@ made_policy x = Policy x.0 x.1.0 x.1.1.0 x.1.1.1.0 x.1.1.1.1
 unfoldable pub enablement : Spelling (List ℕ × Enabled)
 enablement = pair name enabled
 
+-- the kinds of statements: 1, 2, 4 and 8 for SELECT, INSERT, UPDATE and DELETE, added; at least one of them
+unfoldable pub types : Spelling ℕ
+types = such_that byte (λ t. nat_le 1 t && nat_le t 15)
+
+-- a fine-grained policy: its table and its name
+unfoldable pub fga_name : Spelling (TableName × List ℕ)
+fga_name = pair table name
+
+-- and what it is for: the condition, the columns, whether all of them count, the kinds of statements, and whether it is
+-- enabled
+unfoldable pub fga_parts : Spelling (Option (List ℕ) × (List (List ℕ) × (Bool × (ℕ × Bool))))
+fga_parts = pair (option text) (pair names (pair truth (pair types truth)))
+
+unfoldable pub fga : Spelling ((TableName × List ℕ) × (Option (List ℕ) × (List (List ℕ) × (Bool × (ℕ × Bool)))))
+fga = pair fga_name fga_parts
+
+abbrev pub made_fga : (TableName × List ℕ) × (Option (List ℕ) × (List (List ℕ) × (Bool × (ℕ × Bool)))) → Change
+made_fga x = Fga x.0.0 x.0.1 x.1.0 x.1.1.0 x.1.1.1.0 x.1.1.1.1.0 x.1.1.1.1.1
+
 -- changes, each behind its tag
 abbrev pub change_spelled : Change → List ℕ
 change_spelled (User n v) = 1 ∷ user.spelled (n, v)
+change_spelled (UserGone n) = 2 ∷ name.spelled n
 change_spelled (Role n) = 3 ∷ name.spelled n
+change_spelled (RoleGone n) = 4 ∷ name.spelled n
 change_spelled (SysGrant n p a) = 5 ∷ system_grant.spelled (n, (p, a))
+change_spelled (SysRevoke n p) = 6 ∷ system_revoke.spelled (n, p)
 change_spelled (RoleGrant n r a) = 7 ∷ role_grant.spelled (n, (r, a))
+change_spelled (RoleRevoke n r) = 8 ∷ role_revoke.spelled (n, r)
+change_spelled (ObjGrant n t a) = 9 ∷ object_right.spelled (n, (t, a))
+change_spelled (ObjRevoke n t a) = 10 ∷ object_right.spelled (n, (t, a))
+change_spelled (Table t cs k) = 11 ∷ created.spelled (t, (cs, k))
+change_spelled (TableGone t) = 12 ∷ table.spelled t
+change_spelled (Put t r cs) = 13 ∷ put.spelled (t, (r, cs))
+change_spelled (Gone t r) = 14 ∷ row.spelled (t, r)
 change_spelled (Policy n ps ts rs w) = 15 ∷ policy.spelled (n, (ps, (ts, (rs, w))))
+change_spelled (PolicyGone n) = 16 ∷ name.spelled n
 change_spelled (Enable n e) = 17 ∷ enablement.spelled (n, e)
+change_spelled (Fga t n c cs a ts e) = 18 ∷ fga.spelled ((t, n), (c, (cs, (a, (ts, e)))))
+change_spelled (FgaGone t n) = 19 ∷ fga_name.spelled (t, n)
+change_spelled (Archive s) = 20 ∷ (option stamp).spelled s
 change_spelled (Start i) = 21 ∷ (number w32).spelled i
 
 abbrev pub IsChangeSpellable : Change → Type 0
 IsChangeSpellable (User n v) = user.IsSpellable (n, v)
+IsChangeSpellable (UserGone n) = name.IsSpellable n
 IsChangeSpellable (Role n) = name.IsSpellable n
+IsChangeSpellable (RoleGone n) = name.IsSpellable n
 IsChangeSpellable (SysGrant n p a) = system_grant.IsSpellable (n, (p, a))
+IsChangeSpellable (SysRevoke n p) = system_revoke.IsSpellable (n, p)
 IsChangeSpellable (RoleGrant n r a) = role_grant.IsSpellable (n, (r, a))
+IsChangeSpellable (RoleRevoke n r) = role_revoke.IsSpellable (n, r)
+IsChangeSpellable (ObjGrant n t a) = object_right.IsSpellable (n, (t, a))
+IsChangeSpellable (ObjRevoke n t a) = object_right.IsSpellable (n, (t, a))
+IsChangeSpellable (Table t cs k) = created.IsSpellable (t, (cs, k))
+IsChangeSpellable (TableGone t) = table.IsSpellable t
+IsChangeSpellable (Put t r cs) = put.IsSpellable (t, (r, cs))
+IsChangeSpellable (Gone t r) = row.IsSpellable (t, r)
 IsChangeSpellable (Policy n ps ts rs w) = policy.IsSpellable (n, (ps, (ts, (rs, w))))
+IsChangeSpellable (PolicyGone n) = name.IsSpellable n
 IsChangeSpellable (Enable n e) = enablement.IsSpellable (n, e)
+IsChangeSpellable (Fga t n c cs a ts e) = fga.IsSpellable ((t, n), (c, (cs, (a, (ts, e)))))
+IsChangeSpellable (FgaGone t n) = fga_name.IsSpellable (t, n)
+IsChangeSpellable (Archive s) = (option stamp).IsSpellable s
 IsChangeSpellable (Start i) = (number w32).IsSpellable i
 
-unfoldable pub change_behind : Behind Change
-change_behind =
+-- users and roles
+unfoldable pub named_behind : Behind Change
+named_behind =
     behind 1 user (λ x. User x.0 x.1)
+    (behind 2 name UserGone
     (behind 3 name Role
-    (behind 5 system_grant (λ x. SysGrant x.0 x.1.0 x.1.1)
+    (behind 4 name RoleGone
+    no_other)))
+
+-- grants
+unfoldable pub granted_behind : Behind Change
+granted_behind =
+    behind 5 system_grant (λ x. SysGrant x.0 x.1.0 x.1.1)
+    (behind 6 system_revoke (λ x. SysRevoke x.0 x.1)
     (behind 7 role_grant (λ x. RoleGrant x.0 x.1.0 x.1.1)
-    (behind 15 policy made_policy
+    (behind 8 role_revoke (λ x. RoleRevoke x.0 x.1)
+    (behind 9 object_right (λ x. ObjGrant x.0 x.1.0 x.1.1)
+    (behind 10 object_right (λ x. ObjRevoke x.0 x.1.0 x.1.1)
+    no_other)))))
+
+-- tables and rows
+unfoldable pub tabled_behind : Behind Change
+tabled_behind =
+    behind 11 created (λ x. Table x.0 x.1.0 x.1.1)
+    (behind 12 table TableGone
+    (behind 13 put (λ x. Put x.0 x.1.0 x.1.1)
+    (behind 14 row (λ x. Gone x.0 x.1)
+    no_other)))
+
+-- policies, the archive timestamp and the instance
+unfoldable pub audited_behind : Behind Change
+audited_behind =
+    behind 15 policy made_policy
+    (behind 16 name PolicyGone
     (behind 17 enablement (λ x. Enable x.0 x.1)
+    (behind 18 fga made_fga
+    (behind 19 fga_name (λ x. FgaGone x.0 x.1)
+    (behind 20 (option stamp) Archive
     (behind 21 (number w32) Start
     no_other))))))
+
+unfoldable pub change_behind : Behind Change
+change_behind = below 5 named_behind (below 11 granted_behind (below 15 tabled_behind audited_behind))
 
 unfoldable pub change : Spelling Change
 change = record { spelled = change_spelled; IsSpellable = IsChangeSpellable; first = tagged_first change_behind }

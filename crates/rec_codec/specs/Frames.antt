@@ -2,11 +2,11 @@
 use Rattle.std.specs.Prelude.{◌≡◌, ℕ, List, [], ◌∷◌, ◌++◌, length, Option, Some, None}
 use Rattle.std.specs.Int.{w32, w64, to_be_bytes}
 use Rattle.au_base.specs.declared.numbers.Stamp.{Stamp}
-use Rattle.au_catalog.specs.declared.change.Change.{Change}
-use Rattle.au_catalog.specs.declared.trail_record.Record.{Record}
+use Rattle.au_entries.specs.declared.change.Change.{Change}
+use Rattle.au_entries.specs.declared.trail_record.Record.{Record}
 use Rattle.rec_codec.specs.declared.frame.Frame.{Frame}
-use Rattle.rec_codec.specs.declared.frame.Frame.TheVariants.{Image, Event}
-use Rattle.rec_codec.specs.Spelling.{Spelling, Behind, behind, counted, no_other, number, pair, tagged_first}
+use Rattle.rec_codec.specs.declared.frame.Frame.TheVariants.{Image, Event, Purge}
+use Rattle.rec_codec.specs.Spelling.{Spelling, Behind, behind, counted, no_other, number, option, pair, tagged_first}
 use Rattle.rec_codec.specs.Parts.{stamp}
 use Rattle.rec_codec.specs.Changes.{change}
 use Rattle.rec_codec.specs.Records.{trail_record}
@@ -15,22 +15,29 @@ use Rattle.rec_codec.specs.Records.{trail_record}
 unfoldable pub body : Spelling (Stamp × (List Change × List Record))
 body = pair stamp (pair (counted (number w32) change) (counted (number w32) trail_record))
 
+-- a purge: its stamp, the moment before which records go, changes and records
+unfoldable pub purge : Spelling (Stamp × (Option Stamp × (List Change × List Record)))
+purge = pair stamp (pair (option stamp) (pair (counted (number w32) change) (counted (number w32) trail_record)))
+
 -- the body of the frame: its kind, and what stands behind it
 abbrev pub spelled : Frame → List ℕ
 spelled (Image last changes records) = 1 ∷ body.spelled (last, (changes, records))
 spelled (Event moment changes records) = 2 ∷ body.spelled (moment, (changes, records))
+spelled (Purge moment before changes records) = 3 ∷ purge.spelled (moment, (before, (changes, records)))
 
 -- the frame has a body
 abbrev pub IsSpellable : Frame → Type 0
 IsSpellable (Image last changes records) = body.IsSpellable (last, (changes, records))
 IsSpellable (Event moment changes records) = body.IsSpellable (moment, (changes, records))
+IsSpellable (Purge moment before changes records) = purge.IsSpellable (moment, (before, (changes, records)))
 
 -- what stands behind the kind
 unfoldable pub frame_behind : Behind Frame
 frame_behind =
     behind 1 body (λ x. Image x.0 x.1.0 x.1.1)
     (behind 2 body (λ x. Event x.0 x.1.0 x.1.1)
-    no_other)
+    (behind 3 purge (λ x. Purge x.0 x.1.0 x.1.1.0 x.1.1.1)
+    no_other))
 
 unfoldable pub frame : Spelling Frame
 frame = record { spelled = spelled; IsSpellable = IsSpellable; first = tagged_first frame_behind }

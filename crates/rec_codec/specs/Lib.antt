@@ -4,3 +4,4 @@ pub mod Given
 pub mod Parts
 pub mod Records
 pub mod Spelling
+pub mod Tables

@@ -12,7 +12,7 @@ use Rattle.au_base.specs.declared.numbers.SessionNo.{SessionNo}
 use Rattle.au_base.specs.declared.numbers.Stamp.{Stamp}
 use Rattle.au_base.specs.declared.privilege.Privilege.{Privilege}
 use Rattle.au_base.specs.declared.table.TableName.{TableName}
-use Rattle.au_catalog.specs.declared.policy.Outcomes.{Outcomes}
+use Rattle.au_entries.specs.declared.policy.Outcomes.{Outcomes}
 use Rattle.rec_codec.specs.Spelling.{Spelling, byte, coded, coded_first, counted, is_without_repeats, long, made_of, number, only, pair, run, such_that}
 
 -- whether the bytes are a name

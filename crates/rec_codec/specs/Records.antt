@@ -3,9 +3,9 @@ use Rattle.std.specs.Prelude.{ℕ, List, length, nat_le, ◌==◌, ◌&&◌, Opt
 use Rattle.std.specs.Int.{w32}
 use Rattle.au_base.specs.Actions as actions
 use Rattle.au_base.specs.declared.action.Action.{Action}
-use Rattle.au_catalog.specs.declared.trail_record.Record.{Record}
-use Rattle.au_catalog.specs.declared.trail_record.RecordKind.{RecordKind}
-use Rattle.au_catalog.specs.declared.trail_record.RecordKind.TheVariants.{Standard, FineGrained}
+use Rattle.au_entries.specs.declared.trail_record.Record.{Record}
+use Rattle.au_entries.specs.declared.trail_record.RecordKind.{RecordKind}
+use Rattle.au_entries.specs.declared.trail_record.RecordKind.TheVariants.{Standard, FineGrained}
 use Rattle.rec_codec.specs.declared.record_parts.Deed.{Deed}
 use Rattle.rec_codec.specs.declared.record_parts.Grounds.{Grounds}
 use Rattle.rec_codec.specs.declared.record_parts.Origin.{Origin}

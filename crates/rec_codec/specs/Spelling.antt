@@ -148,6 +148,10 @@ first_as s make bytes = s.first bytes >>= λ x. Some (make x.0, x.1)
 abbrev pub behind : {A X : Type 0} → ℕ → Spelling A → (A → X) → Behind X → Behind X
 behind t s make others tag bytes = if tag == t then first_as s make bytes else others tag bytes
 
+-- behind the tags under this one as the first says, behind the others as the second says
+abbrev pub below : {X : Type 0} → ℕ → Behind X → Behind X → Behind X
+below t low high tag bytes = if nat_lt tag t then low tag bytes else high tag bytes
+
 abbrev pub tagged_first : {X : Type 0} → Behind X → List ℕ → Option (X × List ℕ)
 tagged_first others [] = None
 tagged_first others (tag ∷ bytes) = others tag bytes

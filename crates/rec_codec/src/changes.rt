@@ -1,17 +1,22 @@
 //! Changes of what is kept.
-ghost use Rattle.std.specs.Prelude.{◌≡◌, ◌++◌, OnOk};
+ghost use Rattle.std.specs.Prelude.{◌≡◌, ◌++◌, ◌∷◌, OnOk};
 ghost use Rattle.rec_codec.specs.Given.{Gives};
-ghost use Rattle.rec_codec.specs.Changes.{change_behind};
+ghost use Rattle.rec_codec.specs.Changes.{audited_behind, change_behind, created, granted_behind, named_behind, object_right, put, tabled_behind};
 
-use crate::numbers::{read_u8, write_u8, write_u32};
+use crate::fine_grained::{read_fga, write_fga_parts};
+use crate::numbers::{read_u8, write_u8};
 use crate::policies::{read_policy, write_policy};
 use crate::read_error::ReadError;
-use crate::spelled::Spelled;
-use au_base::{Memory, Name, Privilege};
-use au_catalog::{Change, Enabled};
+use crate::spelled::{Spelled, write_one, write_three, write_two};
+use crate::tables::{
+    read_cells, read_columns, read_object_action, read_places, write_cells, write_columns,
+    write_places,
+};
+use au_base::{Action, Cell, Column, List, Memory, Name, Privilege, RowNo, Stamp, TableName};
+use au_entries::{Change, Enabled};
 use std::alloc::Global;
 
-#[tactic(auto, unfolding(crate::specs::Changes::change, crate::specs::Changes::user, crate::specs::Changes::system_grant, crate::specs::Changes::role_grant, crate::specs::Changes::enablement))]
+#[tactic(auto, unfolding(crate::specs::Changes::change, crate::specs::Changes::user, crate::specs::Changes::system_grant, crate::specs::Changes::system_revoke, crate::specs::Changes::role_grant, crate::specs::Changes::role_revoke, crate::specs::Changes::row, crate::specs::Changes::enablement, crate::specs::Changes::fga_name, crate::specs::Changes::fga))]
 impl Spelled for Change {
     ghost use Rattle.rec_codec.specs.Changes.{change};
 
@@ -19,27 +24,20 @@ impl Spelled for Change {
 
     fn write(&self, out: &mut Vec<u8>) -> Result<(), Memory> {
         match self {
-            Change::User(name, verifier) => {
-                write_u8(out, 1)?;
-                name.write(out)?;
-                verifier.write(out)
-            }
-            Change::Role(name) => {
-                write_u8(out, 3)?;
-                name.write(out)
-            }
-            Change::SysGrant(grantee, privilege, admin) => {
-                write_u8(out, 5)?;
-                grantee.write(out)?;
-                privilege.write(out)?;
-                admin.write(out)
-            }
-            Change::RoleGrant(grantee, role, admin) => {
-                write_u8(out, 7)?;
-                grantee.write(out)?;
-                role.write(out)?;
-                admin.write(out)
-            }
+            Change::User(name, verifier) => write_two(out, 1, name, verifier),
+            Change::UserGone(name) => write_one(out, 2, name),
+            Change::Role(name) => write_one(out, 3, name),
+            Change::RoleGone(name) => write_one(out, 4, name),
+            Change::SysGrant(to, privilege, admin) => write_three(out, 5, to, privilege, admin),
+            Change::SysRevoke(from, privilege) => write_two(out, 6, from, privilege),
+            Change::RoleGrant(to, role, admin) => write_three(out, 7, to, role, admin),
+            Change::RoleRevoke(from, role) => write_two(out, 8, from, role),
+            Change::ObjGrant(to, table, action) => write_right(out, 9, to, table, *action),
+            Change::ObjRevoke(from, table, action) => write_right(out, 10, from, table, *action),
+            Change::Table(table, columns, key) => write_created(out, table, columns, key),
+            Change::TableGone(table) => write_one(out, 12, table),
+            Change::Put(table, row, cells) => write_put(out, table, *row, cells),
+            Change::Gone(table, row) => write_two(out, 14, table, row),
             Change::Policy {
                 name,
                 privileges,
@@ -50,15 +48,23 @@ impl Spelled for Change {
                 write_u8(out, 15)?;
                 write_policy(name, privileges, actions, roles, when, out)
             }
-            Change::Enable(policy, enabled) => {
-                write_u8(out, 17)?;
-                policy.write(out)?;
-                enabled.write(out)
+            Change::PolicyGone(name) => write_one(out, 16, name),
+            Change::Enable(policy, enabled) => write_two(out, 17, policy, enabled),
+            Change::Fga {
+                table,
+                policy,
+                condition,
+                columns,
+                all,
+                types,
+                enabled,
+            } => {
+                write_two(out, 18, table, policy)?;
+                write_fga_parts(out, condition, columns, *all, *types, *enabled)
             }
-            Change::Start(instance) => {
-                write_u8(out, 21)?;
-                write_u32(out, *instance)
-            }
+            Change::FgaGone(table, policy) => write_two(out, 19, table, policy),
+            Change::Archive(stamp) => write_one(out, 20, stamp),
+            Change::Start(instance) => write_one(out, 21, instance),
         }
     }
 
@@ -68,9 +74,72 @@ impl Spelled for Change {
     }
 }
 
-#[tactic(auto, unfolding(crate::specs::Changes::change_behind, crate::specs::Changes::user, crate::specs::Changes::system_grant, crate::specs::Changes::role_grant, crate::specs::Changes::enablement))]
+/// Writes a sign and an object privilege.
+#[tactic(auto, unfolding(crate::specs::Changes::object_right, crate::specs::Changes::object_action))]
+fn write_right(
+    out: &mut Vec<u8>,
+    sign: u8,
+    grantee: &Name,
+    table: &TableName,
+    action: Action,
+) -> Result<(), Memory>
+    requires { object_right.IsSpellable (grantee.now, (table.now, action)) }
+    ensures { OnOk result (out.new.items ≡ out.old.items ++ sign ∷ object_right.spelled (grantee.now, (table.now, action))) }
+{
+    write_three(out, sign, grantee, table, &action)
+}
+
+/// Writes a new table.
+#[tactic(auto, unfolding(crate::specs::Changes::created))]
+fn write_created(
+    out: &mut Vec<u8>,
+    table: &TableName,
+    columns: &List<Column>,
+    key: &List<u32>,
+) -> Result<(), Memory>
+    requires { created.IsSpellable (table.now, (columns.now, key.now)) }
+    ensures { OnOk result (out.new.items ≡ out.old.items ++ 11 ∷ created.spelled (table.now, (columns.now, key.now))) }
+{
+    write_one(out, 11, table)?;
+    write_columns(columns, out)?;
+    write_places(key, out)
+}
+
+/// Writes a row that is put.
+#[tactic(auto, unfolding(crate::specs::Changes::put))]
+fn write_put(
+    out: &mut Vec<u8>,
+    table: &TableName,
+    row: RowNo,
+    cells: &List<Cell>,
+) -> Result<(), Memory>
+    requires { put.IsSpellable (table.now, (row, cells.now)) }
+    ensures { OnOk result (out.new.items ≡ out.old.items ++ 13 ∷ put.spelled (table.now, (row, cells.now))) }
+{
+    write_two(out, 13, table, &row)?;
+    write_cells(cells, out)
+}
+
+#[tactic(auto, unfolding(crate::specs::Changes::change_behind))]
 fn read_behind_tag(alloc: Global, tag: u8, bytes: &[u8]) -> Result<(Change, &[u8]), ReadError>
     ensures { Gives (λ x. (x.0, x.1.now)) result (change_behind tag bytes.now) }
+{
+    if tag < 5 {
+        return read_named(alloc, tag, bytes);
+    }
+    if tag < 11 {
+        return read_granted(alloc, tag, bytes);
+    }
+    if tag < 15 {
+        return read_tabled(alloc, tag, bytes);
+    }
+    read_audited(alloc, tag, bytes)
+}
+
+/// A change of users or roles.
+#[tactic(auto, unfolding(crate::specs::Changes::named_behind, crate::specs::Changes::user))]
+fn read_named(alloc: Global, tag: u8, bytes: &[u8]) -> Result<(Change, &[u8]), ReadError>
+    ensures { Gives (λ x. (x.0, x.1.now)) result (named_behind tag bytes.now) }
 {
     match tag {
         1 => {
@@ -78,15 +147,38 @@ fn read_behind_tag(alloc: Global, tag: u8, bytes: &[u8]) -> Result<(Change, &[u8
             let (verifier, rest) = <[u8; 32]>::read(alloc, rest)?;
             Ok((Change::User(name, verifier), rest))
         }
+        2 => {
+            let (name, rest) = Name::read(alloc, bytes)?;
+            Ok((Change::UserGone(name), rest))
+        }
         3 => {
             let (name, rest) = Name::read(alloc, bytes)?;
             Ok((Change::Role(name), rest))
         }
+        4 => {
+            let (name, rest) = Name::read(alloc, bytes)?;
+            Ok((Change::RoleGone(name), rest))
+        }
+        _ => Err(ReadError::NoFrame),
+    }
+}
+
+/// A change of grants.
+#[tactic(auto, unfolding(crate::specs::Changes::granted_behind, crate::specs::Changes::system_grant, crate::specs::Changes::system_revoke, crate::specs::Changes::role_grant, crate::specs::Changes::role_revoke))]
+fn read_granted(alloc: Global, tag: u8, bytes: &[u8]) -> Result<(Change, &[u8]), ReadError>
+    ensures { Gives (λ x. (x.0, x.1.now)) result (granted_behind tag bytes.now) }
+{
+    match tag {
         5 => {
             let (grantee, rest) = Name::read(alloc, bytes)?;
             let (privilege, rest) = Privilege::read(alloc, rest)?;
             let (admin, rest) = bool::read(alloc, rest)?;
             Ok((Change::SysGrant(grantee, privilege, admin), rest))
+        }
+        6 => {
+            let (grantee, rest) = Name::read(alloc, bytes)?;
+            let (privilege, rest) = Privilege::read(alloc, rest)?;
+            Ok((Change::SysRevoke(grantee, privilege), rest))
         }
         7 => {
             let (grantee, rest) = Name::read(alloc, bytes)?;
@@ -94,11 +186,93 @@ fn read_behind_tag(alloc: Global, tag: u8, bytes: &[u8]) -> Result<(Change, &[u8
             let (admin, rest) = bool::read(alloc, rest)?;
             Ok((Change::RoleGrant(grantee, role, admin), rest))
         }
+        8 => {
+            let (grantee, rest) = Name::read(alloc, bytes)?;
+            let (role, rest) = Name::read(alloc, rest)?;
+            Ok((Change::RoleRevoke(grantee, role), rest))
+        }
+        9 => {
+            let ((grantee, table, action), rest) = read_right(alloc, bytes)?;
+            Ok((Change::ObjGrant(grantee, table, action), rest))
+        }
+        10 => {
+            let ((grantee, table, action), rest) = read_right(alloc, bytes)?;
+            Ok((Change::ObjRevoke(grantee, table, action), rest))
+        }
+        _ => Err(ReadError::NoFrame),
+    }
+}
+
+/// An object privilege: the grantee, the table and the action.
+#[tactic(auto, unfolding(crate::specs::Changes::object_right))]
+fn read_right(
+    alloc: Global,
+    bytes: &[u8],
+) -> Result<((Name, TableName, Action), &[u8]), ReadError>
+    ensures { Gives (λ x. ((x.0.0, (x.0.1, x.0.2)), x.1.now)) result (object_right.first bytes.now) }
+{
+    let (grantee, rest) = Name::read(alloc, bytes)?;
+    let (table, rest) = TableName::read(alloc, rest)?;
+    let (action, rest) = read_object_action(alloc, rest)?;
+    Ok(((grantee, table, action), rest))
+}
+
+/// A change of tables or rows.
+#[tactic(auto, unfolding(crate::specs::Changes::tabled_behind, crate::specs::Changes::created, crate::specs::Changes::put, crate::specs::Changes::row))]
+fn read_tabled(alloc: Global, tag: u8, bytes: &[u8]) -> Result<(Change, &[u8]), ReadError>
+    ensures { Gives (λ x. (x.0, x.1.now)) result (tabled_behind tag bytes.now) }
+{
+    match tag {
+        11 => {
+            let (table, rest) = TableName::read(alloc, bytes)?;
+            let (columns, rest) = read_columns(alloc, rest)?;
+            let (key, rest) = read_places(alloc, rest)?;
+            Ok((Change::Table(table, columns, key), rest))
+        }
+        12 => {
+            let (table, rest) = TableName::read(alloc, bytes)?;
+            Ok((Change::TableGone(table), rest))
+        }
+        13 => {
+            let (table, rest) = TableName::read(alloc, bytes)?;
+            let (row, rest) = RowNo::read(alloc, rest)?;
+            let (cells, rest) = read_cells(alloc, rest)?;
+            Ok((Change::Put(table, row, cells), rest))
+        }
+        14 => {
+            let (table, rest) = TableName::read(alloc, bytes)?;
+            let (row, rest) = RowNo::read(alloc, rest)?;
+            Ok((Change::Gone(table, row), rest))
+        }
+        _ => Err(ReadError::NoFrame),
+    }
+}
+
+/// A change of policies, of the archive timestamp or of the instance.
+#[tactic(auto, unfolding(crate::specs::Changes::audited_behind, crate::specs::Changes::enablement, crate::specs::Changes::fga_name))]
+fn read_audited(alloc: Global, tag: u8, bytes: &[u8]) -> Result<(Change, &[u8]), ReadError>
+    ensures { Gives (λ x. (x.0, x.1.now)) result (audited_behind tag bytes.now) }
+{
+    match tag {
         15 => read_policy(alloc, bytes),
+        16 => {
+            let (name, rest) = Name::read(alloc, bytes)?;
+            Ok((Change::PolicyGone(name), rest))
+        }
         17 => {
             let (policy, rest) = Name::read(alloc, bytes)?;
             let (enabled, rest) = Enabled::read(alloc, rest)?;
             Ok((Change::Enable(policy, enabled), rest))
+        }
+        18 => read_fga(alloc, bytes),
+        19 => {
+            let (table, rest) = TableName::read(alloc, bytes)?;
+            let (policy, rest) = Name::read(alloc, rest)?;
+            Ok((Change::FgaGone(table, policy), rest))
+        }
+        20 => {
+            let (stamp, rest) = Option::<Stamp>::read(alloc, bytes)?;
+            Ok((Change::Archive(stamp), rest))
         }
         21 => {
             let (instance, rest) = u32::read(alloc, bytes)?;

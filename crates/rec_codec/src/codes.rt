@@ -7,7 +7,7 @@ use crate::numbers::{read_u8, write_u8};
 use crate::read_error::ReadError;
 use crate::spelled::Spelled;
 use au_base::{Action, Memory, Privilege};
-use au_catalog::{Outcomes, RecordKind};
+use au_entries::{Outcomes, RecordKind};
 use std::alloc::Global;
 
 #[tactic(auto, unfolding(crate::specs::Parts::truth))]

@@ -9,7 +9,7 @@ use crate::read_error::ReadError;
 use crate::repeats::names_each_once;
 use crate::spelled::Spelled;
 use au_base::{List, Memory, Name};
-use au_catalog::{Enabled, Outcomes};
+use au_entries::{Enabled, Outcomes};
 use std::alloc::Global;
 
 #[tactic(auto, unfolding(crate::specs::Changes::enabled))]

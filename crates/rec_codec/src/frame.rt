@@ -1,7 +1,7 @@
 //! Frames.
 
 use au_base::{List, Stamp};
-use au_catalog::{Change, Record};
+use au_entries::{Change, Record};
 
 /// What one event, or an image of all that is kept, writes to the journal.
 #[derive(Debug, Drop, PartialEq, Eq)]
@@ -15,6 +15,14 @@ pub enum Frame {
     /// What an event changes, in the order in which it happens, with its records.
     Event {
         stamp: Stamp,
+        changes: List<Change>,
+        records: List<Record>,
+    },
+    /// A purge of the trail: what it changes first, then the records stamped before `before` go, or
+    /// all of them where it names none, then come its own records.
+    Purge {
+        stamp: Stamp,
+        before: Option<Stamp>,
         changes: List<Change>,
         records: List<Record>,
     },

@@ -1,9 +1,10 @@
 //! The bodies of frames.
 ghost use Rattle.std.specs.Prelude.{◌≡◌, ◌++◌, ℕ, List, OnOk, IfOk};
-ghost use Rattle.rec_codec.specs.Spelling.{whole};
+ghost use Rattle.rec_codec.specs.Spelling.{first_as, whole};
 ghost use Rattle.rec_codec.specs.Given.{Gives};
 ghost use Rattle.rec_codec.specs.declared.frame.Frame as declared;
-ghost use Rattle.rec_codec.specs.Frames.{IsFrame, IsSpellable, Reads, body, frame, frame_behind, framed, spelled};
+ghost use Rattle.rec_codec.specs.declared.frame.Frame.TheVariants as kinds;
+ghost use Rattle.rec_codec.specs.Frames.{IsFrame, IsSpellable, Reads, body, frame, frame_behind, framed, purge, spelled};
 
 use crate::frame::Frame;
 use crate::lists::{read_list_u32, write_list_u32};
@@ -11,7 +12,7 @@ use crate::numbers::{read_u8, write_u8, write_u64};
 use crate::read_error::ReadError;
 use crate::spelled::Spelled;
 use au_base::{List as Sequence, Memory, Stamp};
-use au_catalog::{Change, Record};
+use au_entries::{Change, Record};
 use std::alloc::Global;
 
 /// The body of the frame.
@@ -92,6 +93,15 @@ fn write_frame(frame: &Frame, out: &mut Vec<u8>) -> Result<(), Memory>
             write_u8(out, 2)?;
             write_body(*stamp, changes, records, out)
         }
+        Frame::Purge {
+            stamp,
+            before,
+            changes,
+            records,
+        } => {
+            write_u8(out, 3)?;
+            write_purge(*stamp, before, changes, records, out)
+        }
     }
 }
 
@@ -110,6 +120,23 @@ fn write_body(
     write_list_u32(records, out)
 }
 
+#[tactic(auto, unfolding(crate::specs::Frames::purge))]
+fn write_purge(
+    stamp: Stamp,
+    before: &Option<Stamp>,
+    changes: &Sequence<Change>,
+    records: &Sequence<Record>,
+    out: &mut Vec<u8>,
+) -> Result<(), Memory>
+    requires { purge.IsSpellable (stamp, (before.now, (changes.now, records.now))) }
+    ensures { OnOk result (out.new.items ≡ out.old.items ++ purge.spelled (stamp, (before.now, (changes.now, records.now)))) }
+{
+    stamp.write(out)?;
+    before.write(out)?;
+    write_list_u32(changes, out)?;
+    write_list_u32(records, out)
+}
+
 #[tactic(auto, unfolding(crate::specs::Frames::frame))]
 fn read_frame(alloc: Global, bytes: &[u8]) -> Result<(Frame, &[u8]), ReadError>
     ensures { Gives (λ x. (x.0, x.1.now)) result (frame.first bytes.now) }
@@ -118,33 +145,61 @@ fn read_frame(alloc: Global, bytes: &[u8]) -> Result<(Frame, &[u8]), ReadError>
     read_behind_kind(alloc, kind, rest)
 }
 
-#[tactic(auto, unfolding(crate::specs::Frames::frame_behind, crate::specs::Frames::body))]
+#[tactic(auto, unfolding(crate::specs::Frames::frame_behind))]
 fn read_behind_kind(alloc: Global, kind: u8, bytes: &[u8]) -> Result<(Frame, &[u8]), ReadError>
     ensures { Gives (λ x. (x.0, x.1.now)) result (frame_behind kind bytes.now) }
 {
     match kind {
-        1 => {
-            let (last, rest) = Stamp::read(alloc, bytes)?;
-            let (changes, rest) = read_list_u32::<Change>(alloc, rest)?;
-            let (records, rest) = read_list_u32::<Record>(alloc, rest)?;
-            let image = Frame::Image {
-                last,
-                changes,
-                records,
-            };
-            Ok((image, rest))
-        }
-        2 => {
-            let (stamp, rest) = Stamp::read(alloc, bytes)?;
-            let (changes, rest) = read_list_u32::<Change>(alloc, rest)?;
-            let (records, rest) = read_list_u32::<Record>(alloc, rest)?;
-            let event = Frame::Event {
-                stamp,
-                changes,
-                records,
-            };
-            Ok((event, rest))
-        }
+        1 => read_image(alloc, bytes),
+        2 => read_event(alloc, bytes),
+        3 => read_purge(alloc, bytes),
         _ => Err(ReadError::NoFrame),
     }
+}
+
+#[tactic(auto, unfolding(crate::specs::Frames::body))]
+fn read_image(alloc: Global, bytes: &[u8]) -> Result<(Frame, &[u8]), ReadError>
+    ensures { Gives (λ x. (x.0, x.1.now)) result (first_as body (λ x. kinds.Image x.0 x.1.0 x.1.1) bytes.now) }
+{
+    let (last, rest) = Stamp::read(alloc, bytes)?;
+    let (changes, rest) = read_list_u32::<Change>(alloc, rest)?;
+    let (records, rest) = read_list_u32::<Record>(alloc, rest)?;
+    let image = Frame::Image {
+        last,
+        changes,
+        records,
+    };
+    Ok((image, rest))
+}
+
+#[tactic(auto, unfolding(crate::specs::Frames::body))]
+fn read_event(alloc: Global, bytes: &[u8]) -> Result<(Frame, &[u8]), ReadError>
+    ensures { Gives (λ x. (x.0, x.1.now)) result (first_as body (λ x. kinds.Event x.0 x.1.0 x.1.1) bytes.now) }
+{
+    let (stamp, rest) = Stamp::read(alloc, bytes)?;
+    let (changes, rest) = read_list_u32::<Change>(alloc, rest)?;
+    let (records, rest) = read_list_u32::<Record>(alloc, rest)?;
+    let event = Frame::Event {
+        stamp,
+        changes,
+        records,
+    };
+    Ok((event, rest))
+}
+
+#[tactic(auto, unfolding(crate::specs::Frames::purge))]
+fn read_purge(alloc: Global, bytes: &[u8]) -> Result<(Frame, &[u8]), ReadError>
+    ensures { Gives (λ x. (x.0, x.1.now)) result (first_as purge (λ x. kinds.Purge x.0 x.1.0 x.1.1.0 x.1.1.1) bytes.now) }
+{
+    let (stamp, rest) = Stamp::read(alloc, bytes)?;
+    let (before, rest) = Option::<Stamp>::read(alloc, rest)?;
+    let (changes, rest) = read_list_u32::<Change>(alloc, rest)?;
+    let (records, rest) = read_list_u32::<Record>(alloc, rest)?;
+    let made = Frame::Purge {
+        stamp,
+        before,
+        changes,
+        records,
+    };
+    Ok((made, rest))
 }

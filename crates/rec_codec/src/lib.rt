@@ -4,6 +4,7 @@
 mod changes;
 mod codes;
 mod enabled;
+mod fine_grained;
 mod frame;
 mod frames;
 mod lists;
@@ -16,6 +17,7 @@ mod records;
 mod repeats;
 mod spelled;
 mod stamps;
+mod tables;
 
 pub use frame::Frame;
 pub use frames::{one_front, one_reading, read, write, write_framed};

@@ -59,7 +59,7 @@ fn name_of(alloc: Global, bytes: &[u8]) -> Result<Name, ReadError>
     }
 }
 
-fn text_of(alloc: Global, bytes: &[u8]) -> Result<Text, ReadError>
+pub(crate) fn text_of(alloc: Global, bytes: &[u8]) -> Result<Text, ReadError>
     ensures { Gives (λ text. text) result (if is_utf8 bytes.now then Some bytes.now else None) }
 {
     match Text::make(alloc, bytes)? {

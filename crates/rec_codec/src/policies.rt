@@ -12,7 +12,7 @@ use crate::read_error::ReadError;
 use crate::repeats::is_without_repeats;
 use crate::spelled::Spelled;
 use au_base::{Action, List, Memory, Name, Privilege, TableName, Text};
-use au_catalog::{Change, Evaluate};
+use au_entries::{Change, Evaluate};
 use std::alloc::Global;
 
 /// Writes the parts of a policy.

@@ -1,7 +1,7 @@
 //! The parts that a record is read in.
 
 use au_base::{Action, Code, List, Name, Privilege, SessionNo, Stamp, Text};
-use au_catalog::RecordKind;
+use au_entries::RecordKind;
 
 /// Whose event a record is of, and when it was.
 #[derive(Debug, Drop)]

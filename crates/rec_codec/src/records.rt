@@ -11,7 +11,7 @@ use crate::record_parts::{Deed, Grounds, Origin};
 use crate::spelled::Spelled;
 use au_base::limits::{CATALOG_OBJECTS, STATEMENT_BYTES};
 use au_base::{Action, Code, List, Memory, Name, SessionNo, Stamp, Text};
-use au_catalog::{Record, RecordKind};
+use au_entries::{Record, RecordKind};
 use std::alloc::Global;
 
 #[tactic(auto, unfolding(crate::specs::Records::trail_record))]

@@ -4,7 +4,7 @@ ghost use Rattle.std.specs.Str.{bytes_eq};
 ghost use Rattle.rec_codec.specs.Spelling.{is_without_repeats};
 
 use au_base::{Memory, Name};
-use au_catalog::Outcomes;
+use au_entries::Outcomes;
 use std::alloc::Global;
 use std::collections::BTreeSet;
 

@@ -1,5 +1,5 @@
 //! Values that have a spelling.
-ghost use Rattle.std.specs.Prelude.{◌≡◌, ◌++◌, OnOk};
+ghost use Rattle.std.specs.Prelude.{◌≡◌, ◌++◌, ◌∷◌, OnOk};
 ghost use Rattle.std.specs.List.{flat_map, AllByRecursion};
 ghost use Rattle.rec_codec.specs.Spelling.{Spelling, many_first, pair, option};
 ghost use Rattle.rec_codec.specs.Given.{Gives};
@@ -91,4 +91,46 @@ impl<T: Spelled> Spelled for Option<T> {
             _ => Err(ReadError::NoFrame),
         }
     }
+}
+
+/// Writes a sign and the value behind it.
+pub(crate) fn write_one<A: Spelled>(out: &mut Vec<u8>, sign: u8, value: &A) -> Result<(), Memory>
+    requires { A.spelling.IsSpellable value.now }
+    ensures { OnOk result (out.new.items ≡ out.old.items ++ sign ∷ A.spelling.spelled value.now) }
+{
+    write_u8(out, sign)?;
+    value.write(out)
+}
+
+/// Writes a sign and the two values behind it.
+pub(crate) fn write_two<A: Spelled, B: Spelled>(
+    out: &mut Vec<u8>,
+    sign: u8,
+    first: &A,
+    second: &B,
+) -> Result<(), Memory>
+    requires { (pair A.spelling B.spelling).IsSpellable (first.now, second.now) }
+    ensures { OnOk result (out.new.items ≡ out.old.items ++ sign ∷ (pair A.spelling B.spelling).spelled (first.now, second.now)) }
+{
+    write_u8(out, sign)?;
+    first.write(out)?;
+    second.write(out)
+}
+
+/// Writes a sign and the three values behind it.
+pub(crate) fn write_three<A: Spelled, B: Spelled, C: Spelled>(
+    out: &mut Vec<u8>,
+    sign: u8,
+    first: &A,
+    second: &B,
+    third: &C,
+) -> Result<(), Memory>
+    requires { (pair A.spelling (pair B.spelling C.spelling)).IsSpellable (first.now, (second.now, third.now)) }
+    ensures { OnOk result (out.new.items
+        ≡ out.old.items ++ sign ∷ (pair A.spelling (pair B.spelling C.spelling)).spelled (first.now, (second.now, third.now))) }
+{
+    write_u8(out, sign)?;
+    first.write(out)?;
+    second.write(out)?;
+    third.write(out)
 }

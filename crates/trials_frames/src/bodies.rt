@@ -1,5 +1,8 @@
 //! Bodies of frames, byte by byte.
-use au_base::{Action, Code, List, Memory, Name, Privilege, SessionNo, Stamp, Text};
+use au_base::{
+    Action, Cell, Code, Column, ColumnKind, List, Memory, Name, Privilege, RowNo, SessionNo, Stamp,
+    TableName, Text,
+};
 use au_catalog::{Change, Enabled, Outcomes, Record, RecordKind};
 use rec_codec::{Frame, read, write, write_framed};
 use std::alloc::Global;
@@ -273,6 +276,171 @@ const BODIES: [(&str, &str, bool); 12] = [
         false,
     ),
     ("only a kind", "01", false),
+];
+
+// a change of users, roles or grants, its bytes, and whether they are some change's
+const GRANTED: [(&str, &str, bool); 16] = [
+    ("a user gone", "02000141", true),
+    ("a user gone without a name", "020000", false),
+    ("a role gone", "04000141", true),
+    ("a role gone without its last byte", "04000241", false),
+    ("a privilege revoked", "0600014101", true),
+    ("privilege 18 revoked", "0600014112", false),
+    ("an admin byte behind a revoke", "060001410100", false),
+    ("a role revoked", "08000141000142", true),
+    ("a role revoked from nobody", "08000142", false),
+    ("SELECT on a table", "0900014100014200015401", true),
+    ("DELETE on a table", "0900014100014200015404", true),
+    ("any action on a table", "0900014100014200015400", false),
+    ("action 5 on a table", "0900014100014200015405", false),
+    ("SELECT on a name alone", "0900014100014201", false),
+    ("DELETE revoked", "0a00014100014200015404", true),
+    ("action 5 revoked", "0a00014100014200015405", false),
+];
+
+// a change of tables or rows, its bytes, and whether they are some change's
+const TABLED: [(&str, &str, bool); 29] = [
+    ("a table", "0b0001410001540100014b010012010100", true),
+    (
+        "a table of three kinds",
+        "0b0001410001540300014b01001201\
+         00014e02000a0000014d030006000100",
+        true,
+    ),
+    ("a table without columns", "0b0001410001540000", true),
+    ("column kind 0", "0b0001410001540100014b000012010100", false),
+    ("column kind 4", "0b0001410001540100014b040012010100", false),
+    ("not-null byte 2", "0b0001410001540100014b010012020100", false),
+    ("no key count", "0b0001410001540100014b01001201", false),
+    ("a key past the end", "0b0001410001540100014b0100120102", false),
+    ("a key of place 255", "0b0001410001540100014b0100120101ff", true),
+    ("a table gone", "0c000141000154", true),
+    ("a table gone without its owner", "0c000154", false),
+    ("a row of NULL", "0d000141000154000000010100", true),
+    ("a row without cells", "0d0001410001540000000100", true),
+    ("a row of one", "0d0001410001540000000101010000000000000001", true),
+    ("a row of -1", "0d000141000154000000010101ffffffffffffffff", true),
+    (
+        "the least number of eight bytes",
+        "0d0001410001540000000101018000000000000000",
+        true,
+    ),
+    ("a number past the end", "0d00014100015400000001010100000000000001", false),
+    ("a text", "0d000141000154000000010102000141", true),
+    ("a text of no bytes", "0d0001410001540000000101020000", false),
+    ("a text that is no UTF-8", "0d0001410001540000000101020001ff", false),
+    ("a text past the end", "0d000141000154000000010102000241", false),
+    (
+        "the last moment",
+        "0d0001410001540000000101030384440ccc735fff",
+        true,
+    ),
+    (
+        "past the last moment",
+        "0d0001410001540000000101030384440ccc736000",
+        false,
+    ),
+    ("cell sign 4", "0d00014100015400000001010400", false),
+    ("two cells in one", "0d000141000154000000010200", false),
+    ("255 cells past the end", "0d00014100015400000001ff00", false),
+    ("a row gone", "0e000141000154ffffffff", true),
+    ("a row gone past the end", "0e000141000154ffffff", false),
+    ("a row gone with cells", "0e0001410001540000000100", false),
+];
+
+// a change of fine-grained policies, of the archive timestamp or of a dropped policy, its bytes, and
+// whether they are some change's
+const FINE_GRAINED: [(&str, &str, bool); 20] = [
+    ("no condition and no columns", "12000141000154000146000000000101", true),
+    (
+        "a condition, a column and all types",
+        "1200014100015400014601000000054b203d2031000100014b010f00",
+        true,
+    ),
+    (
+        "two columns",
+        "1200014100015400014600000200014b00014e000101",
+        true,
+    ),
+    (
+        "a column twice",
+        "1200014100015400014600000200014b00014b000101",
+        false,
+    ),
+    ("option byte 2 of the condition", "12000141000154000146020000000101", false),
+    (
+        "a condition past the end",
+        "1200014100015400014601ffffffff4b203d2031000100014b010f00",
+        false,
+    ),
+    ("options byte 2", "12000141000154000146000000020101", false),
+    ("types byte 0", "12000141000154000146000000000001", false),
+    ("types byte 15", "12000141000154000146000000000f01", true),
+    ("types byte 16", "12000141000154000146000000001001", false),
+    ("enabled byte 2", "12000141000154000146000000000102", false),
+    ("no enabled byte", "120001410001540001460000000001", false),
+    ("a fine-grained policy gone", "13000141000154000146", true),
+    ("one gone without its table", "13000141000146", false),
+    ("a policy gone", "10000150", true),
+    ("a policy gone without a name", "10", false),
+    ("no archive timestamp", "1400", true),
+    ("an archive timestamp", "140100000000000f4240", true),
+    ("one past the last moment", "14010384440ccc736000", false),
+    ("option byte 2 of the timestamp", "140200000000000f4240", false),
+];
+
+// a purge, its body, and whether it is some frame's
+const PURGES: [(&str, &str, bool); 8] = [
+    ("of all records", "030000000000000000000000000000000000", true),
+    (
+        "up to a moment",
+        "0300000000000f42400100000000000f42000000000000000000",
+        true,
+    ),
+    ("without its moment", "0300000000000000000000000000000000", false),
+    ("option byte 2", "030000000000000000020000000000000000", false),
+    (
+        "up to the last moment",
+        "030000000000000000010384440ccc735fff0000000000000000",
+        true,
+    ),
+    (
+        "past the last moment",
+        "030000000000000000010384440ccc7360000000000000000000",
+        false,
+    ),
+    (
+        "with the end of an instance",
+        "0300000000000f42400000000001150000000200000000",
+        true,
+    ),
+    (
+        "with a byte behind it",
+        "03000000000000000000000000000000000000",
+        false,
+    ),
+];
+
+// an event of a change of each tag that no opening image has
+const EACH_TAG: [&str; 18] = [
+    "02",
+    "00000000000f4240",
+    "0000000e",
+    "02000141",
+    "04000142",
+    "0600014103",
+    "08000141000142",
+    "0900014100014200015402",
+    "0a00014100014200015403",
+    "0b0001420001540200014b0100120100014e02000a000100",
+    "0c000142000154",
+    "0d00014200015400000007020100000000000000020200024142",
+    "0e00014200015400000007",
+    "10000150",
+    "1200014200015400014601000000054b203d2031000100014b010300",
+    "13000142000154000146",
+    "140100000000000f4240",
+    "00000000",
 ];
 
 // bytes of a name, and whether a name may have so many
@@ -584,5 +752,128 @@ fn a_record_names_at_most_10001_policies(rt: HostRuntime) -> Result<(), Fail> {
         let bytes = event_with(alloc, 11, &names)?;
         assert_eq!(rt; is_frame(alloc, &bytes)?, wanted, "{count} policies");
     }
+    Ok(())
+}
+
+fn table_t(alloc: Global) -> Result<TableName, Memory> {
+    Ok(TableName {
+        owner: name(alloc, "B")?,
+        name: name(alloc, "T")?,
+    })
+}
+
+fn column(
+    alloc: Global,
+    text: &str,
+    kind: ColumnKind,
+    size: u16,
+    not_null: bool,
+) -> Result<Column, Memory> {
+    Ok(Column {
+        name: name(alloc, text)?,
+        kind,
+        size,
+        not_null,
+    })
+}
+
+fn push_dropped(alloc: Global, changes: &mut List<Change>) -> Result<(), Memory> {
+    changes.push(Change::UserGone(name(alloc, "A")?))?;
+    changes.push(Change::RoleGone(name(alloc, "B")?))?;
+    let third = Privilege::CreateAnyTable;
+    changes.push(Change::SysRevoke(name(alloc, "A")?, third))?;
+    changes.push(Change::RoleRevoke(name(alloc, "A")?, name(alloc, "B")?))?;
+    let insert = Action::Insert;
+    changes.push(Change::ObjGrant(name(alloc, "A")?, table_t(alloc)?, insert))?;
+    let update = Action::Update;
+    changes.push(Change::ObjRevoke(name(alloc, "A")?, table_t(alloc)?, update))?;
+    Ok(())
+}
+
+fn push_rows(alloc: Global, changes: &mut List<Change>) -> Result<(), Memory> {
+    let mut columns = List::new(alloc);
+    columns.push(column(alloc, "K", ColumnKind::Number, 18, true)?)?;
+    columns.push(column(alloc, "N", ColumnKind::Text, 10, false)?)?;
+    let mut key = List::new(alloc);
+    key.push(0)?;
+    changes.push(Change::Table(table_t(alloc)?, columns, key))?;
+    changes.push(Change::TableGone(table_t(alloc)?))?;
+    let mut cells = List::new(alloc);
+    cells.push(Cell::Num(2))?;
+    cells.push(Cell::Text(Text::from_str(alloc, "AB")?))?;
+    changes.push(Change::Put(table_t(alloc)?, RowNo(7), cells))?;
+    changes.push(Change::Gone(table_t(alloc)?, RowNo(7)))?;
+    Ok(())
+}
+
+fn push_audited(alloc: Global, changes: &mut List<Change>) -> Result<(), Memory> {
+    changes.push(Change::PolicyGone(name(alloc, "P")?))?;
+    let mut columns = List::new(alloc);
+    columns.push(name(alloc, "K")?)?;
+    changes.push(Change::Fga {
+        table: table_t(alloc)?,
+        policy: name(alloc, "F")?,
+        condition: Some(Text::from_str(alloc, "K = 1")?),
+        columns,
+        all: true,
+        types: 3,
+        enabled: false,
+    })?;
+    changes.push(Change::FgaGone(table_t(alloc)?, name(alloc, "F")?))?;
+    changes.push(Change::Archive(Some(Stamp(1_000_000))))?;
+    Ok(())
+}
+
+#[test]
+fn each_tag_stands_before_its_parts(rt: HostRuntime) -> Result<(), Fail> {
+    let alloc = rt.alloc();
+    let bytes = join(alloc, &EACH_TAG)?;
+    let mut changes = List::new(alloc);
+    push_dropped(alloc, &mut changes)?;
+    push_rows(alloc, &mut changes)?;
+    push_audited(alloc, &mut changes)?;
+    let event = Frame::Event {
+        stamp: Stamp(1_000_000),
+        changes,
+        records: List::new(alloc),
+    };
+    assert!(rt; read(alloc, &bytes)? == Some(event));
+    assert!(rt; is_frame(alloc, &bytes)?);
+    Ok(())
+}
+
+#[test]
+fn changes_of_each_group_are_read_up_to_their_edges(rt: HostRuntime) -> Result<(), Fail> {
+    let alloc = rt.alloc();
+    for (what, change, wanted) in GRANTED {
+        let bytes = event_of(alloc, &bytes_of(alloc, change)?)?;
+        assert_eq!(rt; is_frame(alloc, &bytes)?, wanted, "{what}");
+    }
+    for (what, change, wanted) in TABLED {
+        let bytes = event_of(alloc, &bytes_of(alloc, change)?)?;
+        assert_eq!(rt; is_frame(alloc, &bytes)?, wanted, "{what}");
+    }
+    for (what, change, wanted) in FINE_GRAINED {
+        let bytes = event_of(alloc, &bytes_of(alloc, change)?)?;
+        assert_eq!(rt; is_frame(alloc, &bytes)?, wanted, "{what}");
+    }
+    Ok(())
+}
+
+#[test]
+fn a_purge_has_its_moment(rt: HostRuntime) -> Result<(), Fail> {
+    let alloc = rt.alloc();
+    for (what, body, wanted) in PURGES {
+        let bytes = bytes_of(alloc, body)?;
+        assert_eq!(rt; is_frame(alloc, &bytes)?, wanted, "{what}");
+    }
+    let moment = bytes_of(alloc, PURGES[1].1)?;
+    let purge = Frame::Purge {
+        stamp: Stamp(1_000_000),
+        before: Some(Stamp(999_936)),
+        changes: List::new(alloc),
+        records: List::new(alloc),
+    };
+    assert!(rt; read(alloc, &moment)? == Some(purge));
     Ok(())
 }

@@ -1,6 +1,6 @@
 use Rattle.std.proofs.Common.{◌≡◌, map, take}
 use Rattle.std.specs.List.{filter}
-use Rattle.au_catalog.specs.Demand.{demands}
+use Rattle.au_entries.specs.Demand.{demands}
 use Rattle.au_engine.specs.Auditing.{holds_always}
 use Rattle.au_engine.proofs.auditing.demanding.Given as goal
 

@@ -1,6 +1,6 @@
 use Rattle.std.proofs.Common.{◌≡◌, ◌++◌, take}
 use Rattle.std.specs.List.{filter}
-use Rattle.au_catalog.specs.Demand.{comes_before}
+use Rattle.au_entries.specs.Demand.{comes_before}
 use Rattle.au_engine.proofs.auditing.push_before.Given as goal
 
 abbrev pub invariant-loop-other : goal.invariant-loop-other

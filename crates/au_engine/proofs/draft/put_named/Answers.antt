@@ -5,7 +5,7 @@ use Rattle.std.specs.Ordering.{is_gt, is_lt}
 use Rattle.std.proofs.lemmas.Iterator.Adapters.{YieldsList-from_vec}
 use Rattle.std.proofs.lemmas.Iterator.Consumers.{YieldsList-end}
 use Rattle.std.proofs.lemmas.List.{map-id}
-use Rattle.au_catalog.specs.Changing.{by_name, put_in_order}
+use Rattle.au_entries.specs.Changing.{by_name, put_in_order}
 use Rattle.au_engine.proofs.draft.put_named.Goals as goal
 
 -- the lesser entries, the new one and the greater ones are the list with the new entry

@@ -1,7 +1,7 @@
 use Rattle.std.proofs.Common.{◌≡◌}
 use Rattle.std.specs.List.{filter}
 use Rattle.std.specs.Ordering.{is_gt, is_lt}
-use Rattle.au_catalog.specs.Changing.{by_name}
+use Rattle.au_entries.specs.Changing.{by_name}
 use Rattle.au_engine.proofs.draft.put_named.Given as goal
 
 abbrev pub invariant-loop-other : goal.invariant-loop-other

@@ -1,7 +1,7 @@
 use Rattle.std.proofs.Common.{◌≡◌, ◌++◌, take}
 use Rattle.std.specs.List.{filter}
 use Rattle.std.specs.Ordering.{is_lt}
-use Rattle.au_catalog.specs.Changing.{by_name}
+use Rattle.au_entries.specs.Changing.{by_name}
 use Rattle.au_engine.proofs.enablement.push_before.Given as goal
 
 abbrev pub invariant-loop-entry : goal.invariant-loop-entry

@@ -2,7 +2,7 @@ use Rattle.std.proofs.Common.{◌∙◌, ℕ, List, sym}
 use Rattle.std.specs.List.{list_any}
 use Rattle.std.specs.Str.{bytes_eq}
 use Rattle.std.proofs.lemmas.List.Folds.{list_all-map}
-use Rattle.au_catalog.specs.declared.policy.Outcomes.{Outcomes}
+use Rattle.au_entries.specs.declared.policy.Outcomes.{Outcomes}
 use Rattle.au_engine.proofs.replaying.are_named.Goals as goal
 
 pub returns : goal.returns

@@ -1,6 +1,6 @@
 use Rattle.std.proofs.Common.{◌≡◌, take}
-use Rattle.au_catalog.specs.declared.kept.Kept.{Kept}
-use Rattle.au_catalog.specs.Changing.{changed_all}
+use Rattle.au_entries.specs.declared.kept.Kept.{Kept}
+use Rattle.au_entries.specs.Changing.{changed_all}
 use Rattle.au_engine.specs.Drafting.{drafted}
 use Rattle.au_engine.specs.Replaying.{AllGoOn}
 use Rattle.au_engine.specs.Step.{unread_condition}

@@ -1,5 +1,5 @@
 use Rattle.std.proofs.Common.{◌∙◌, ap}
-use Rattle.au_catalog.specs.declared.kept.Kept.{Kept}
+use Rattle.au_entries.specs.declared.kept.Kept.{Kept}
 use Rattle.au_engine.specs.State.{start}
 use Rattle.au_store.proofs.laws.reopened.Goals as goal
 

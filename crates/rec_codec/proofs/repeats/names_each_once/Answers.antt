@@ -7,7 +7,7 @@ use Rattle.std.specs.Cmp.Lexicographic.{slice_cmp, nat_list_cmp_total, texts_tie
 use Rattle.std.proofs.lemmas.Iterator.{items_from_drains, YieldsList-from_slice, YieldsList-from_map_by}
 use Rattle.std.proofs.lemmas.Iterator.Consumers.{YieldsList-at}
 use Rattle.std.proofs.lemmas.Map.Views.{btree_set_len-from_list}
-use Rattle.au_catalog.specs.declared.policy.Outcomes.{Outcomes}
+use Rattle.au_entries.specs.declared.policy.Outcomes.{Outcomes}
 use Rattle.rec_codec.proofs.Counting.{by_views, length-map, same_count}
 use Rattle.rec_codec.proofs.repeats.names_each_once.Goals as goal
 

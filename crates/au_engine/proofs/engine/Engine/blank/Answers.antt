@@ -1,5 +1,5 @@
 use Rattle.std.proofs.Common.{sym, subst}
-use Rattle.au_catalog.specs.declared.kept.Kept.{Kept}
+use Rattle.au_entries.specs.declared.kept.Kept.{Kept}
 use Rattle.au_engine.specs.Lawful.{IsLawful}
 use Rattle.au_engine.proofs.Beginnings.{nothing_lawful}
 use Rattle.au_engine.proofs.engine.Engine.blank.Goals as goal

@@ -1,6 +1,6 @@
 use Rattle.std.proofs.Common.{◌≡◌, List, subst}
 use Rattle.std.specs.Prelude.{None, option_to_list, unwrap_or}
-use Rattle.au_catalog.specs.declared.change.Change.{Change}
+use Rattle.au_entries.specs.declared.change.Change.{Change}
 use Rattle.au_engine.specs.Staging.{enabled_after}
 use Rattle.au_engine.specs.Step.{last_after}
 use Rattle.au_engine.proofs.Stages.{concluded-is}

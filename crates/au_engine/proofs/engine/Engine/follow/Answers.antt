@@ -1,7 +1,7 @@
 use Rattle.std.proofs.Common.{List, sym, subst}
 use Rattle.std.specs.Prelude.{IsTrue, ◌↔◌}
-use Rattle.au_catalog.specs.declared.change.Change.{Change}
-use Rattle.au_catalog.specs.declared.kept.Kept.{Kept}
+use Rattle.au_entries.specs.declared.change.Change.{Change}
+use Rattle.au_entries.specs.declared.kept.Kept.{Kept}
 use Rattle.rec_codec.specs.Frames.{body}
 use Rattle.au_engine.specs.Drafting.{drafted}
 use Rattle.au_engine.specs.Replaying.{EndsWell, PartsGoOn}

@@ -3,9 +3,9 @@
 use Rattle.std.specs.Prelude.{ℕ, true, ◌||◌, List, [], Result, Ok, Err}
 use Rattle.au_base.specs.declared.code.Code.{Code}
 use Rattle.au_base.specs.Codes.{OTHER_MODE, NOT_ENABLED_SO}
-use Rattle.au_catalog.specs.declared.policy.Enabled.{Enabled}
-use Rattle.au_catalog.specs.declared.policy.Enabled.TheVariants.{Off, By, Except}
-use Rattle.au_catalog.specs.declared.policy.Outcomes.{Outcomes}
+use Rattle.au_entries.specs.declared.policy.Enabled.{Enabled}
+use Rattle.au_entries.specs.declared.policy.Enabled.TheVariants.{Off, By, Except}
+use Rattle.au_entries.specs.declared.policy.Outcomes.{Outcomes}
 
 -- what a statement without WHENEVER names
 abbrev pub both_outcomes : Outcomes

@@ -9,11 +9,11 @@ use Rattle.au_base.specs.declared.code.Code.{Code}
 use Rattle.au_base.specs.declared.privilege.Privilege.{Privilege}
 use Rattle.au_base.specs.declared.table.TableName.{TableName}
 use Rattle.au_base.specs.Sameness.{same_action, same_privilege, same_table}
-use Rattle.au_catalog.specs.declared.policy.AuditPolicy.{AuditPolicy}
-use Rattle.au_catalog.specs.declared.policy.Enabled.{Enabled}
-use Rattle.au_catalog.specs.declared.policy.Enabled.TheVariants.{Off, By, Except}
-use Rattle.au_catalog.specs.declared.policy.Outcomes.{Outcomes}
-use Rattle.au_catalog.specs.declared.facts.Facts.{Facts}
+use Rattle.au_entries.specs.declared.policy.AuditPolicy.{AuditPolicy}
+use Rattle.au_entries.specs.declared.policy.Enabled.{Enabled}
+use Rattle.au_entries.specs.declared.policy.Enabled.TheVariants.{Off, By, Except}
+use Rattle.au_entries.specs.declared.policy.Outcomes.{Outcomes}
+use Rattle.au_entries.specs.declared.facts.Facts.{Facts}
 use Rattle.au_priv.specs.declared.grants.Grants.{Grants}
 use Rattle.au_priv.specs.Holding.{grants_privilege}
 

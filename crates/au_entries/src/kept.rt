@@ -1,8 +1,8 @@
 //! What outlives an instance.
 
-use crate::catalog::Table;
 use crate::fine_grained::FgaPolicy;
 use crate::policy::{AuditPolicy, Enabled};
+use crate::table::Table;
 use crate::trail_record::Record;
 use au_base::{Cell, List, Name, RowNo, Stamp, TableName};
 use au_priv::Grants;

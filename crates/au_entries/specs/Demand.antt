@@ -6,11 +6,11 @@ use Rattle.au_base.specs.declared.action.Action.{Action}
 use Rattle.au_base.specs.Actions.{code_of}
 use Rattle.au_base.specs.Order as order
 pub use Rattle.au_base.specs.Order.{name_before as comes_before}
-use Rattle.au_catalog.specs.declared.policy.AuditPolicy.{AuditPolicy}
-use Rattle.au_catalog.specs.declared.policy.Enabled.{Enabled}
-use Rattle.au_catalog.specs.declared.policy.Enabled.TheVariants.{Off}
-use Rattle.au_catalog.specs.declared.facts.Facts.{Facts}
-use Rattle.au_catalog.specs.Matching.{parts_match, is_enabled_for}
+use Rattle.au_entries.specs.declared.policy.AuditPolicy.{AuditPolicy}
+use Rattle.au_entries.specs.declared.policy.Enabled.{Enabled}
+use Rattle.au_entries.specs.declared.policy.Enabled.TheVariants.{Off}
+use Rattle.au_entries.specs.declared.facts.Facts.{Facts}
+use Rattle.au_entries.specs.Matching.{parts_match, is_enabled_for}
 use Rattle.au_priv.specs.declared.grants.Grants.{Grants}
 
 abbrev pub enablement_found : Option (List ℕ × Enabled) → Enabled

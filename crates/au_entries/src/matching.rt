@@ -2,7 +2,7 @@
 ghost use Rattle.std.specs.Prelude.{◌≡◌};
 ghost use Rattle.std.specs.List.{list_any};
 ghost use Rattle.std.specs.Str.{bytes_eq};
-ghost use Rattle.au_catalog.specs.Matching.{covers_action, covers_privilege, covers_role, has_outcome, is_enabled_for, lists_outcome, names_action, names_table, parts_match};
+ghost use Rattle.au_entries.specs.Matching.{covers_action, covers_privilege, covers_role, has_outcome, is_enabled_for, lists_outcome, names_action, names_table, parts_match};
 ghost use Rattle.au_base.specs.Sameness.{same_privilege, same_table};
 ghost use Rattle.au_priv.specs.Holding.{grants_privilege};
 

@@ -1,0 +1,4 @@
+pub mod Changing
+pub mod Demand
+pub mod Enabling
+pub mod Matching

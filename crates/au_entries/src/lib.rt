@@ -1,0 +1,25 @@
+//! What the catalogue and the trail have, what a frame changes of it, and which policies are meant
+//! for a statement.
+#![tactic(auto)]
+
+mod change;
+mod decision;
+mod facts;
+mod fine_grained;
+mod kept;
+mod matching;
+mod policy;
+mod results;
+mod table;
+mod trail_record;
+
+pub use change::Change;
+pub use decision::{Busy, Decision, ReadCondition};
+pub use facts::{Demanded, Facts};
+pub use fine_grained::{FgaName, FgaPolicy};
+pub use kept::Kept;
+pub use matching::{enabled_for, matches};
+pub use policy::{AuditPolicy, Condition, Enabled, Evaluate, Outcomes};
+pub use results::KeptResults;
+pub use table::Table;
+pub use trail_record::{Record, RecordKind};
