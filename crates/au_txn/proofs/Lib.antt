@@ -15,4 +15,6 @@ pub mod Keyed
 pub mod LogLemmas
 pub mod FinalLemmas
 pub mod KeysStay
+pub mod Answering
+pub mod DeskKeys
 pub mod Listed

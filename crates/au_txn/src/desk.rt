@@ -13,7 +13,7 @@ ghost use Rattle.au_txn.specs.Desks.{IsWritable, contents_of, has_name, is_open,
 ghost use Rattle.au_txn.specs.Finals.{AreFinals};
 ghost use Rattle.au_txn.specs.Logs.{is_client};
 ghost use Rattle.au_txn.specs.Rows.{Row, are_in_order, is_in, row_at};
-ghost use Rattle.au_txn.specs.Transactions.{AreFrom, IsKeyLocked, IsRowLocked, IsUnder, laid_over, names_row, names_table, view as view_of};
+ghost use Rattle.au_txn.specs.Transactions.{AreFrom, IsKeyLocked, IsRowLocked, IsUnder, IsUnderOther, laid_over, names_row, names_table, view as view_of};
 
 use crate::listing::{content_of, finals_in};
 use crate::log::{append_for, clear_for, find_changes, forget_for, reserve_for};
@@ -122,6 +122,21 @@ impl Desk {
         ensures none { IfNone result ((row : Number × List Content) → ¬ IsUnder (key_of table.now self.now.tables) key.now table.now (laid_over self.now.rows (open_of self.now client)) row) }
     {
         self.rows.under(table, key, client)
+    }
+
+    /// Another row of the table than the given one that the client sees and that has this key.
+    /// `None` exactly where there is none. It takes no memory.
+    pub fn under_other(
+        &self,
+        client: ClientNo,
+        table: &TableName,
+        key: &[Cell],
+        row: RowNo,
+    ) -> Option<RowNo>
+        ensures some { IfSome result (λ other. IsUnderOther (key_of table.now self.now.tables) key.now table.now (laid_over self.now.rows (open_of self.now client)) row other) }
+        ensures none { IfNone result ((other : Number) → ¬ IsUnderOther (key_of table.now self.now.tables) key.now table.now (laid_over self.now.rows (open_of self.now client)) row other) }
+    {
+        self.rows.under_other(table, key, row, client)
     }
 
     /// What holds of every desk: the tables and the committed rows stand in order, and each row is of
