@@ -17,4 +17,5 @@ pub mod FinalLemmas
 pub mod KeysStay
 pub mod Answering
 pub mod DeskKeys
+pub mod Laid
 pub mod Listed

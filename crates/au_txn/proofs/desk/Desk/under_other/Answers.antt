@@ -1,6 +1,7 @@
 use Rattle.std.specs.Prelude.{Option, Some, None, IfNone}
 use Rattle.std.proofs.lemmas.Option.{IfSome_then}
-use Rattle.au_txn.specs.Logs.{changes_of}
+use Rattle.au_txn.specs.Desks.{open_in}
+use Rattle.au_txn.specs.Inside.{laid_in}
 use Rattle.au_txn.proofs.Keyed.{found-other, other-found}
 use Rattle.au_txn.proofs.desk.Desk.under_other.Goals as goal
 
@@ -10,8 +11,8 @@ none-then (Some x) P Q p more = p
 
 pub returns-clause-some : goal.returns-clause-some
 returns-clause-some c = rw (← c.self.view_is) (IfSome_then c.under_other.result c.under_other.ensures.some
-    (λ other. found-other c.self.inside.rows (λ client. changes_of client c.self.inside.logs.items) c.self.invariant c.args.table.now c.args.client c.args.key.now c.args.row other))
+    (λ other. found-other c.self.inside.rows (open_in (laid_in c.self.inside.rows c.self.inside.logs.items) c.self.inside.logs.items) c.self.invariant c.args.table.now c.args.client c.args.key.now c.args.row other))
 
 pub returns-clause-none : goal.returns-clause-none
 returns-clause-none c = rw (← c.self.view_is) (none-then c.under_other.result _ _ c.under_other.ensures.none
-    (λ none other found. none other (other-found c.self.inside.rows (λ client. changes_of client c.self.inside.logs.items) c.self.invariant c.args.table.now c.args.client c.args.key.now c.args.row other found)))
+    (λ none other found. none other (other-found c.self.inside.rows (open_in (laid_in c.self.inside.rows c.self.inside.logs.items) c.self.inside.logs.items) c.self.invariant c.args.table.now c.args.client c.args.key.now c.args.row other found)))
