@@ -1,7 +1,7 @@
 -- What rows answer once changes are laid over them, and what keys they then have.
 use Rattle.std.proofs.Common.{◌≡◌, ◌≢◌, ◌∙◌, ◌⊎◌, inl, inr, ℕ, Bool, true, false, not, cond, ◌&&◌, ◌||◌, List, [], ◌∷◌, ◌++◌, filter, flat_map, map, refl, sym, ap, ap₂, subst, arith, Option, None, Some}
 use Rattle.std.specs.Prelude.{◌==◌, ◌↔◌}
-use Rattle.std.specs.List.{Contains}
+use Rattle.std.specs.List.{AllByRecursion, Contains}
 use Rattle.std.specs.declared.cmp.Ordering.{Ordering}
 use Rattle.std.specs.declared.cmp.Ordering.TheVariants.{Less, Equal, Greater}
 use Rattle.std.specs.Ordering.{is_lt, nat_cmp, ordering_then}
@@ -20,11 +20,11 @@ use Rattle.au_txn.specs.declared.finals.Final.{Final}
 use Rattle.au_txn.specs.Desks.{has_name, is_open, table_before}
 use Rattle.au_txn.specs.Keys.{KeysDiffer}
 use Rattle.au_txn.specs.Rows.{Row, are_in_order, is_in, is_row, laid_all, place_of, row_at, row_before, rows_in, with_content, without}
-use Rattle.au_txn.specs.Transactions.{AreFrom, IsUnderOther, is_of_row, laid_over, made, names_row, view}
-use Rattle.au_txn.proofs.Histories.{laid-untouched, laid_over-ordered, last_made, last_made-none, or_before, row_at-laid}
+use Rattle.au_txn.specs.Transactions.{AreFrom, IsUnderOther, is_of_row, laid_over, made, names_row, rows_differ, view}
+use Rattle.au_txn.proofs.Histories.{from-same, laid-untouched, laid_over-ordered, last_made, last_made-none, or_before, row_at-laid}
 use Rattle.au_txn.proofs.Numbered.{contains-has, has-contains}
 use Rattle.au_txn.proofs.Ordered.{Has, all_from, filter-ordered, first-before, has-either, has-left, has-right, joined-ordered, kept as stays, placed-has, rest-ordered, same_sorted, was}
-use Rattle.au_txn.proofs.RowOrder.{answered, is_row-is, number-is, row_at-filter, rows_irreflexive, rows_transitive, same_table-is, same_table-self, there}
+use Rattle.au_txn.proofs.RowOrder.{answered, is_row-is, number-is, row_at-filter, row_at-with, rows_irreflexive, rows_transitive, same_table-is, same_table-self, there}
 
 -- changes after others are of what those leave
 pub from-parts : (rows : List Row) (a b : List RowChange) → AreFrom rows (a ++ b) → AreFrom rows a × AreFrom (laid_over rows a) b
@@ -228,3 +228,18 @@ keys-in (p ∷ ps) t rows = (
   λ differ m n key first second. differ m n key (subst (HasKey (p ∷ ps) key) (sym (own-table t m rows)) first) (subst (HasKey (p ∷ ps) key) (sym (own-table t n rows)) second),
   λ differ m n key first second. differ m n key (subst (HasKey (p ∷ ps) key) (own-table t m rows) first) (subst (HasKey (p ∷ ps) key) (own-table t n rows) second),
 )
+
+-- changes of different rows are from rows where each is of what stood there
+pub from-once : (rows : List Row) (changes : List RowChange) → rows_differ changes ≡ true → AllByRecursion (λ (change : RowChange). change.old ≡ row_at change.table change.row rows) changes → AreFrom rows changes
+from-once rows [] once each = tt
+from-once rows (c ∷ cs) once each =
+    let parts = and_parts (not (names_row c.table c.row cs)) (rows_differ cs) once in
+    (each.0, from-same rows (with_content c.table c.row c.new rows) cs (λ t n named. other t n named parts.0 (is_of_row t n c) refl) (from-once rows cs parts.1 each.1))
+  where
+    other : (t : TableName) (n : RowNo) → names_row t n cs ≡ true → not (names_row c.table c.row cs) ≡ true → (b : Bool) → is_of_row t n c ≡ b
+        → row_at t n rows ≡ row_at t n (with_content c.table c.row c.new rows)
+    other t n named none true e =
+        let parts = and_parts (same_table c.table t) (c.row.0 == n.0) e in
+        let here : names_row c.table c.row cs ≡ true = subst (λ (u : TableName). names_row u c.row cs ≡ true) (sym (same_table-is c.table t parts.0)) (subst (λ (m : RowNo). names_row t m cs ≡ true) (sym (number-is c.row n parts.1)) named) in
+        absurd (let wrong : false ≡ true = ap not (sym here) ∙ none in cc)
+    other t n named none false e = sym (row_at-with t c.table n c.row c.new rows ∙ ap (λ b. cond b c.new (row_at t n rows)) e)

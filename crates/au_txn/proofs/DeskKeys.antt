@@ -1,5 +1,5 @@
 -- The discipline of keys, of desks.
-use Rattle.std.proofs.Common.{◌≡◌, ◌∙◌, ◌⊎◌, inl, inr, Bool, true, false, not, cond, ◌||◌, ℕ, List, [], ◌∷◌, ◌++◌, filter, refl, sym, ap, ap₂, subst, Option, None, Some}
+use Rattle.std.proofs.Common.{◌≡◌, ◌≢◌, ◌∙◌, ◌⊎◌, inl, inr, Bool, true, false, not, cond, ◌||◌, ℕ, List, [], ◌∷◌, ◌++◌, filter, refl, sym, ap, ap₂, subst, Option, None, Some}
 use Rattle.std.specs.Prelude.{IsTrue}
 use Rattle.std.specs.List.{AllByRecursion, Contains}
 use Rattle.au_base.specs.declared.cell.Cell.{Cell}
@@ -12,10 +12,10 @@ use Rattle.au_rows.specs.declared.table.Table.{Table}
 use Rattle.au_rows.specs.Held.{or_else}
 use Rattle.au_txn.specs.declared.change.RowChange.{RowChange}
 use Rattle.au_txn.specs.Desks.{Contents, has_name, is_open, key_of, open_of, table_before}
-use Rattle.au_txn.specs.Keys.{IsKeyed, IsKeyedDesk}
+use Rattle.au_txn.specs.Keys.{ChangesOne, IsKeyed, IsKeyedDesk, KeysDiffer}
 use Rattle.au_txn.specs.Rows.{Row, is_in, row_at}
-use Rattle.au_txn.specs.Transactions.{is_of_table, names_table}
-use Rattle.au_txn.proofs.KeysStay.{keyed-dropped, keyed-opened}
+use Rattle.au_txn.specs.Transactions.{AreFrom, IsKeyLocked, IsRowLocked, MakesKey, is_of_table, laid_over, names_row, names_table, rows_differ}
+use Rattle.au_txn.proofs.KeysStay.{keyed-dropped, keyed-opened, keyed-quiet, keyed-settled, keyed-undone, keyed-written}
 use Rattle.au_txn.proofs.Numbered.{has-contains}
 use Rattle.au_txn.proofs.RowOrder.{row_at-filter, is_row-is, same_table-is, same_table-self, there}
 use Rattle.au_txn.proofs.TableLemmas.{key-named, key_in, named_in, tables_irreflexive}
@@ -150,3 +150,29 @@ desk-dropped old new table keyed settled tables rows changes =
       (λ n. row_at-filter t n (λ row. not (is_in table row)) false (λ r is. ap not (ap (λ (x : TableName). same_table x table) (is_row-is t n r is).0 ∙ e)) old.rows),
       (λ c. subst (λ u. names_table u (open_of old c) ≡ false) (sym (same_table-is t table e)) (settled c)),
     )
+
+-- where no client has changes
+pub desk-quiet : (desk : Contents) → ((q : ClientNo) → open_of desk q ≡ []) → ((t : TableName) → KeysDiffer (key_of t desk.tables) t desk.rows) → IsKeyedDesk desk
+desk-quiet desk none differ = keyed-quiet (λ t. key_of t desk.tables) desk.rows (open_of desk) none differ
+
+-- and after what a client does
+module _ (old new : Contents) (client : ClientNo) (keyed : IsKeyedDesk old) (tables : new.tables ≡ old.tables) where
+  moved : (rows : List Row) → new.rows ≡ rows → IsKeyed (λ t. key_of t old.tables) rows (open_of new) → IsKeyedDesk new
+  moved rows same after =
+      subst (λ (xs : List Row). IsKeyed (λ t. key_of t new.tables) xs (open_of new)) (sym same)
+      (subst (λ (ts : List Table). IsKeyed (λ t. key_of t ts) rows (open_of new)) (sym tables) after)
+
+  pub desk-written : (changes : List RowChange) → AreFrom (laid_over old.rows (open_of old client)) changes → rows_differ changes ≡ true
+      → ((t : TableName) → KeysDiffer (key_of t old.tables) t (laid_over old.rows (open_of old client ++ changes)))
+      → ((t : TableName) (key : List Cell) → key_of t old.tables ≢ [] → MakesKey (key_of t old.tables) t key changes → IsKeyLocked (key_of t old.tables) (open_of old) client t key → ⊥)
+      → ((t : TableName) (n : RowNo) → names_row t n changes ≡ true → IsRowLocked (open_of old) client t n → ⊥)
+      → new.rows ≡ old.rows → ChangesOne client (open_of old client ++ changes) (open_of old) (open_of new) → IsKeyedDesk new
+  desk-written changes from once differ unlocked free rows one =
+      moved old.rows rows (keyed-written (λ t. key_of t old.tables) old.rows (open_of old) (open_of new) client keyed changes one from once differ unlocked free)
+
+  pub desk-committed : new.rows ≡ laid_over old.rows (open_of old client) → ChangesOne client [] (open_of old) (open_of new) → IsKeyedDesk new
+  desk-committed rows one =
+      moved (laid_over old.rows (open_of old client)) rows (keyed-settled (λ t. key_of t old.tables) old.rows (open_of old) (open_of new) client keyed one)
+
+  pub desk-undone : new.rows ≡ old.rows → ChangesOne client [] (open_of old) (open_of new) → IsKeyedDesk new
+  desk-undone rows one = moved old.rows rows (keyed-undone (λ t. key_of t old.tables) old.rows (open_of old) (open_of new) client keyed one)

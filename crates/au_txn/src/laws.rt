@@ -11,7 +11,7 @@ ghost use Rattle.au_rows.specs.declared.table.Table.{Table};
 ghost use Rattle.au_rows.specs.Held.{HasKey};
 ghost use Rattle.au_txn.specs.declared.change.RowChange.{RowChange};
 ghost use Rattle.au_txn.specs.declared.finals.Final.{Final};
-ghost use Rattle.au_txn.specs.Desks.{Contents, has_name, is_open, open_of, table_before};
+ghost use Rattle.au_txn.specs.Desks.{Contents, has_name, is_open, key_of, open_of, table_before};
 ghost use Rattle.au_txn.specs.Finals.{AreFinals};
 ghost use Rattle.au_txn.specs.Keys.{ChangesOne, IsKeyed, IsKeyedDesk, KeysDiffer};
 ghost use Rattle.au_txn.specs.Rows.{Row, are_in_order, is_in, laid_all, row_at, rows_in, with_content};
@@ -59,7 +59,8 @@ pub fn keys_stay()
 
 /// What rows answer once contents are laid over them: a row that no change names as before, and one
 /// that changes name the content of one of them, of its only one where they are of different rows.
-/// Changes behind others are laid over what those leave.
+/// Changes behind others are laid over what those leave; changes of different rows are of what
+/// stands before all of them.
 pub fn laid_rows_answer()
     ensures content { (table other : TableName) (number at : RowNo) (content : Option (List Cell)) (rows : List Row) → row_at table number (with_content other at content rows) ≡ (if same_table other table && (at.0 == number.0) then content else row_at table number rows) }
     ensures untouched { (rows : List Row) (changes : List RowChange) (table : TableName) (number : RowNo) → names_row table number changes ≡ false → row_at table number (laid_over rows changes) ≡ row_at table number rows }
@@ -68,6 +69,7 @@ pub fn laid_rows_answer()
     ensures once { (rows : List Row) (changes : List RowChange) (change : RowChange) → IsTrue (rows_differ changes) → Contains changes change → row_at change.table change.row (laid_over rows changes) ≡ change.new }
     ensures behind { (rows : List Row) (a b : List RowChange) → laid_over rows (a ++ b) ≡ laid_over (laid_over rows a) b }
     ensures old_behind { (rows : List Row) (a b : List RowChange) → AreFrom rows (a ++ b) ↔ (AreFrom rows a × AreFrom (laid_over rows a) b) }
+    ensures old_once { (rows : List Row) (changes : List RowChange) → IsTrue (rows_differ changes) → AllByRecursion (λ change. change.old ≡ row_at change.table change.row rows) changes → AreFrom rows changes }
     ensures laid { (rows : List Row) (changes : List RowChange) (row : Row) → Contains (laid_over rows changes) row
         → Contains rows row ⊎ ((change : RowChange) × Contains changes change × (change.table ≡ row.table) × (change.row ≡ row.number) × (change.new ≡ Some row.cells)) }
 {}
@@ -99,9 +101,10 @@ pub fn keys_differ_by_points()
     ensures viewed { (places : List ℕ) (table : TableName) (rows : List Row) → KeysDiffer places table (rows_in table rows) ↔ KeysDiffer places table rows }
 {}
 
-/// The discipline of keys of a desk stays where a table comes or goes, and where nothing but the
-/// spare changes.
+/// The discipline of keys of a desk: it stands where no client has changes and keys differ, as once
+/// what is laid is kept, and stays as `keys_stay` says of rows and changes.
 pub fn desks_stay_keyed()
+    ensures quiet { (desk : Contents) → ((client : ClientNo) → open_of desk client ≡ []) → ((table : TableName) → KeysDiffer (key_of table desk.tables) table desk.rows) → IsKeyedDesk desk }
     ensures same { (old new : Contents) → IsKeyedDesk old → new.tables ≡ old.tables → new.rows ≡ old.rows → ((q : ClientNo) → open_of new q ≡ open_of old q) → IsKeyedDesk new }
     ensures opened { (old new : Contents) (table : Table) → IsKeyedDesk old
         → ((row : Row) → Contains old.rows row → IsTrue (is_open row.table old.tables))
@@ -111,4 +114,15 @@ pub fn desks_stay_keyed()
     ensures dropped { (old new : Contents) (table : TableName) → IsKeyedDesk old → ((client : ClientNo) → names_table table (open_of old client) ≡ false)
         → new.tables ≡ filter (λ other. not (has_name table other)) old.tables → new.rows ≡ filter (λ row. not (is_in table row)) old.rows
         → ((q : ClientNo) → open_of new q ≡ open_of old q) → IsKeyedDesk new }
+    ensures written { (old new : Contents) (client : ClientNo) (changes : List RowChange) → IsKeyedDesk old
+        → AreFrom (laid_over old.rows (open_of old client)) changes
+        → IsTrue (rows_differ changes)
+        → ((table : TableName) → KeysDiffer (key_of table old.tables) table (laid_over old.rows (open_of old client ++ changes)))
+        → ((table : TableName) (key : List Cell) → key_of table old.tables ≢ [] → MakesKey (key_of table old.tables) table key changes → ¬ IsKeyLocked (key_of table old.tables) (open_of old) client table key)
+        → ((table : TableName) (row : RowNo) → IsTrue (names_row table row changes) → ¬ IsRowLocked (open_of old) client table row)
+        → new.tables ≡ old.tables → new.rows ≡ old.rows → ChangesOne client (open_of old client ++ changes) (open_of old) (open_of new) → IsKeyedDesk new }
+    ensures committed { (old new : Contents) (client : ClientNo) → IsKeyedDesk old
+        → new.tables ≡ old.tables → new.rows ≡ laid_over old.rows (open_of old client) → ChangesOne client [] (open_of old) (open_of new) → IsKeyedDesk new }
+    ensures rolled_back { (old new : Contents) (client : ClientNo) → IsKeyedDesk old
+        → new.tables ≡ old.tables → new.rows ≡ old.rows → ChangesOne client [] (open_of old) (open_of new) → IsKeyedDesk new }
 {}

@@ -1,4 +1,4 @@
-use Rattle.au_txn.proofs.Answering.{from-parts, laid-contains, named-content}
+use Rattle.au_txn.proofs.Answering.{from-once, from-parts, laid-contains, named-content}
 use Rattle.au_txn.proofs.Histories.{from-append, laid-untouched, laid_over-append}
 use Rattle.au_txn.proofs.KeysStay.{left-once}
 use Rattle.au_txn.proofs.Numbered.{contains-has}
@@ -23,6 +23,9 @@ returns-clause-behind c = λ rows a b. laid_over-append rows a b
 
 pub returns-clause-old_behind : goal.returns-clause-old_behind
 returns-clause-old_behind c = λ rows a b. (λ both. from-parts rows a b both, λ each. from-append rows a b each.0 each.1)
+
+pub returns-clause-old_once : goal.returns-clause-old_once
+returns-clause-old_once c = λ rows changes once each. from-once rows changes once each
 
 pub returns-clause-laid : goal.returns-clause-laid
 returns-clause-laid c = λ rows changes row has. laid-contains rows changes row has
