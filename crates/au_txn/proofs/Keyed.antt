@@ -16,7 +16,7 @@ use Rattle.au_txn.specs.declared.change.RowChange.{RowChange}
 use Rattle.au_txn.specs.Desks.{key_of}
 use Rattle.au_txn.specs.Inside.{Ties, committed, is_own, kept_change, open_tables}
 use Rattle.au_txn.specs.Rows.{Row, row_at, with_content}
-use Rattle.au_txn.specs.Transactions.{AreFrom, IsKeyLocked, IsUnder, laid_over, is_of_row, is_of_table, names_row, names_table}
+use Rattle.au_txn.specs.Transactions.{AreFrom, IsKeyLocked, IsUnder, IsUnderOther, laid_over, is_of_row, is_of_table, names_row, names_table}
 use Rattle.au_txn.proofs.Numbered.{contains-has, has-contains, has-map, map-has}
 use Rattle.au_txn.proofs.Ordered.{Has, all_to, all_from, kept as stays, was}
 use Rattle.au_txn.proofs.Viewed.{row_in, seen-answer, seen-ordered, seen_rows}
@@ -77,7 +77,7 @@ old-source before (first ∷ changes) change from (inr later) = elim (old-source
         inr (first, inl refl, same_table-is first.table change.table parts.0, is ∙ (row_at-with change.table first.table change.row first.row first.new before ∙ ap (λ b. cond b first.new (row_at change.table change.row before)) e))
     go false e is = inl (is ∙ (row_at-with change.table first.table change.row first.row first.new before ∙ ap (λ b. cond b first.new (row_at change.table change.row before)) e))
 
-names-it : (changes : List RowChange) (change : RowChange) → Has changes change → names_row change.table change.row changes ≡ true
+pub names-it : (changes : List RowChange) (change : RowChange) → Has changes change → names_row change.table change.row changes ≡ true
 names-it [] change has = absurd has
 names-it (x ∷ xs) change (inl same) = subst (λ (y : RowChange). (is_of_row y.table y.row x || names_row y.table y.row xs) ≡ true) same (ap (λ b. b || names_row x.table x.row xs) (own-row x))
 names-it (x ∷ xs) change (inr later) = ap (λ b. is_of_row change.table change.row x || b) (names-it xs change later) ∙ right (is_of_row change.table change.row x)
@@ -236,3 +236,19 @@ module _ (kept : Contents) (transactions : ClientNo → List RowChange) (ties : 
         has-contains (rows.view_of (number_of t kept.tables) c kept.held) row (subst (Has (rows.view_of (number_of t kept.tables) c kept.held)) same source'.1),
         subst (λ places. HasKey places key (Some row.1)) (sym (key-same kept transactions ties t)) it.1,
       )
+
+  -- and the same of another row than a given one
+  pub found-other : (row other : RowNo) → rows.IsUnderOther kept (number_of t kept.tables) key row c other
+      → IsUnderOther (key_of t (open_tables kept.tables)) key t (laid_over (committed kept.tables kept.held) (transactions c)) row other
+  found-other row other it =
+      let found = found-under (other, it.1) (it.2, it.3) in
+      (it.0, subst (HasKey (key_of t (open_tables kept.tables)) key) (sym found.0) found.1)
+
+  pub other-found : (row other : RowNo) → IsUnderOther (key_of t (open_tables kept.tables)) key t (laid_over (committed kept.tables kept.held) (transactions c)) row other
+      → rows.IsUnderOther kept (number_of t kept.tables) key row c other
+  other-found row other it = go (row_at t other (laid_over (committed kept.tables kept.held) (transactions c))) refl it.1
+    where
+      go : (o : Option (List Cell)) → row_at t other (laid_over (committed kept.tables kept.held) (transactions c)) ≡ o → HasKey (key_of t (open_tables kept.tables)) key o
+          → rows.IsUnderOther kept (number_of t kept.tables) key row c other
+      go None e has = absurd has
+      go (Some cells) e has = let found = under-found (other, cells) (e, has) in (it.0, cells, found.0, found.1)

@@ -1,7 +1,7 @@
 -- What a client does keeps the discipline of keys.
 use Rattle.std.proofs.Common.{◌≡◌, ◌≢◌, ◌∙◌, ◌⊎◌, inl, inr, ℕ, Bool, true, false, not, cond, ◌&&◌, ◌||◌, List, [], ◌∷◌, ◌++◌, filter, refl, sym, ap, ap₂, subst, arith, Option, None, Some}
 use Rattle.std.specs.Prelude.{◌==◌}
-use Rattle.std.proofs.lemmas.Bool.{and_parts}
+use Rattle.std.proofs.lemmas.Bool.{and_from, and_parts}
 use Rattle.std.proofs.lemmas.Bool.Decides.{nat_tests}
 use Rattle.std.proofs.lemmas.List.Elements.{Contains-append_cases}
 use Rattle.au_base.specs.declared.cell.Cell.{Cell}
@@ -13,11 +13,12 @@ use Rattle.au_rows.specs.Held.{HasKey, or_else}
 use Rattle.au_txn.specs.declared.change.RowChange.{RowChange}
 use Rattle.au_txn.specs.Keys.{ChangesOne, IsKeyed, KeysDiffer}
 use Rattle.au_txn.specs.Rows.{Row, is_in, row_at}
-use Rattle.au_txn.specs.Transactions.{IsKeyLocked, IsRowLocked, NamesKey, is_of_row, is_of_table, laid_over, names_row, names_table}
-use Rattle.au_txn.proofs.Histories.{laid-untouched, last_made, last_made-none, names-append, or_before, row_at-laid}
+use Rattle.au_txn.specs.Transactions.{AreFrom, IsKeyLocked, IsRowLocked, MakesKey, NamesKey, is_of_row, is_of_table, laid_over, names_row, names_table, rows_differ}
+use Rattle.au_txn.proofs.Histories.{laid-untouched, laid_over-append, last_made, last_made-none, names-append, or_before, row_at-laid}
+use Rattle.au_txn.proofs.Keyed.{names-it, old-source}
 use Rattle.au_txn.proofs.Numbered.{contains-has, has-contains}
 use Rattle.au_txn.proofs.Ordered.{Has}
-use Rattle.au_txn.proofs.RowOrder.{client-is, is_row-is, row_at-filter, same_table-is, same_table-self}
+use Rattle.au_txn.proofs.RowOrder.{client-is, is_row-is, number-self, row_at-filter, same_table-is, same_table-self}
 
 -- two clients are one, or not
 same-client : (a b : ClientNo) → (a ≡ b) ⊎ (a.0 ≢ b.0)
@@ -26,6 +27,9 @@ same-client a b = go (a.0 == b.0) refl
     go : (x : Bool) → (a.0 == b.0) ≡ x → (a ≡ b) ⊎ (a.0 ≢ b.0)
     go true e = inl (client-is a b e)
     go false e = inr (λ same. (let is : (a.0 == b.0) ≡ true = grind (arith, nat_tests) in let wrong : true ≡ false = sym is ∙ e in cc))
+
+own-row : (change : RowChange) → is_of_row change.table change.row change ≡ true
+own-row change = and_from (same_table change.table change.table) (change.row.0 == change.row.0) (same_table-self change.table) (number-self change.row.0)
 
 no-key : (places : List ℕ) (key : List Cell) → HasKey places key None → ⊥
 no-key places key has = has
@@ -66,12 +70,53 @@ named-same t n a b changes named =
     let it = made-has t n changes named in
     row_at-laid t n a changes ∙ (ap (λ o. or_before o (row_at t n a)) it.1 ∙ sym (row_at-laid t n b changes ∙ ap (λ o. or_before o (row_at t n b)) it.1))
 
+-- two rows with one key are one
+use-differ : (places : List ℕ) (t : TableName) (xs : List Row) → places ≢ [] → KeysDiffer places t xs → (m n : RowNo) (key : List Cell)
+    → HasKey places key (row_at t m xs) → HasKey places key (row_at t n xs) → m ≡ n
+use-differ [] t xs some differ m n key first second = absurd (some refl)
+use-differ (p ∷ ps) t xs some differ m n key first second = differ m n key first second
+
+-- a row is named by the one list or by the other
+named-left : (t : TableName) (n : RowNo) (xs ys : List RowChange) → names_row t n xs ≡ true → names_row t n (xs ++ ys) ≡ true
+named-left t n xs ys named = names-append t n xs ys ∙ ap (λ b. b || names_row t n ys) named
+
+named-right : (t : TableName) (n : RowNo) (xs ys : List RowChange) → names_row t n ys ≡ true → names_row t n (xs ++ ys) ≡ true
+named-right t n xs ys named = names-append t n xs ys ∙ (ap (λ b. names_row t n xs || b) named ∙ right (names_row t n xs))
+  where
+    right : (b : Bool) → (b || true) ≡ true
+    right true = refl
+    right false = refl
+
+-- where no two changes are of one row, each makes what is left of its row
+made-once : (changes : List RowChange) (change : RowChange) → rows_differ changes ≡ true → Has changes change → last_made change.table change.row changes ≡ Some change.new
+made-once [] change once has = absurd has
+made-once (x ∷ xs) change once (inl same) =
+    subst (λ (y : RowChange). last_made y.table y.row (x ∷ xs) ≡ Some y.new) same (own (last_made-none x.table x.row xs (not-true (names_row x.table x.row xs) (and_parts (not (names_row x.table x.row xs)) (rows_differ xs) once).0)))
+  where
+    not-true : (b : Bool) → not b ≡ true → b ≡ false
+    not-true true is = absurd (let wrong : false ≡ true = is in cc)
+    not-true false is = refl
+
+    own : last_made x.table x.row xs ≡ None → last_made x.table x.row (x ∷ xs) ≡ Some x.new
+    own none = ap₂ or_else none (ap (λ b. cond b (Some x.new) None) (own-row x))
+made-once (x ∷ xs) change once (inr later) =
+    ap (λ o. or_else o (cond (is_of_row change.table change.row x) (Some x.new) None)) (made-once xs change (and_parts (not (names_row x.table x.row xs)) (rows_differ xs) once).1 later)
+
+-- what is left of the row of such a change, once it and others are laid over rows
+pub left-once : (rows : List Row) (xs changes : List RowChange) (change : RowChange) → rows_differ changes ≡ true → Has changes change
+    → row_at change.table change.row (laid_over rows (xs ++ changes)) ≡ change.new
+left-once rows xs changes change once has =
+    ap (row_at change.table change.row) (laid_over-append rows xs changes)
+    ∙ (row_at-laid change.table change.row (laid_over rows xs) changes
+    ∙ ap (λ o. or_before o (row_at change.table change.row (laid_over rows xs))) (made-once changes change once has))
+
 pub keyed-nothing : (keys : TableName → List ℕ) → IsKeyed keys [] (λ client. [])
 keyed-nothing keys = record {
   committed = λ t. none (keys t) t;
   seen = λ c t. none (keys t) t;
   apart = λ a b t key ne keyed one two. contains-has [] one.0 one.1;
   owned = λ a b t n ne one two. (let wrong : false ≡ true = one in cc);
+  held = λ c t key n has named stands. absurd stands;
 }
   where
     none : (places : List ℕ) (t : TableName) → KeysDiffer places t []
@@ -87,14 +132,69 @@ module _ (keys : TableName → List ℕ) (rows : List Row) (before after : Clien
   ]
 
   module _ (changes : List RowChange) (one : ChangesOne client (before client ++ changes) before after)
+      (from : AreFrom (laid_over rows (before client)) changes) (once : rows_differ changes ≡ true)
       (differ : (t : TableName) → KeysDiffer (keys t) t (laid_over rows (before client ++ changes)))
-      (unlocked : (t : TableName) (key : List Cell) → keys t ≢ [] → NamesKey (keys t) t key changes → IsKeyLocked (keys t) before client t key → ⊥)
+      (unlocked : (t : TableName) (key : List Cell) → keys t ≢ [] → MakesKey (keys t) t key changes → IsKeyLocked (keys t) before client t key → ⊥)
       (free : (t : TableName) (n : RowNo) → names_row t n changes ≡ true → IsRowLocked before client t n → ⊥) where
+    -- a key of the changes is a new one of theirs, or one that the client has named, or that of a committed row that they name
+    abbrev Stems : TableName → List Cell → Type 0
+    Stems t key = MakesKey (keys t) t key changes
+        ⊎ (NamesKey (keys t) t key (before client) ⊎ ((n : RowNo) × (names_row t n changes ≡ true) × HasKey (keys t) key (row_at t n rows)))
+
+    stood : (t : TableName) (key : List Cell) (change : RowChange) → Has changes change → change.table ≡ t
+        → HasKey (keys t) key (row_at change.table change.row (laid_over rows (before client))) → Stems t key
+    stood t key change has table is =
+        let here : HasKey (keys t) key (row_at t change.row (laid_over rows (before client))) = subst (λ u. HasKey (keys t) key (row_at u change.row (laid_over rows (before client)))) table is in
+        go (names_row t change.row (before client)) refl here
+      where
+        go : (b : Bool) → names_row t change.row (before client) ≡ b → HasKey (keys t) key (row_at t change.row (laid_over rows (before client))) → Stems t key
+        go true e here = inr (inl (named-key (keys t) t change.row key rows (before client) e here))
+        go false e here = inr (inr (
+          change.row,
+          subst (λ u. names_row u change.row changes ≡ true) table (names-it changes change has),
+          subst (HasKey (keys t) key) (laid-untouched t change.row rows (before client) e) here,
+        ))
+
+    stems : (t : TableName) (key : List Cell) → NamesKey (keys t) t key changes → Stems t key
+    stems t key it = elim it.3 [
+      | inl old ↦ elim (old-source (laid_over rows (before client)) changes it.0 from (contains-has changes it.0 it.1)) [
+        | inl is ↦ stood t key it.0 (contains-has changes it.0 it.1) it.2 (subst (HasKey (keys t) key) is old)
+        | inr made ↦ inl (made.0, has-contains changes made.0 made.1, made.2 ∙ it.2, subst (HasKey (keys t) key) made.3 old)
+      ]
+      | inr new ↦ inl (it.0, it.1, it.2, new)
+    ]
+
     key-with : (b : ClientNo) (t : TableName) (key : List Cell) → client.0 ≢ b.0 → keys t ≢ [] → NamesKey (keys t) t key (before client ++ changes) → NamesKey (keys t) t key (before b) → ⊥
     key-with b t key ne has mine theirs = elim (changes-split (keys t) t key (before client) changes mine) [
       | inl old ↦ keyed.apart client b t key ne has old theirs
-      | inr new ↦ unlocked t key has new (b, (λ same. ne (sym same)), theirs)
+      | inr new ↦ elim (stems t key new) [
+        | inl makes ↦ unlocked t key has makes (b, (λ same. ne (sym same)), theirs)
+        | inr (inl named) ↦ keyed.apart client b t key ne has named theirs
+        | inr (inr row) ↦ free t row.0 row.1 (b, (λ same. ne (sym same)), keyed.held b t key row.0 has theirs row.2)
+      ]
     ]
+
+    -- a committed row with a key of the client's is one that the client names
+    key-held : (t : TableName) (key : List Cell) (n : RowNo) → keys t ≢ [] → NamesKey (keys t) t key (before client ++ changes) → HasKey (keys t) key (row_at t n rows)
+        → names_row t n (before client ++ changes) ≡ true
+    key-held t key n has mine stands = elim (changes-split (keys t) t key (before client) changes mine) [
+      | inl old ↦ named-left t n (before client) changes (keyed.held client t key n has old stands)
+      | inr new ↦ elim (stems t key new) [
+        | inl makes ↦ go makes (names_row t n (before client ++ changes)) refl
+        | inr (inl named) ↦ named-left t n (before client) changes (keyed.held client t key n has named stands)
+        | inr (inr row) ↦ named-right t n (before client) changes (subst (λ m. names_row t m changes ≡ true) (use-differ (keys t) t rows has (keyed.committed t) row.0 n key row.2 stands) row.1)
+      ]
+    ]
+      where
+        go : MakesKey (keys t) t key changes → (b : Bool) → names_row t n (before client ++ changes) ≡ b → names_row t n (before client ++ changes) ≡ true
+        go makes true e = e
+        go makes false e =
+            let owns = contains-has changes makes.0 makes.1 in
+            let mine' : HasKey (keys t) key (row_at t makes.0.row (laid_over rows (before client ++ changes))) =
+            subst (λ u. HasKey (keys t) key (row_at u makes.0.row (laid_over rows (before client ++ changes)))) makes.2 (subst (HasKey (keys t) key) (sym (left-once rows (before client) changes makes.0 once owns)) makes.3) in
+            let theirs : HasKey (keys t) key (row_at t n (laid_over rows (before client ++ changes))) = subst (HasKey (keys t) key) (sym (laid-untouched t n rows (before client ++ changes) e)) stands in
+            let same : makes.0.row ≡ n = use-differ (keys t) t (laid_over rows (before client ++ changes)) has (differ t) makes.0.row n key mine' theirs in
+            named-right t n (before client) changes (subst (λ m. names_row t m changes ≡ true) same (subst (λ u. names_row u makes.0.row changes ≡ true) makes.2 (names-it changes makes.0 owns)))
 
     row-with : (b : ClientNo) (t : TableName) (n : RowNo) → client.0 ≢ b.0 → names_row t n (before client ++ changes) ≡ true → names_row t n (before b) ≡ true → ⊥
     row-with b t n ne mine theirs = go (names_row t n (before client)) refl (sym (names-append t n (before client) changes) ∙ mine)
@@ -112,6 +212,10 @@ module _ (keys : TableName → List ℕ) (rows : List Row) (before after : Clien
       ];
       apart = λ a b t key ne has first second. keys-apart a b t key ne has first second (same-client a client) (same-client b client);
       owned = λ a b t n ne first second. rows-apart a b t n ne first second (same-client a client) (same-client b client);
+      held = λ c t key n has named stands. elim (same-client c client) [
+        | inl same ↦ (let are = ap after same ∙ one.own_are in ap (names_row t n) are ∙ key-held t key n has (subst (NamesKey (keys t) t key) are named) stands)
+        | inr ne ↦ (let are = one.others_are c ne in ap (names_row t n) are ∙ keyed.held c t key n has (subst (NamesKey (keys t) t key) are named) stands)
+      ];
     }
       where
         keys-apart : (a b : ClientNo) (t : TableName) (key : List Cell) → a.0 ≢ b.0 → keys t ≢ [] → NamesKey (keys t) t key (after a) → NamesKey (keys t) t key (after b)
@@ -163,6 +267,7 @@ module _ (keys : TableName → List ℕ) (rows : List Row) (before after : Clien
       ];
       apart = ended-apart;
       owned = ended-owned;
+      held = λ c t key n has named stands. (let was = ended-key c t key named in ap (names_row t n) (one.others_are c was.0) ∙ keyed.held c t key n has was.1 stands);
     }
 
     -- what another client sees once the client has committed
@@ -225,7 +330,27 @@ module _ (keys : TableName → List ℕ) (rows : List Row) (before after : Clien
       ];
       apart = ended-apart;
       owned = ended-owned;
+      held = λ c t key n has named stands. (let was = ended-key c t key named in ap (names_row t n) (one.others_are c was.0) ∙ go c t key n has was.0 was.1 (names_row t n (before client)) refl stands);
     }
+      where
+        go : (c : ClientNo) (t : TableName) (key : List Cell) (n : RowNo) → keys t ≢ [] → c.0 ≢ client.0 → NamesKey (keys t) t key (before c) → (b : Bool) → names_row t n (before client) ≡ b
+            → HasKey (keys t) key (row_at t n (laid_over rows (before client))) → names_row t n (before c) ≡ true
+        go c t key n has ne named true e stands = absurd (keyed.apart c client t key ne has named (named-key (keys t) t n key rows (before client) e stands))
+        go c t key n has ne named false e stands = keyed.held c t key n has named (subst (HasKey (keys t) key) (laid-untouched t n rows (before client) e) stands)
+
+-- where no client has changes, the discipline is that keys differ among the committed rows
+pub keyed-quiet : (keys : TableName → List ℕ) (rows : List Row) (transactions : ClientNo → List RowChange) → ((c : ClientNo) → transactions c ≡ [])
+    → ((t : TableName) → KeysDiffer (keys t) t rows) → IsKeyed keys rows transactions
+keyed-quiet keys rows transactions none differ = record {
+  committed = differ;
+  seen = λ c t. subst (λ xs. KeysDiffer (keys t) t (laid_over rows xs)) (sym (none c)) (differ t);
+  apart = λ a b t key ne has first second. no-name a t key first;
+  owned = λ a b t n ne first second. (let wrong : false ≡ true = ap (names_row t n) (sym (none a)) ∙ first in cc);
+  held = λ c t key n has named stands. absurd (no-name c t key named);
+}
+  where
+    no-name : (c : ClientNo) (t : TableName) (key : List Cell) → NamesKey (keys t) t key (transactions c) → ⊥
+    no-name c t key it = let named : NamesKey (keys t) t key [] = subst (NamesKey (keys t) t key) (none c) it in contains-has [] named.0 named.1
 
 -- changes that name no row of a table leave it
 unnamed-row : (t : TableName) (n : RowNo) (changes : List RowChange) → names_table t changes ≡ false → names_row t n changes ≡ false
@@ -270,6 +395,10 @@ keyed-opened before after rows transactions same keyed = record {
     | inr none ↦ unnamed-key (after t) t key (transactions a) (none.1 a) first
   ];
   owned = keyed.owned;
+  held = λ c t key n has named stands. elim (same t) [
+    | inl is ↦ keyed.held c t key n (λ e. has (is ∙ e)) (subst (λ places. NamesKey places t key (transactions c)) is named) (subst (λ places. HasKey places key (row_at t n rows)) is stands)
+    | inr none ↦ absurd (unnamed-key (after t) t key (transactions c) (none.1 c) named)
+  ];
 }
   where
     empty : (places : List ℕ) (t : TableName) (xs : List Row) → ((n : RowNo) → row_at t n xs ≡ None) → KeysDiffer places t xs
@@ -283,6 +412,10 @@ keyed-dropped keys rows transactions t none keyed = record {
   seen = λ c u. fewer (keys u) u (laid_over rows (transactions c)) (laid_over (filter (λ row. not (is_in t row)) rows) (transactions c)) (λ n. after c u n) (keyed.seen c u);
   apart = keyed.apart;
   owned = keyed.owned;
+  held = λ c u key n has named stands. elim (at u n) [
+    | inl same ↦ keyed.held c u key n has named (subst (HasKey (keys u) key) same stands)
+    | inr gone ↦ absurd (subst (HasKey (keys u) key) gone stands)
+  ];
 }
   where
     at-once : (u : TableName) (n : RowNo) → row_at u n (filter (λ row. not (is_in t row)) rows) ≡ cond (not (same_table u t)) (row_at u n rows) None

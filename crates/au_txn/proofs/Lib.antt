@@ -15,4 +15,7 @@ pub mod Keyed
 pub mod LogLemmas
 pub mod FinalLemmas
 pub mod KeysStay
+pub mod Answering
+pub mod DeskKeys
+pub mod Laid
 pub mod Listed

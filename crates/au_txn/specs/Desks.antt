@@ -1,5 +1,5 @@
 -- What contracts see of a desk.
-use Rattle.std.specs.Prelude.{◌⊎◌, ℕ, List, [], ◌∷◌, ◌≤◌, Bool, IsSome, IsTrue, if◌then◌else◌, min}
+use Rattle.std.specs.Prelude.{◌⊎◌, ℕ, List, [], ◌∷◌, ◌++◌, ◌≤◌, ◌==◌, Bool, IsSome, IsTrue, Option, if◌then◌else◌, min}
 use Rattle.std.specs.List.{list_any}
 use Rattle.au_base.specs.declared.numbers.ClientNo.{ClientNo}
 use Rattle.au_base.specs.declared.numbers.RowNo.{RowNo}
@@ -9,21 +9,44 @@ use Rattle.au_base.specs.Sameness.{same_table}
 use Rattle.au_rows.specs.declared.table.Table.{Table}
 use Rattle.au_txn.specs.declared.change.RowChange.{RowChange}
 use Rattle.au_txn.specs.Logs.{Changes, changes_of, room_of}
-use Rattle.au_txn.specs.Rows.{Row}
-use Rattle.au_txn.specs.Transactions.{IsRowLocked}
+use Rattle.au_txn.specs.Rows.{Row, row_at}
+use Rattle.au_txn.specs.Transactions.{IsRowLocked, laid_over}
 use Rattle.au_base.specs.declared.cell.Cell.{Cell}
 
 -- the open tables, each with the places of its key's columns, by owner and name; the committed rows by owner, table
--- and number; a list of changes for each client; and how many more rows and tables are sure to find their memory
+-- and number; a list of changes for each client; the rows that replay has laid and neither kept nor dropped, as changes
+-- of client 0 that stand in no list; and how many more rows and tables are sure to find their memory
 pub record Contents : Type 0 where
   pub tables : List Table
   pub rows : List Row
   pub logs : List Changes
+  pub laid : List RowChange
   pub spare : ℕ
+
+-- the client by which replay lays rows
+abbrev pub replayer : ClientNo
+replayer = record { 0 = 0 }
+
+-- what the client has laid: nobody but the replayer has
+abbrev pub laid_by : ClientNo → List RowChange → List RowChange
+laid_by client laid = if client.0 == 0 then laid else []
+
+-- a client's changes, by what is laid and by the lists: what it has laid, and behind that its list
+abbrev pub open_in : List RowChange → List Changes → ClientNo → List RowChange
+open_in laid logs client = laid_by client laid ++ changes_of client logs
 
 -- each client's changes, which are open until it commits them or rolls them back
 abbrev pub open_of : Contents → ClientNo → List RowChange
-open_of desk client = changes_of client desk.logs
+open_of desk client = open_in desk.laid desk.logs client
+
+-- what is laid once the client's changes have ended
+abbrev pub laid_but : ClientNo → List RowChange → List RowChange
+laid_but client laid = if client.0 == 0 then [] else laid
+
+-- a row that is laid, as a change of what the replayer sees
+abbrev pub laid_row : Contents → TableName → RowNo → Option (List Cell) → RowChange
+laid_row desk table number content =
+    record { table = table; row = number; old = row_at table number (laid_over desk.rows (open_of desk replayer)); new = content }
 
 -- how many more changes of the client are sure to find their memory
 abbrev pub spare_of : ClientNo → Contents → ℕ

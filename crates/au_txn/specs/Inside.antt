@@ -1,5 +1,5 @@
 -- How rows that are kept as versions stand for the lists that contracts see. Who reads the contracts needs none of it.
-use Rattle.std.specs.Prelude.{◌≡◌, ◌≢◌, ◌≤◌, ◌==◌, IsSome, ◌&&◌, ◌||◌, ◌⊎◌, ℕ, List, [], ◌∷◌, Bool, true, false, nat_le, nat_lt, is_some, Option, None, Some, map, slice_index_or, ⊤}
+use Rattle.std.specs.Prelude.{◌≡◌, ◌≢◌, ◌≤◌, ◌==◌, IsSome, ◌&&◌, ◌||◌, ◌⊎◌, ℕ, List, [], ◌∷◌, Bool, true, false, nat_le, nat_lt, is_some, Option, None, Some, ◌-◌, length, map, slice_index_or, take, ⊤}
 use Rattle.std.specs.List.{AllByRecursion, filter, filter_map, list_all}
 use Rattle.std.specs.Option.{option_map}
 use Rattle.au_base.specs.declared.cell.Cell.{Cell}
@@ -10,8 +10,11 @@ use Rattle.au_base.specs.Order.{placed}
 use Rattle.au_rows.specs.declared.table.Table.{Table}
 use Rattle.au_rows.specs.Held.{Agrees, Change, Contents, Held, IsOpen, is_free_for, is_left, number_of, owner_of, seen_at, with_row}
 use Rattle.au_txn.specs.declared.change.RowChange.{RowChange}
-use Rattle.au_txn.specs.Desks.{table_before}
-use Rattle.au_txn.specs.Rows.{Row, row_before}
+use Rattle.au_txn.specs.declared.finals.Final.{Final}
+use Rattle.au_txn.specs.Desks.{replayer, table_before}
+use Rattle.au_txn.specs.Logs.{changes_of}
+use Rattle.au_txn.specs.Logs as lists
+use Rattle.au_txn.specs.Rows.{Row, row_at, row_before, with_content}
 use Rattle.au_txn.specs.Transactions.{AreFrom, names_row}
 
 -- the elements in order
@@ -66,6 +69,30 @@ is_own client change = change.by.0 == client.0
 
 abbrev pub own_changes : ClientNo → List Change → List Change
 own_changes client changes = filter (is_own client) changes
+
+-- the name of a table that is open
+abbrev pub name_in : Option Table → TableName
+name_in None = record { owner = []; name = [] }
+name_in (Some table) = table.name
+
+-- the content that a change gives its row, under the name of its table
+abbrev pub final_in : List (Option Table) → Change → Final
+final_in tables change = record { table = name_in (slice_index_or tables change.table None); row = change.number; content = change.content }
+
+-- contents that are laid over rows, as changes of what stood before each
+abbrev pub changes_from : List Row → List Final → List RowChange
+changes_from rows [] = []
+changes_from rows (final ∷ finals) =
+    (record { table = final.table; row = final.row; old = row_at final.table final.row rows; new = final.content })
+    ∷ changes_from (with_content final.table final.row final.content rows) finals
+
+-- the changes of the replayer but as many as its list has, which are its last
+abbrev pub unlisted : List Change → List lists.Changes → List Change
+unlisted changes logs = take (length (own_changes replayer changes) - length (changes_of replayer logs)) (own_changes replayer changes)
+
+-- what replay has laid
+unfoldable pub laid_in : Contents → List lists.Changes → List RowChange
+laid_in kept logs = changes_from (committed kept.tables kept.held) (map (final_in kept.tables) (unlisted kept.changes logs))
 
 -- each table is found by its name
 abbrev pub AreNamed : List (Option Table) → Type 0

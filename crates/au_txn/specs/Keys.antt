@@ -6,6 +6,7 @@ use Rattle.au_base.specs.declared.numbers.RowNo.{RowNo}
 use Rattle.au_base.specs.declared.table.TableName.{TableName}
 use Rattle.au_rows.specs.Held.{HasKey}
 use Rattle.au_txn.specs.declared.change.RowChange.{RowChange}
+use Rattle.au_txn.specs.Desks.{Contents, key_of, open_of}
 use Rattle.au_txn.specs.Rows.{Row, row_at}
 use Rattle.au_txn.specs.Transactions.{NamesKey, laid_over, names_row}
 
@@ -16,7 +17,7 @@ KeysDiffer (place ∷ places) table rows =
     (m n : RowNo) (key : List Cell) → HasKey (place ∷ places) key (row_at table m rows) → HasKey (place ∷ places) key (row_at table n rows) → m ≡ n
 
 -- keys differ among the committed rows and in what each client sees; no key of a keyed table, old or new, is in two
--- clients' changes, and no row is
+-- clients' changes, and no row is; and a client whose changes have the key of a committed row has a change of that row
 pub record IsKeyed (keys : TableName → List ℕ) (rows : List Row) (transactions : ClientNo → List RowChange) : Type 0 where
   pub committed : (table : TableName) → KeysDiffer (keys table) table rows
   pub seen : (client : ClientNo) (table : TableName) → KeysDiffer (keys table) table (laid_over rows (transactions client))
@@ -24,8 +25,14 @@ pub record IsKeyed (keys : TableName → List ℕ) (rows : List Row) (transactio
       → NamesKey (keys table) table key (transactions a) → NamesKey (keys table) table key (transactions b) → ⊥
   pub owned : (a b : ClientNo) (table : TableName) (row : RowNo) → a.0 ≢ b.0
       → IsTrue (names_row table row (transactions a)) → IsTrue (names_row table row (transactions b)) → ⊥
+  pub held : (client : ClientNo) (table : TableName) (key : List Cell) (row : RowNo) → keys table ≢ []
+      → NamesKey (keys table) table key (transactions client) → HasKey (keys table) key (row_at table row rows) → IsTrue (names_row table row (transactions client))
 
 -- one client's changes are these, and each other client's are as they were
 pub record ChangesOne (client : ClientNo) (own : List RowChange) (before after : ClientNo → List RowChange) : Type 0 where
   pub own_are : after client ≡ own
   pub others_are : (other : ClientNo) → other.0 ≢ client.0 → after other ≡ before other
+
+-- the discipline of keys of a desk, by the keys of its tables
+abbrev pub IsKeyedDesk : Contents → Type 0
+IsKeyedDesk desk = IsKeyed (λ table. key_of table desk.tables) desk.rows (open_of desk)

@@ -1,6 +1,6 @@
 -- Transactions: what a client sees, what is locked, and what a commit leaves (this project's profile of row locks
 -- and read consistency, Database Concepts, "Data Concurrency and Consistency").
-use Rattle.std.specs.Prelude.{◌≡◌, ◌≢◌, ◌&&◌, ◌==◌, ◌⊎◌, ⊤, ℕ, List, [], ◌∷◌, Bool, IsTrue, IsSome, Some, map}
+use Rattle.std.specs.Prelude.{◌≡◌, ◌≢◌, ◌&&◌, ◌==◌, ◌⊎◌, ⊤, ℕ, List, [], ◌∷◌, Bool, true, not, IsTrue, IsSome, Some, map}
 use Rattle.std.specs.List.{Contains, list_any}
 use Rattle.au_base.specs.declared.cell.Cell.{Cell}
 use Rattle.au_base.specs.declared.numbers.ClientNo.{ClientNo}
@@ -45,6 +45,16 @@ abbrev pub NamesKey : List ℕ → TableName → List Cell → List RowChange �
 NamesKey places table key changes =
     (change : RowChange) × Contains changes change × (change.table ≡ table) × (HasKey places key change.old ⊎ HasKey places key change.new)
 
+-- one of the changes is of the table and has the key as its new one
+abbrev pub MakesKey : List ℕ → TableName → List Cell → List RowChange → Type 0
+MakesKey places table key changes =
+    (change : RowChange) × Contains changes change × (change.table ≡ table) × HasKey places key change.new
+
+-- no two of the changes are of one row
+abbrev pub rows_differ : List RowChange → Bool
+rows_differ [] = true
+rows_differ (change ∷ changes) = not (names_row change.table change.row changes) && rows_differ changes
+
 -- another client has a change of the row
 abbrev pub IsRowLocked : (ClientNo → List RowChange) → ClientNo → TableName → RowNo → Type 0
 IsRowLocked transactions client table number = (other : ClientNo) × (other.0 ≢ client.0) × IsTrue (names_row table number (transactions other))
@@ -67,3 +77,7 @@ IsNumber rows transactions table number =
 -- a row that is seen of the table, with its number, has the key
 abbrev pub IsUnder : List ℕ → List Cell → TableName → List Row → RowNo × List Cell → Type 0
 IsUnder places key table seen row = (row_at table row.0 seen ≡ Some row.1) × HasKey places key (Some row.1)
+
+-- a row that is seen of the table under another number than this one has the key
+abbrev pub IsUnderOther : List ℕ → List Cell → TableName → List Row → RowNo → RowNo → Type 0
+IsUnderOther places key table seen row other = (other ≢ row) × HasKey places key (row_at table other seen)

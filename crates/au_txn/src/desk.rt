@@ -1,7 +1,7 @@
 //! Committed rows, and the changes of open transactions.
-ghost use Rattle.std.specs.Prelude.{◌≡◌, ◌≢◌, ◌≤◌, ◌<◌, ◌+◌, ◌++◌, ◌↔◌, [], List, IfNone, IfOk, IfSome, IsTrue, OnOk, false, filter, length, map, not};
+ghost use Rattle.std.specs.Prelude.{◌≡◌, ◌≢◌, ◌≤◌, ◌<◌, ◌+◌, ◌++◌, ◌∷◌, ◌↔◌, ◌⊎◌, [], List, IfNone, IfOk, IfSome, IsSome, IsTrue, OnOk, false, filter, length, map, not};
 ghost use Rattle.std.specs.List.{AllByRecursion, Contains, filter_map};
-ghost use Rattle.std.specs.Option.{option_copied};
+ghost use Rattle.std.specs.Option.{option_copied, option_map};
 ghost use Rattle.au_base.specs.declared.cell.Cell.{Cell as Content};
 ghost use Rattle.au_base.specs.declared.numbers.ClientNo.{ClientNo as Client};
 ghost use Rattle.au_base.specs.declared.numbers.RowNo.{RowNo as Number};
@@ -9,16 +9,16 @@ ghost use Rattle.au_base.specs.declared.table.TableName.{TableName as Name};
 ghost use Rattle.au_base.specs.Order.{is_in_order, placed};
 ghost use Rattle.au_rows.specs.Held.{lent};
 ghost use Rattle.au_txn.specs.Counts.{AreNumbers};
-ghost use Rattle.au_txn.specs.Desks.{IsWritable, contents_of, has_name, is_open, key_of, open_of, spare_of, table_before};
+ghost use Rattle.au_txn.specs.Desks.{IsWritable, contents_of, has_name, is_open, key_of, laid_but, laid_by, laid_row, open_of, replayer, spare_of, table_before};
 ghost use Rattle.au_txn.specs.Finals.{AreFinals};
-ghost use Rattle.au_txn.specs.Logs.{is_client};
+ghost use Rattle.au_txn.specs.Logs.{changes_of, is_client};
 ghost use Rattle.au_txn.specs.Rows.{Row, are_in_order, is_in, row_at};
-ghost use Rattle.au_txn.specs.Transactions.{AreFrom, IsKeyLocked, IsRowLocked, IsUnder, laid_over, names_row, names_table, view as view_of};
+ghost use Rattle.au_txn.specs.Transactions.{AreFrom, IsKeyLocked, IsRowLocked, IsUnder, IsUnderOther, laid_over, names_row, names_table, view as view_of};
 
 use crate::listing::{content_of, finals_in};
 use crate::log::{append_for, clear_for, find_changes, forget_for, reserve_for};
 use crate::named::sorted_names;
-use crate::writing::write_all;
+use crate::writing::{lay_one, write_all};
 use crate::{Final, Log, RowChange, View};
 use au_base::{Cell, ClientNo, Memory, RowNo, TableName};
 use au_rows::Rows;
@@ -26,8 +26,9 @@ use std::alloc::Global;
 use std::marker::Model;
 
 /// The committed rows of all tables, and one list of changes for each client. Contracts see the
-/// open tables and the committed rows in order, each client's changes, and `spare`: how many more
-/// rows and tables are sure to find their memory.
+/// open tables and the committed rows in order, each client's changes, the rows that replay has
+/// laid as client 0 without a list, and `spare`: how many more rows and tables are sure to find
+/// their memory.
 #[derive(Drop)]
 pub struct Desk {
     rows: Rows,
@@ -39,18 +40,18 @@ impl Model for Desk {
 
     ghost Value = { Contents };
 
-    ghost use Rattle.au_txn.specs.Inside.{Ties, committed, open_tables};
-    ghost use Rattle.au_txn.specs.Logs.{changes_of};
+    ghost use Rattle.au_txn.specs.Desks.{open_in};
+    ghost use Rattle.au_txn.specs.Inside.{Ties, committed, laid_in, open_tables};
 
-    ghost view = { λ d. record { tables = open_tables d.rows.tables; rows = committed d.rows.tables d.rows.held; logs = d.logs.items; spare = d.rows.spare } };
+    ghost view = { λ d. record { tables = open_tables d.rows.tables; rows = committed d.rows.tables d.rows.held; logs = d.logs.items; laid = laid_in d.rows d.logs.items; spare = d.rows.spare } };
 
-    ghost invariant = { λ d. Ties d.rows (λ client. changes_of client d.logs.items) };
+    ghost invariant = { λ d. Ties d.rows (open_in (laid_in d.rows d.logs.items) d.logs.items) };
 }
 
 impl Desk {
     /// No table, no row and no change, with spare 0.
     pub fn new(alloc: Global) -> Result<Desk, Memory>
-        ensures { IfOk result (λ desk. desk ≡ record { tables = []; rows = []; logs = []; spare = 0 }) }
+        ensures { IfOk result (λ desk. desk ≡ record { tables = []; rows = []; logs = []; laid = []; spare = 0 }) }
     {
         Ok(Desk {
             rows: Rows::new(alloc)?,
@@ -58,9 +59,11 @@ impl Desk {
         })
     }
 
-    /// The client's changes, the oldest first.
+    /// The client's changes, the oldest first. Rows that are laid stand in no list.
     pub fn changes(&self, client: ClientNo) -> &[RowChange]
-        ensures { result.now ≡ open_of self.now client }
+        ensures listed { result.now ≡ changes_of client self.now.logs }
+        ensures open { laid_by client self.now.laid ≡ [] → result.now ≡ open_of self.now client }
+        ensures others { client.0 ≢ 0 → result.now ≡ open_of self.now client }
     {
         find_changes(&self.logs, client)
     }
@@ -124,6 +127,21 @@ impl Desk {
         self.rows.under(table, key, client)
     }
 
+    /// Another row of the table than the given one that the client sees and that has this key.
+    /// `None` exactly where there is none. It takes no memory.
+    pub fn under_other(
+        &self,
+        client: ClientNo,
+        table: &TableName,
+        key: &[Cell],
+        row: RowNo,
+    ) -> Option<RowNo>
+        ensures some { IfSome result (λ other. IsUnderOther (key_of table.now self.now.tables) key.now table.now (laid_over self.now.rows (open_of self.now client)) row other) }
+        ensures none { IfNone result ((other : Number) → ¬ IsUnderOther (key_of table.now self.now.tables) key.now table.now (laid_over self.now.rows (open_of self.now client)) row other) }
+    {
+        self.rows.under_other(table, key, row, client)
+    }
+
     /// What holds of every desk: the tables and the committed rows stand in order, and each row is of
     /// an open table; each change is of an open table too, and of what stood before it; row numbers
     /// are at least 1; and no row is in two clients' changes. It does nothing, and states it for its
@@ -141,9 +159,9 @@ impl Desk {
     }
 
     /// What a commit of the client's changes leaves of its rows: those with another content than
-    /// the committed one, each once, by owner, table and number.
+    /// the committed one, each once, by owner, table and number. Rows that are laid aren't listed.
     pub fn finals(&self, alloc: Global, client: ClientNo) -> Result<Vec<Final>, Memory>
-        ensures { IfOk result (λ finals. AreFinals self.now.rows (open_of self.now client) finals.items) }
+        ensures { IfOk result (λ finals. laid_by client self.now.laid ≡ [] → AreFinals self.now.rows (open_of self.now client) finals.items) }
     {
         let names = sorted_names(alloc, find_changes(&self.logs, client))?;
         let clients = (client, other_than(client));
@@ -171,6 +189,7 @@ impl Desk {
         ensures tables { self.new.tables ≡ self.old.tables }
         ensures rows { self.new.rows ≡ self.old.rows }
         ensures changes { (q : Client) → open_of self.new q ≡ open_of self.old q }
+        ensures laid { self.new.laid ≡ self.old.laid }
         ensures spare { (q : Client) → spare_of q self.old ≤ spare_of q self.new }
     {
         self.rows.reserve(more)?;
@@ -188,6 +207,7 @@ impl Desk {
         ensures rows { self.new.rows ≡ self.old.rows }
         ensures own { open_of self.new client ≡ open_of self.old client ++ changes.items }
         ensures others { (q : Client) → q.0 ≢ client.0 → open_of self.new q ≡ open_of self.old q }
+        ensures laid { self.new.laid ≡ self.old.laid }
         ensures spare { spare_of client self.old ≤ spare_of client self.new + length changes.items }
     {
         write_all(&mut self.rows, client, changes.as_slice(), contents);
@@ -199,8 +219,11 @@ impl Desk {
         ensures tables { self.new.tables ≡ self.old.tables }
         ensures rows { self.new.rows ≡ laid_over self.old.rows (open_of self.old client) }
         ensures own { open_of self.new client ≡ [] }
+        ensures listed { changes_of client self.new.logs ≡ [] }
         ensures others { (q : Client) → q.0 ≢ client.0 → open_of self.new q ≡ open_of self.old q }
+        ensures laid { self.new.laid ≡ laid_but client self.old.laid }
         ensures spare { spare_of client self.old ≤ spare_of client self.new }
+        ensures room { self.old.spare ≤ self.new.spare }
     {
         self.rows.settle(client);
         clear_for(&mut self.logs, client);
@@ -211,8 +234,11 @@ impl Desk {
         ensures tables { self.new.tables ≡ self.old.tables }
         ensures rows { self.new.rows ≡ self.old.rows }
         ensures own { open_of self.new client ≡ [] }
+        ensures listed { changes_of client self.new.logs ≡ [] }
         ensures others { (q : Client) → q.0 ≢ client.0 → open_of self.new q ≡ open_of self.old q }
+        ensures laid { self.new.laid ≡ laid_but client self.old.laid }
         ensures spare { spare_of client self.old ≤ spare_of client self.new }
+        ensures room { self.old.spare ≤ self.new.spare }
     {
         self.rows.undo(client);
         clear_for(&mut self.logs, client);
@@ -225,10 +251,68 @@ impl Desk {
         ensures lists { self.new.logs ≡ filter (λ log. not (is_client client log)) self.old.logs }
         ensures own { open_of self.new client ≡ [] }
         ensures others { (q : Client) → q.0 ≢ client.0 → open_of self.new q ≡ open_of self.old q }
+        ensures laid { self.new.laid ≡ laid_but client self.old.laid }
         ensures spare { (q : Client) → q.0 ≢ client.0 → spare_of q self.old ≤ spare_of q self.new }
     {
         self.rows.undo(client);
         forget_for(&mut self.logs, client);
+    }
+
+    /// Makes `spare` at least `more`, with no list for a client. Where there is no memory, the desk is
+    /// as it was, with no less spare.
+    pub fn reserve_rows(&mut self, more: usize) -> Result<(), Memory>
+        ensures ok { OnOk result (more ≤ self.new.spare) }
+        ensures tables { self.new.tables ≡ self.old.tables }
+        ensures rows { self.new.rows ≡ self.old.rows }
+        ensures lists { self.new.logs ≡ self.old.logs }
+        ensures laid { self.new.laid ≡ self.old.laid }
+        ensures spare { self.old.spare ≤ self.new.spare }
+    {
+        self.rows.reserve(more)
+    }
+
+    /// Lays a row as client 0, which sees it then with this content, or no longer: as a change of
+    /// client 0 that stands in no list. It takes no memory.
+    pub fn lay(&mut self, table: &TableName, row: RowNo, content: Option<Vec<Cell>>)
+        requires spare { 0 < self.old.spare }
+        requires there { IsTrue (is_open table.now self.old.tables) }
+        requires free { ¬ IsRowLocked (open_of self.old) replayer table.now row }
+        requires numbered { 1 ≤ row.0 }
+        requires content { IsSome content ⊎ IsSome (row_at table.now row (laid_over self.old.rows (open_of self.old replayer))) }
+        requires listed { changes_of replayer self.old.logs ≡ [] }
+        ensures tables { self.new.tables ≡ self.old.tables }
+        ensures rows { self.new.rows ≡ self.old.rows }
+        ensures lists { self.new.logs ≡ self.old.logs }
+        ensures laid { self.new.laid ≡ self.old.laid ++ laid_row self.old table.now row (option_map (λ cells. cells.items) content) ∷ [] }
+        ensures spare { self.old.spare ≤ self.new.spare + 1 }
+    {
+        lay_one(&mut self.rows, table, row, content);
+    }
+
+    /// Makes what is laid committed, with all of client 0's changes. It takes no memory.
+    pub fn keep_laid(&mut self)
+        ensures tables { self.new.tables ≡ self.old.tables }
+        ensures rows { self.new.rows ≡ laid_over self.old.rows (open_of self.old replayer) }
+        ensures own { open_of self.new replayer ≡ [] }
+        ensures listed { changes_of replayer self.new.logs ≡ [] }
+        ensures laid { self.new.laid ≡ [] }
+        ensures others { (q : Client) → q.0 ≢ 0 → open_of self.new q ≡ open_of self.old q }
+        ensures spare { self.old.spare ≤ self.new.spare }
+    {
+        self.commit(ClientNo(0));
+    }
+
+    /// Takes what is laid away, with all of client 0's changes. It takes no memory.
+    pub fn drop_laid(&mut self)
+        ensures tables { self.new.tables ≡ self.old.tables }
+        ensures rows { self.new.rows ≡ self.old.rows }
+        ensures own { open_of self.new replayer ≡ [] }
+        ensures listed { changes_of replayer self.new.logs ≡ [] }
+        ensures laid { self.new.laid ≡ [] }
+        ensures others { (q : Client) → q.0 ≢ 0 → open_of self.new q ≡ open_of self.old q }
+        ensures spare { self.old.spare ≤ self.new.spare }
+    {
+        self.rollback(ClientNo(0));
     }
 
     /// Opens a table without rows. `key` has the places, from 0, of the key's columns, none for a
@@ -239,6 +323,7 @@ impl Desk {
         ensures tables { self.new.tables ≡ placed table_before (record { name = table; key = key.items }) self.old.tables }
         ensures rows { self.new.rows ≡ self.old.rows }
         ensures changes { (q : Client) → open_of self.new q ≡ open_of self.old q }
+        ensures laid { self.new.laid ≡ self.old.laid }
         ensures spare { (q : Client) → spare_of q self.old ≤ spare_of q self.new + 1 }
     {
         self.rows.open_table(table, key);
@@ -251,6 +336,7 @@ impl Desk {
         ensures tables { self.new.tables ≡ filter (λ other. not (has_name table.now other)) self.old.tables }
         ensures rows { self.new.rows ≡ filter (λ row. not (is_in table.now row)) self.old.rows }
         ensures changes { (q : Client) → open_of self.new q ≡ open_of self.old q }
+        ensures laid { self.new.laid ≡ self.old.laid }
         ensures spare { (q : Client) → spare_of q self.old ≤ spare_of q self.new }
     {
         self.rows.drop_table(table);

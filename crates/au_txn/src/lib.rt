@@ -15,6 +15,9 @@ mod writing;
 pub use change::RowChange;
 pub use desk::Desk;
 pub use finals::Final;
-pub use laws::{finals_settle, keys_stay, rows_are_what_they_answer};
+pub use laws::{
+    desks_stay_keyed, finals_settle, keys_differ_by_points, keys_stay, laid_rows_answer,
+    rows_are_what_they_answer, rows_stand_by_tables,
+};
 pub use log::Log;
 pub use view::View;

@@ -1,13 +1,16 @@
 //! Changes that are made in the rows.
-ghost use Rattle.std.specs.Prelude.{◌≡◌, ◌≤◌, ◌<◌, ◌+◌, ◌++◌, ◌∷◌, [], List, length, map};
+ghost use Rattle.std.specs.Prelude.{◌≡◌, ◌≤◌, ◌<◌, ◌+◌, ◌++◌, ◌∷◌, ◌⊎◌, [], IsSome, List, length, map, true};
 ghost use Rattle.std.specs.List.{cons_option, filter_map};
+ghost use Rattle.std.specs.Option.{option_map};
 ghost use Rattle.std.specs.Vec.Iter.{into_iter_items};
 ghost use Rattle.au_base.specs.declared.cell.Cell.{Cell as Content};
-ghost use Rattle.au_rows.specs.Held.{number_of, with_row};
+ghost use Rattle.au_rows.specs.Calls.{after_change};
+ghost use Rattle.au_rows.specs.Held.{IsOpen, is_free_for, number_of, owner_of, seen_at, with_row};
+ghost use Rattle.au_txn.specs.Desks.{replayer};
 ghost use Rattle.au_txn.specs.Inside.{CanWrite, MayWrite, held_after, kept_change};
 
 use crate::RowChange;
-use au_base::{Cell, ClientNo};
+use au_base::{Cell, ClientNo, RowNo, TableName};
 use au_rows::Rows;
 use std::vec::IntoIter;
 
@@ -50,5 +53,21 @@ pub(crate) fn write_all(
     let mut contents = contents.into_iter();
     for change in changes {
         write_one(rows, client, change, &mut contents);
+    }
+}
+
+/// Lays a row as client 0.
+pub(crate) fn lay_one(rows: &mut Rows, table: &TableName, row: RowNo, content: Option<Vec<Cell>>)
+    requires spare { 0 < rows.old.spare }
+    requires open { IsOpen table.now rows.old.tables }
+    requires free { is_free_for replayer (owner_of (number_of table.now rows.old.tables) row rows.old.held) ≡ true }
+    requires numbered { 1 ≤ row.0 }
+    requires content { IsSome content ⊎ IsSome (seen_at (number_of table.now rows.old.tables) row replayer rows.old.held) }
+    ensures rest { rows.new ≡ record (after_change (number_of table.now rows.old.tables) row replayer (option_map (λ cells. cells.items) content) rows.old) { spare = rows.new.spare } }
+    ensures spare { rows.old.spare ≤ rows.new.spare + 1 }
+{
+    match content {
+        Some(cells) => rows.put(table, row, cells, ClientNo(0)),
+        None => rows.mark(table, row, ClientNo(0)),
     }
 }

@@ -13,6 +13,7 @@ pub fn asked(alloc: Global, desk: &Desk, case: &Case<'_>) -> Result<Option<Strin
         "view" => Ok(Some(viewed(alloc, desk, case)?)),
         "count" => Ok(Some(counted(alloc, desk, case)?)),
         "under" => Ok(Some(under(alloc, desk, case)?)),
+        "under other" => Ok(Some(under_other(alloc, desk, case)?)),
         "numbers" => {
             let (count, largest) = desk.numbers(&case.table(alloc, 0)?);
             Ok(Some(format!(in alloc; "{count} {largest}")?))
@@ -61,6 +62,14 @@ fn under(alloc: Global, desk: &Desk, case: &Case<'_>) -> Result<String, Fault> {
     let (table, key) = (case.table(alloc, 1)?, case.cells(alloc, 2)?);
     match desk.under(case.client(0)?, &table, key.as_slice()) {
         Some((number, cells)) => row_text(alloc, number.0, cells),
+        None => Ok(String::from_str(alloc, "nothing")?),
+    }
+}
+
+fn under_other(alloc: Global, desk: &Desk, case: &Case<'_>) -> Result<String, Fault> {
+    let (table, key) = (case.table(alloc, 1)?, case.cells(alloc, 2)?);
+    match desk.under_other(case.client(0)?, &table, key.as_slice(), case.row(3)?) {
+        Some(number) => Ok(format!(in alloc; "{}", number.0)?),
         None => Ok(String::from_str(alloc, "nothing")?),
     }
 }

@@ -1,5 +1,5 @@
 //! Lines that change the desk.
-ghost use Rattle.std.specs.Prelude.{◌≡◌, ◌≤◌, ◌⊎◌, IfOk, IsSome, IsTrue, map};
+ghost use Rattle.std.specs.Prelude.{◌≡◌, ◌≢◌, ◌≤◌, ◌⊎◌, IfOk, IsSome, IsTrue, map};
 ghost use Rattle.au_txn.specs.Desks.{is_open, open_of, spare_of};
 ghost use Rattle.au_txn.specs.Rows.{row_at};
 ghost use Rattle.au_txn.specs.Transactions.{IsRowLocked, laid_over};
@@ -7,7 +7,7 @@ ghost use Rattle.au_txn.specs.Transactions.{IsRowLocked, laid_over};
 use crate::case::Case;
 use crate::fault::Fault;
 use au_base::{Cell, ClientNo, List, RowNo, TableName};
-use au_txn::{Desk, RowChange};
+use au_txn::{Desk, RowChange, laid_rows_answer};
 use std::alloc::Global;
 
 /// A copy of cells.
@@ -89,6 +89,121 @@ pub fn change(
         new,
     };
     write_one(alloc, desk, client, change)?;
+    Ok("done")
+}
+
+/// Writes the two changes at once, where nothing is against them.
+fn write_two(
+    alloc: Global,
+    desk: &mut Desk,
+    client: ClientNo,
+    first: RowChange,
+    second: RowChange,
+) -> Result<(), Fault>
+    requires one_table { first.table ≡ second.table }
+    requires two_rows { first.row.0 ≢ second.row.0 }
+    requires there { IsTrue (is_open first.table desk.old.tables) }
+    requires first_free { ¬ IsRowLocked (open_of desk.old) client first.table first.row }
+    requires second_free { ¬ IsRowLocked (open_of desk.old) client second.table second.row }
+    requires first_numbered { 1 ≤ first.row.0 }
+    requires second_numbered { 1 ≤ second.row.0 }
+    requires first_content { IsSome first.old ⊎ IsSome first.new }
+    requires second_content { IsSome second.old ⊎ IsSome second.new }
+    requires first_old { first.old ≡ row_at first.table first.row (laid_over desk.old.rows (open_of desk.old client)) }
+    requires second_old { second.old ≡ row_at second.table second.row (laid_over desk.old.rows (open_of desk.old client)) }
+    requires spare { 2 ≤ spare_of client desk.old }
+{
+    laid_rows_answer();
+    let mut contents = Vec::new(alloc);
+    if let Some(cells) = &first.new {
+        contents.push(copy_of(alloc, cells.as_slice())?)?;
+    }
+    if let Some(cells) = &second.new {
+        contents.push(copy_of(alloc, cells.as_slice())?)?;
+    }
+    let mut changes = Vec::new(alloc);
+    changes.push(first)?;
+    changes.push(second)?;
+    desk.write(client, changes, contents);
+    Ok(())
+}
+
+/// A row and its new content, none where it is to go.
+#[derive(Drop)]
+pub struct Wanted {
+    pub row: RowNo,
+    pub new: Option<List<Cell>>,
+}
+
+/// Makes the client's changes of the two rows in one write, and says what came.
+pub fn change_two(
+    alloc: Global,
+    desk: &mut Desk,
+    client: ClientNo,
+    table: TableName,
+    wanted: (Wanted, Wanted),
+) -> Result<&'static str, Fault> {
+    let (first, second) = wanted;
+    desk.reserve(alloc, client, 2)?;
+    if first.row.0 == 0 || second.row.0 == 0 || !desk.is_open(&table) {
+        return Ok("no table");
+    }
+    if first.row.0 == second.row.0 {
+        return Ok("one row");
+    }
+    if desk.locked_row(client, &table, first.row) {
+        return Ok("locked");
+    }
+    if desk.locked_row(client, &table, second.row) {
+        return Ok("locked");
+    }
+    let first_old = seen(alloc, desk, client, &table, first.row)?;
+    if first_old.is_none() && first.new.is_none() {
+        return Ok("no row");
+    }
+    let second_old = seen(alloc, desk, client, &table, second.row)?;
+    if second_old.is_none() && second.new.is_none() {
+        return Ok("no row");
+    }
+    let first = RowChange {
+        table: table.clone()?,
+        row: first.row,
+        old: first_old,
+        new: first.new,
+    };
+    let second = RowChange {
+        table,
+        row: second.row,
+        old: second_old,
+        new: second.new,
+    };
+    write_two(alloc, desk, client, first, second)?;
+    Ok("done")
+}
+
+/// Lays the row for replay, and says what came.
+pub fn lay(
+    desk: &mut Desk,
+    table: &TableName,
+    row: RowNo,
+    content: Option<Vec<Cell>>,
+) -> Result<&'static str, Fault> {
+    let replay = ClientNo(0);
+    desk.reserve_rows(1)?;
+    if row.0 == 0 || !desk.is_open(table) {
+        return Ok("no table");
+    }
+    if desk.locked_row(replay, table, row) {
+        return Ok("locked");
+    }
+    if !desk.changes(replay).is_empty() {
+        return Ok("in a list");
+    }
+    let there = desk.seen(replay, table, row).is_some();
+    if !there && content.is_none() {
+        return Ok("no row");
+    }
+    desk.lay(table, row, content);
     Ok("done")
 }
 

@@ -5,9 +5,13 @@
 //! - `open|TABLE|PLACES`: a table with a key of the columns at these places, from 0, or without one
 //! - `drop|TABLE`
 //! - `put|CLIENT|TABLE|ROW|CELLS`, `gone|CLIENT|TABLE|ROW`: a change of the client
+//! - `two|CLIENT|TABLE|ROW|CELLS|ROW|CELLS`: two changes in one write, `gone` for the cells of a row
+//!   that goes
 //! - `many|CLIENT|TABLE|COUNT`: so many rows, from number 1 on, in one transaction
 //! - `commit|CLIENT`, `roll back|CLIENT`, `forget|CLIENT`
-//! - `view|CLIENT|TABLE`, `count|CLIENT|TABLE`, `under|CLIENT|TABLE|KEY`, `numbers|TABLE`,
+//! - `lay|TABLE|ROW|CELLS`, `keep laid`, `drop laid`: what replay does as client 0
+//! - `view|CLIENT|TABLE`, `count|CLIENT|TABLE`, `under|CLIENT|TABLE|KEY`,
+//!   `under other|CLIENT|TABLE|KEY|ROW`, `numbers|TABLE`,
 //!   `locked row|CLIENT|TABLE|ROW`, `locked key|CLIENT|TABLE|KEY`, `changes|CLIENT`,
 //!   `finals|CLIENT`, `how many|CLIENT` (changes and finals): what the calls of these names answer
 //!
@@ -21,8 +25,10 @@ mod changing;
 mod fault;
 mod showing;
 
+use au_base::{Cell, List};
 use au_txn::Desk;
 use case::Case;
+use changing::Wanted;
 use fault::Fault;
 use std::alloc::Global;
 use std::io;
@@ -44,9 +50,37 @@ fn changed(alloc: Global, desk: &mut Desk, case: &Case<'_>) -> Result<Option<&'s
             let (client, table) = (case.client(0)?, case.table(alloc, 1)?);
             Ok(Some(changing::change(alloc, desk, client, table, case.row(2)?, None)?))
         }
+        "two" => Ok(Some(two(alloc, desk, case)?)),
+        "lay" => {
+            let (table, row) = (case.table(alloc, 0)?, case.row(1)?);
+            let content = content_at(alloc, case, 2)?.map(List::into_vec);
+            Ok(Some(changing::lay(desk, &table, row, content)?))
+        }
         "many" => Ok(Some(changing::put_many(alloc, desk, case.client(0)?, case)?)),
         _ => ended(desk, case),
     }
+}
+
+// The content at a place from 0, none where the row is to go.
+fn content_at(alloc: Global, case: &Case<'_>, place: usize) -> Result<Option<List<Cell>>, Fault> {
+    if case.text(place) == "gone" {
+        return Ok(None);
+    }
+    Ok(Some(case.cells(alloc, place)?))
+}
+
+// What comes of two changes in one write.
+fn two(alloc: Global, desk: &mut Desk, case: &Case<'_>) -> Result<&'static str, Fault> {
+    let first = Wanted {
+        row: case.row(2)?,
+        new: content_at(alloc, case, 3)?,
+    };
+    let second = Wanted {
+        row: case.row(4)?,
+        new: content_at(alloc, case, 5)?,
+    };
+    let (client, table) = (case.client(0)?, case.table(alloc, 1)?);
+    changing::change_two(alloc, desk, client, table, (first, second))
 }
 
 // What comes of a line that ends a client's changes, if the case is one.
@@ -55,6 +89,8 @@ fn ended(desk: &mut Desk, case: &Case<'_>) -> Result<Option<&'static str>, Fault
         "commit" => desk.commit(case.client(0)?),
         "roll back" => desk.rollback(case.client(0)?),
         "forget" => desk.forget(case.client(0)?),
+        "keep laid" => desk.keep_laid(),
+        "drop laid" => desk.drop_laid(),
         _ => return Ok(None),
     }
     Ok(Some("done"))

@@ -1,32 +1,41 @@
 use Rattle.std.proofs.Common.{◌∙◌, [], sym, subst, ap, arith}
 use Rattle.au_rows.specs.Held.{Contents}
-use Rattle.au_txn.specs.Inside.{Ties, committed}
+use Rattle.au_txn.specs.Desks.{open_in}
+use Rattle.au_txn.specs.Inside.{Ties, committed, laid_in}
 use Rattle.au_txn.specs.Logs.{Changes, changes_of, room_of}
-use Rattle.au_txn.proofs.Ended.{cleared, committed-undone, ties-undone, without_client}
+use Rattle.au_txn.proofs.Ended.{committed-undone, ties-undone, without_client}
+use Rattle.au_txn.proofs.Laid.{ended-lists}
 use Rattle.au_txn.proofs.LogLemmas.{forgotten-other, forgotten-own}
-use Rattle.au_txn.proofs.Written.{ties-same}
 use Rattle.au_txn.proofs.desk.Desk.forget.Goals as goal
 
 pub invariant_of-self : goal.invariant_of-self
-invariant_of-self c =
-    subst (λ (kept : Contents). Ties kept (λ client. changes_of client c.forget_for.new.logs.items)) (sym c.undo.ensures.rest)
-    (ties-same _ (without_client c.args.client (λ client. changes_of client c.self.inside.logs.items)) (λ client. changes_of client c.forget_for.new.logs.items)
-    (cleared c.args.client (λ client. changes_of client c.self.inside.logs.items) (λ client. changes_of client c.forget_for.new.logs.items)
+invariant_of-self c = (ended-lists c.args.client (laid_in c.self.inside.rows c.self.inside.logs.items) c.self.inside.logs.items c.forget_for.new.logs.items c.undo.new.self
+    (subst (λ (kept : Contents). Ties kept (without_client c.args.client (open_in (laid_in c.self.inside.rows c.self.inside.logs.items) c.self.inside.logs.items))) (sym c.undo.ensures.rest) (ties-undone c.self.inside.rows (open_in (laid_in c.self.inside.rows c.self.inside.logs.items) c.self.inside.logs.items) c.self.invariant c.args.client c.undo.new.self.spare))
     (ap (changes_of c.args.client) c.forget_for.ensures ∙ forgotten-own (λ (l : Changes). l.changes) [] c.args.client c.self.inside.logs.items)
-    (λ q ne. ap (changes_of q) c.forget_for.ensures ∙ forgotten-other (λ (l : Changes). l.changes) [] c.args.client q c.self.inside.logs.items ne))
-    (ties-undone c.self.inside.rows (λ client. changes_of client c.self.inside.logs.items) c.self.invariant c.args.client c.undo.new.self.spare))
+    (λ q ne. ap (changes_of q) c.forget_for.ensures ∙ forgotten-other (λ (l : Changes). l.changes) [] c.args.client q c.self.inside.logs.items ne)).ties
 
 pub returns-clause-rows : goal.returns-clause-rows
 returns-clause-rows c =
     rw (← c.self.view_is) (ap (λ (kept : Contents). committed kept.tables kept.held) c.undo.ensures.rest
-    ∙ committed-undone c.self.inside.rows (λ client. changes_of client c.self.inside.logs.items) c.self.invariant c.args.client)
+    ∙ committed-undone c.self.inside.rows (open_in (laid_in c.self.inside.rows c.self.inside.logs.items) c.self.inside.logs.items) c.self.invariant c.args.client)
 
 pub returns-clause-own : goal.returns-clause-own
-returns-clause-own c = ap (changes_of c.args.client) c.forget_for.ensures ∙ forgotten-own (λ (l : Changes). l.changes) [] c.args.client c.self.inside.logs.items
+returns-clause-own c = (ended-lists c.args.client (laid_in c.self.inside.rows c.self.inside.logs.items) c.self.inside.logs.items c.forget_for.new.logs.items c.undo.new.self
+    (subst (λ (kept : Contents). Ties kept (without_client c.args.client (open_in (laid_in c.self.inside.rows c.self.inside.logs.items) c.self.inside.logs.items))) (sym c.undo.ensures.rest) (ties-undone c.self.inside.rows (open_in (laid_in c.self.inside.rows c.self.inside.logs.items) c.self.inside.logs.items) c.self.invariant c.args.client c.undo.new.self.spare))
+    (ap (changes_of c.args.client) c.forget_for.ensures ∙ forgotten-own (λ (l : Changes). l.changes) [] c.args.client c.self.inside.logs.items)
+    (λ q ne. ap (changes_of q) c.forget_for.ensures ∙ forgotten-other (λ (l : Changes). l.changes) [] c.args.client q c.self.inside.logs.items ne)).own
 
 pub returns-clause-others : goal.returns-clause-others
-returns-clause-others c =
-    rw (← c.self.view_is) (λ q ne. ap (changes_of q) c.forget_for.ensures ∙ forgotten-other (λ (l : Changes). l.changes) [] c.args.client q c.self.inside.logs.items ne)
+returns-clause-others c = rw (← c.self.view_is) (ended-lists c.args.client (laid_in c.self.inside.rows c.self.inside.logs.items) c.self.inside.logs.items c.forget_for.new.logs.items c.undo.new.self
+    (subst (λ (kept : Contents). Ties kept (without_client c.args.client (open_in (laid_in c.self.inside.rows c.self.inside.logs.items) c.self.inside.logs.items))) (sym c.undo.ensures.rest) (ties-undone c.self.inside.rows (open_in (laid_in c.self.inside.rows c.self.inside.logs.items) c.self.inside.logs.items) c.self.invariant c.args.client c.undo.new.self.spare))
+    (ap (changes_of c.args.client) c.forget_for.ensures ∙ forgotten-own (λ (l : Changes). l.changes) [] c.args.client c.self.inside.logs.items)
+    (λ q ne. ap (changes_of q) c.forget_for.ensures ∙ forgotten-other (λ (l : Changes). l.changes) [] c.args.client q c.self.inside.logs.items ne)).others
+
+pub returns-clause-laid : goal.returns-clause-laid
+returns-clause-laid c = rw (← c.self.view_is) (ended-lists c.args.client (laid_in c.self.inside.rows c.self.inside.logs.items) c.self.inside.logs.items c.forget_for.new.logs.items c.undo.new.self
+    (subst (λ (kept : Contents). Ties kept (without_client c.args.client (open_in (laid_in c.self.inside.rows c.self.inside.logs.items) c.self.inside.logs.items))) (sym c.undo.ensures.rest) (ties-undone c.self.inside.rows (open_in (laid_in c.self.inside.rows c.self.inside.logs.items) c.self.inside.logs.items) c.self.invariant c.args.client c.undo.new.self.spare))
+    (ap (changes_of c.args.client) c.forget_for.ensures ∙ forgotten-own (λ (l : Changes). l.changes) [] c.args.client c.self.inside.logs.items)
+    (λ q ne. ap (changes_of q) c.forget_for.ensures ∙ forgotten-other (λ (l : Changes). l.changes) [] c.args.client q c.self.inside.logs.items ne)).laid_is
 
 pub returns-clause-spare : goal.returns-clause-spare
 returns-clause-spare c =

@@ -1,7 +1,8 @@
-use Rattle.std.proofs.Common.{◌≤◌, ◌∙◌, length, sym, subst, ap, arith}
+use Rattle.std.proofs.Common.{◌≤◌, ◌∙◌, length, refl, sym, subst, ap, arith}
 use Rattle.au_rows.specs.Held.{Contents, number_of}
-use Rattle.au_txn.specs.Logs.{changes_of}
-use Rattle.au_txn.specs.Inside.{Ties, committed, open_tables}
+use Rattle.au_txn.specs.Desks.{open_in}
+use Rattle.au_txn.specs.Inside.{Ties, committed, laid_in, open_tables}
+use Rattle.au_txn.proofs.Laid.{same-lists}
 use Rattle.au_txn.proofs.Opened.{committed-with, ties-opened}
 use Rattle.au_txn.proofs.TableLemmas.{shut-is, tables-with}
 use Rattle.au_txn.proofs.desk.Desk.open_table.Goals as goal
@@ -14,8 +15,27 @@ invariant_of-self c =
     let shut = rw (← c.self.view_is) at c.requires.new in
     let none = shut-is c.args.table c.self.inside.rows.tables c.self.invariant.names shut in
     let last : length c.self.inside.rows.tables ≤ number_of c.args.table c.self.inside.rows.tables = omega (arith, none) in
-    subst (λ (kept : Contents). Ties kept (λ client. changes_of client c.self.inside.logs.items)) (sym c.open_table.ensures.rest)
-    (ties-opened (record { name = c.args.table; key = c.args.key.items }) c.self.inside.rows (λ client. changes_of client c.self.inside.logs.items) c.self.invariant last c.open_table.new.self.spare)
+    (same-lists (laid_in c.self.inside.rows c.self.inside.logs.items) c.self.inside.logs.items c.self.inside.logs.items c.open_table.new.self
+    (subst (λ (kept : Contents). Ties kept (open_in (laid_in c.self.inside.rows c.self.inside.logs.items) c.self.inside.logs.items)) (sym c.open_table.ensures.rest)
+    (ties-opened (record { name = c.args.table; key = c.args.key.items }) c.self.inside.rows (open_in (laid_in c.self.inside.rows c.self.inside.logs.items) c.self.inside.logs.items) c.self.invariant last c.open_table.new.self.spare)) (λ q. refl)).ties
+
+pub returns-clause-changes : goal.returns-clause-changes
+returns-clause-changes c =
+    let shut = rw (← c.self.view_is) at c.requires.new in
+    let none = shut-is c.args.table c.self.inside.rows.tables c.self.invariant.names shut in
+    let last : length c.self.inside.rows.tables ≤ number_of c.args.table c.self.inside.rows.tables = omega (arith, none) in
+    rw (← c.self.view_is) (same-lists (laid_in c.self.inside.rows c.self.inside.logs.items) c.self.inside.logs.items c.self.inside.logs.items c.open_table.new.self
+    (subst (λ (kept : Contents). Ties kept (open_in (laid_in c.self.inside.rows c.self.inside.logs.items) c.self.inside.logs.items)) (sym c.open_table.ensures.rest)
+    (ties-opened (record { name = c.args.table; key = c.args.key.items }) c.self.inside.rows (open_in (laid_in c.self.inside.rows c.self.inside.logs.items) c.self.inside.logs.items) c.self.invariant last c.open_table.new.self.spare)) (λ q. refl)).changes
+
+pub returns-clause-laid : goal.returns-clause-laid
+returns-clause-laid c =
+    let shut = rw (← c.self.view_is) at c.requires.new in
+    let none = shut-is c.args.table c.self.inside.rows.tables c.self.invariant.names shut in
+    let last : length c.self.inside.rows.tables ≤ number_of c.args.table c.self.inside.rows.tables = omega (arith, none) in
+    rw (← c.self.view_is) (same-lists (laid_in c.self.inside.rows c.self.inside.logs.items) c.self.inside.logs.items c.self.inside.logs.items c.open_table.new.self
+    (subst (λ (kept : Contents). Ties kept (open_in (laid_in c.self.inside.rows c.self.inside.logs.items) c.self.inside.logs.items)) (sym c.open_table.ensures.rest)
+    (ties-opened (record { name = c.args.table; key = c.args.key.items }) c.self.inside.rows (open_in (laid_in c.self.inside.rows c.self.inside.logs.items) c.self.inside.logs.items) c.self.invariant last c.open_table.new.self.spare)) (λ q. refl)).laid_is
 
 pub returns-clause-tables : goal.returns-clause-tables
 returns-clause-tables c =
@@ -31,4 +51,4 @@ returns-clause-rows c =
     let none = shut-is c.args.table c.self.inside.rows.tables c.self.invariant.names shut in
     let last : length c.self.inside.rows.tables ≤ number_of c.args.table c.self.inside.rows.tables = omega (arith, none) in
     rw (← c.self.view_is) (ap (λ (kept : Contents). committed kept.tables kept.held) c.open_table.ensures.rest
-    ∙ committed-with (record { name = c.args.table; key = c.args.key.items }) c.self.inside.rows (λ client. changes_of client c.self.inside.logs.items) c.self.invariant last)
+    ∙ committed-with (record { name = c.args.table; key = c.args.key.items }) c.self.inside.rows (open_in (laid_in c.self.inside.rows c.self.inside.logs.items) c.self.inside.logs.items) c.self.invariant last)

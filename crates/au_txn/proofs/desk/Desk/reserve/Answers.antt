@@ -1,17 +1,25 @@
-use Rattle.std.proofs.Common.{sym, subst}
+use Rattle.std.proofs.Common.{refl, sym, subst}
 use Rattle.au_rows.specs.Held.{Contents}
-use Rattle.au_txn.specs.Logs.{changes_of}
-use Rattle.au_txn.specs.Inside.{Ties}
-use Rattle.au_txn.proofs.Written.{ties-same, ties-with}
+use Rattle.au_txn.specs.Desks.{open_in}
+use Rattle.au_txn.specs.Inside.{Ties, laid_in}
+use Rattle.au_txn.proofs.Laid.{same-lists}
+use Rattle.au_txn.proofs.Written.{ties-with}
 use Rattle.au_txn.proofs.desk.Desk.reserve.Goals as goal
 
 pub invariant_of-self : goal.invariant_of-self
-invariant_of-self c =
-    subst (λ (kept : Contents). Ties kept (λ client. changes_of client c.self.inside.logs.items)) (sym c.reserve.ensures.rest)
-    (ties-with c.self.inside.rows (λ client. changes_of client c.self.inside.logs.items) c.reserve.new.self.spare c.self.invariant)
+invariant_of-self c = (same-lists (laid_in c.self.inside.rows c.self.inside.logs.items) c.self.inside.logs.items c.self.inside.logs.items c.reserve.new.self (subst (λ (kept : Contents). Ties kept (open_in (laid_in c.self.inside.rows c.self.inside.logs.items) c.self.inside.logs.items)) (sym c.reserve.ensures.rest) (ties-with c.self.inside.rows (open_in (laid_in c.self.inside.rows c.self.inside.logs.items) c.self.inside.logs.items) c.reserve.new.self.spare c.self.invariant)) (λ q. refl)).ties
 
 pub invariant_of-self-2 : goal.invariant_of-self-2
-invariant_of-self-2 c =
-    subst (λ (kept : Contents). Ties kept (λ client. changes_of client c.reserve_for.new.logs.items)) (sym c.reserve.ensures.rest)
-    (ties-same _ (λ client. changes_of client c.self.inside.logs.items) (λ client. changes_of client c.reserve_for.new.logs.items) (λ q. sym (c.reserve_for.ensures.changes q))
-    (ties-with c.self.inside.rows (λ client. changes_of client c.self.inside.logs.items) c.reserve.new.self.spare c.self.invariant))
+invariant_of-self-2 c = (same-lists (laid_in c.self.inside.rows c.self.inside.logs.items) c.self.inside.logs.items c.reserve_for.new.logs.items c.reserve.new.self (subst (λ (kept : Contents). Ties kept (open_in (laid_in c.self.inside.rows c.self.inside.logs.items) c.self.inside.logs.items)) (sym c.reserve.ensures.rest) (ties-with c.self.inside.rows (open_in (laid_in c.self.inside.rows c.self.inside.logs.items) c.self.inside.logs.items) c.reserve.new.self.spare c.self.invariant)) c.reserve_for.ensures.changes).ties
+
+pub returns-in_err-reserve-clause-changes : goal.returns-in_err-reserve-clause-changes
+returns-in_err-reserve-clause-changes c = rw (← c.self.view_is) (same-lists (laid_in c.self.inside.rows c.self.inside.logs.items) c.self.inside.logs.items c.self.inside.logs.items c.reserve.new.self (subst (λ (kept : Contents). Ties kept (open_in (laid_in c.self.inside.rows c.self.inside.logs.items) c.self.inside.logs.items)) (sym c.reserve.ensures.rest) (ties-with c.self.inside.rows (open_in (laid_in c.self.inside.rows c.self.inside.logs.items) c.self.inside.logs.items) c.reserve.new.self.spare c.self.invariant)) (λ q. refl)).changes
+
+pub returns-in_err-reserve-clause-laid : goal.returns-in_err-reserve-clause-laid
+returns-in_err-reserve-clause-laid c = rw (← c.self.view_is) (same-lists (laid_in c.self.inside.rows c.self.inside.logs.items) c.self.inside.logs.items c.self.inside.logs.items c.reserve.new.self (subst (λ (kept : Contents). Ties kept (open_in (laid_in c.self.inside.rows c.self.inside.logs.items) c.self.inside.logs.items)) (sym c.reserve.ensures.rest) (ties-with c.self.inside.rows (open_in (laid_in c.self.inside.rows c.self.inside.logs.items) c.self.inside.logs.items) c.reserve.new.self.spare c.self.invariant)) (λ q. refl)).laid_is
+
+pub returns-clause-changes : goal.returns-clause-changes
+returns-clause-changes c = rw (← c.self.view_is) (same-lists (laid_in c.self.inside.rows c.self.inside.logs.items) c.self.inside.logs.items c.reserve_for.new.logs.items c.reserve.new.self (subst (λ (kept : Contents). Ties kept (open_in (laid_in c.self.inside.rows c.self.inside.logs.items) c.self.inside.logs.items)) (sym c.reserve.ensures.rest) (ties-with c.self.inside.rows (open_in (laid_in c.self.inside.rows c.self.inside.logs.items) c.self.inside.logs.items) c.reserve.new.self.spare c.self.invariant)) c.reserve_for.ensures.changes).changes
+
+pub returns-clause-laid : goal.returns-clause-laid
+returns-clause-laid c = rw (← c.self.view_is) (same-lists (laid_in c.self.inside.rows c.self.inside.logs.items) c.self.inside.logs.items c.reserve_for.new.logs.items c.reserve.new.self (subst (λ (kept : Contents). Ties kept (open_in (laid_in c.self.inside.rows c.self.inside.logs.items) c.self.inside.logs.items)) (sym c.reserve.ensures.rest) (ties-with c.self.inside.rows (open_in (laid_in c.self.inside.rows c.self.inside.logs.items) c.self.inside.logs.items) c.reserve.new.self.spare c.self.invariant)) c.reserve_for.ensures.changes).laid_is

@@ -1,7 +1,8 @@
 use Rattle.std.specs.Prelude.{Option, Some, None, IfNone}
 use Rattle.std.proofs.lemmas.Option.{IfSome_then}
 use Rattle.au_rows.specs.Held.{lent}
-use Rattle.au_txn.specs.Logs.{changes_of}
+use Rattle.au_txn.specs.Desks.{open_in}
+use Rattle.au_txn.specs.Inside.{laid_in}
 use Rattle.au_txn.proofs.Keyed.{found-under, under-found}
 use Rattle.au_txn.proofs.desk.Desk.under.Goals as goal
 
@@ -11,8 +12,8 @@ none-then (Some x) P Q p more = p
 
 pub returns-clause-some : goal.returns-clause-some
 returns-clause-some c = rw (← c.self.view_is) (IfSome_then c.under.result c.under.ensures.some
-    (λ row. found-under c.self.inside.rows (λ client. changes_of client c.self.inside.logs.items) c.self.invariant c.args.table.now c.args.client c.args.key.now (lent row)))
+    (λ row. found-under c.self.inside.rows (open_in (laid_in c.self.inside.rows c.self.inside.logs.items) c.self.inside.logs.items) c.self.invariant c.args.table.now c.args.client c.args.key.now (lent row)))
 
 pub returns-clause-none : goal.returns-clause-none
 returns-clause-none c = rw (← c.self.view_is) (none-then c.under.result _ _ c.under.ensures.none
-    (λ none row found. none row (under-found c.self.inside.rows (λ client. changes_of client c.self.inside.logs.items) c.self.invariant c.args.table.now c.args.client c.args.key.now row found)))
+    (λ none row found. none row (under-found c.self.inside.rows (open_in (laid_in c.self.inside.rows c.self.inside.logs.items) c.self.inside.logs.items) c.self.invariant c.args.table.now c.args.client c.args.key.now row found)))
