@@ -1,0 +1,6 @@
+pub mod Anywhere
+pub mod Columns
+pub mod Fronts
+pub mod Numbers
+pub mod Scans
+pub mod Totals

@@ -1,0 +1,21 @@
+//! Queries over the rows of several tables.
+#![tactic(auto)]
+
+mod combo;
+mod naming;
+mod output;
+mod overflow;
+mod planning;
+mod query;
+mod ranking;
+mod refusing;
+mod reply;
+mod scan;
+mod selected;
+mod size;
+mod source;
+mod touching;
+
+pub use query::select;
+pub use selected::Selected;
+pub use source::{Source, are_sound};

@@ -1,0 +1,72 @@
+//! Whether an expression overflows over some combination.
+ghost use Rattle.std.specs.Prelude.{◌≡◌, ◌≤◌, ◌+◌, length, take};
+ghost use Rattle.std.specs.List.{list_any};
+ghost use Rattle.au_base.specs.Limits as limits;
+ghost use Rattle.au_query.specs.Combos.{AreSoundRows, overflows_over, product, views};
+ghost use Rattle.au_query.specs.Inside.{cell_views, cells_in, found_in, names_in, overflows_in};
+
+use crate::Source;
+use au_base::{Cell, RowNo};
+use au_expr::{
+    Resolved, Row, SessionFacts, named_ranges_suffice, no_overflow_where_none_can, overflows_at,
+};
+
+/// Whether an expression overflows over some combination. Only the rows of tables that it names are
+/// gone through, and none where it can't overflow. It takes no memory.
+pub fn overflows_somewhere(expr: &Resolved, session: &SessionFacts, sources: &[Source<'_>]) -> bool
+    requires few { length sources.now ≤ limits.FROM_TABLES }
+    requires sound { AreSoundRows (views sources.now) }
+    ensures { result ≡ list_any (overflows_over session.now expr.now) (product (views sources.now)) }
+{
+    named_ranges_suffice();
+    no_overflow_where_none_can();
+    if !expr.can_overflow() {
+        return false;
+    }
+    let mut row = Row::new();
+    search(expr, session, sources, &mut row)
+}
+
+#[tactic(auto, using(crate::proofs::Fronts::popped))]
+fn search<'a>(
+    expr: &Resolved,
+    session: &SessionFacts,
+    sources: &[Source<'a>],
+    row: &mut Row<'a>,
+) -> bool
+    requires few { length row.old + length sources.now ≤ limits.FROM_TABLES }
+    ensures found { result ≡ found_in (overflows_in session.now expr.now) (names_in expr.now) row.old (cell_views sources.now) }
+    ensures row { row.new ≡ row.old }
+{
+    match sources.split_first() {
+        None => overflows_here(expr, row, session),
+        Some((source, rest)) => {
+            let rows = if expr.names_range(row.len()) {
+                source.rows.as_slice()
+            } else {
+                first_of(source.rows.as_slice())
+            };
+            for (_, cells) in rows {
+                row.push(*cells);
+                let found = search(expr, session, rest, row);
+                row.pop();
+                if found {
+                    return true;
+                }
+            }
+            false
+        }
+    }
+}
+
+fn overflows_here(expr: &Resolved, row: &Row<'_>, session: &SessionFacts) -> bool
+    ensures { result ≡ overflows_in session.now expr.now row.now }
+{
+    overflows_at(expr.tree(), row, session)
+}
+
+fn first_of<'b, 'a>(rows: &'b [(RowNo, &'a [Cell])]) -> &'b [(RowNo, &'a [Cell])]
+    ensures { cells_in result.now ≡ take 1 (cells_in rows.now) }
+{
+    if rows.is_empty() { rows } else { &rows[..1] }
+}

@@ -1,0 +1,120 @@
+//! The scan of the combinations of rows.
+ghost use Rattle.std.specs.Prelude.{◌≡◌, ◌≤◌, ◌+◌, ◌++◌, [], true, IfOk, MatchOption, ◌<◌, length};
+ghost use Rattle.std.specs.List.{list_all};
+ghost use Rattle.au_base.specs.Limits as limits;
+ghost use Rattle.au_expr.specs.declared.placed.Placed.{Placed};
+ghost use Rattle.au_expr.specs.Placing.{value_at};
+ghost use Rattle.au_expr.specs.Values as values;
+ghost use Rattle.au_query.specs.Combos as spec;
+ghost use Rattle.au_query.specs.Combos.{cells_of, passes, views};
+ghost use Rattle.au_query.specs.Inside.{IsKept, gathered};
+
+use crate::Source;
+use crate::combo::Combo;
+use au_base::limits::REPLY_ROWS;
+use au_base::{Memory, Truth};
+use au_expr::{Resolved, Row, SessionFacts, truth};
+use std::alloc::Global;
+
+/// The combinations over which each condition is Yes, in order. `None` where they are more than a
+/// reply may have. Nothing is allocated for a combination that is refused.
+pub fn combos<'a>(
+    alloc: Global,
+    conditions: &[Resolved],
+    session: &SessionFacts,
+    sources: &[Source<'a>],
+) -> Result<Option<Vec<Combo<'a>>>, Memory>
+    requires few { length sources.now ≤ limits.FROM_TABLES }
+    ensures { IfOk result (λ found. MatchOption found
+        (limits.REPLY_ROWS < length (spec.combos session.now conditions.now (views sources.now)))
+        (λ kept. (kept.items ≡ spec.combos session.now conditions.now (views sources.now)) × (length (spec.combos session.now conditions.now (views sources.now)) ≤ limits.REPLY_ROWS))) }
+{
+    let mut kept = Vec::new(alloc);
+    let mut front = Combo::new(alloc)?;
+    let mut row = Row::new();
+    if scan(
+        alloc, conditions, session, sources, &mut front, &mut row, &mut kept,
+    )? {
+        Ok(Some(kept))
+    } else {
+        Ok(None)
+    }
+}
+
+#[tactic(auto, using(crate::proofs::Fronts::popped))]
+fn scan<'a>(
+    alloc: Global,
+    conditions: &[Resolved],
+    session: &SessionFacts,
+    sources: &[Source<'a>],
+    front: &mut Combo<'a>,
+    row: &mut Row<'a>,
+    kept: &mut Vec<Combo<'a>>,
+) -> Result<bool, Memory>
+    requires few { length front.old + length sources.now ≤ limits.FROM_TABLES }
+    requires cells { row.old ≡ cells_of front.old }
+    requires room { length kept.old.items ≤ limits.REPLY_ROWS }
+    ensures front { IfOk result (λ all. all ≡ true → front.new ≡ front.old) }
+    ensures row { IfOk result (λ all. all ≡ true → row.new ≡ row.old) }
+    ensures kept { IfOk result (λ all. IsKept all kept.new.items (kept.old.items ++ gathered (passes session.now conditions.now) front.old (views sources.now))) }
+{
+    match sources.split_first() {
+        None => keep(alloc, conditions, session, front, row, kept),
+        Some((source, rest)) => {
+            for (number, cells) in source.rows.as_slice() {
+                front.push(*number, *cells)?;
+                row.push(*cells);
+                if !scan(alloc, conditions, session, rest, front, row, kept)? {
+                    return Ok(false);
+                }
+                row.pop();
+                front.pop();
+            }
+            Ok(true)
+        }
+    }
+}
+
+// Keeps the combination where each condition is Yes over it and a reply may have it.
+fn keep<'a>(
+    alloc: Global,
+    conditions: &[Resolved],
+    session: &SessionFacts,
+    front: &Combo<'a>,
+    row: &Row<'a>,
+    kept: &mut Vec<Combo<'a>>,
+) -> Result<bool, Memory>
+    requires cells { row.now ≡ cells_of front.now }
+    requires room { length kept.old.items ≤ limits.REPLY_ROWS }
+    ensures kept { IfOk result (λ all. IsKept all kept.new.items (kept.old.items ++ gathered (passes session.now conditions.now) front.now [])) }
+{
+    if !are_met(conditions, session, row) {
+        return Ok(true);
+    }
+    if kept.len() >= REPLY_ROWS {
+        return Ok(false);
+    }
+    kept.push(front.copied(alloc)?)?;
+    Ok(true)
+}
+
+fn are_met(conditions: &[Resolved], session: &SessionFacts, row: &Row<'_>) -> bool
+    ensures { result ≡ list_all (λ (tree : Placed). values.is_met (value_at row.now session.now tree)) conditions.now }
+{
+    for condition in conditions {
+        if !is_met(condition, session, row) {
+            return false;
+        }
+    }
+    true
+}
+
+/// Whether a condition is Yes over a row.
+pub fn is_met(condition: &Resolved, session: &SessionFacts, row: &Row<'_>) -> bool
+    ensures { result ≡ values.is_met (value_at row.now session.now condition.now) }
+{
+    match truth(condition, row, session) {
+        Ok(Truth::Yes) => true,
+        _ => false,
+    }
+}
