@@ -1,12 +1,11 @@
 -- Lists that grow: a new entry, and what the lists are when the new ones are joined to the others.
-use Rattle.std.proofs.Common.{◌≡◌, ◌+◌, ℕ, Bool, true, false, cond, ◌||◌, List, [], ◌∷◌, map, length, refl, sym, ap, subst, ◌∙◌, arith}
+use Rattle.std.proofs.Common.{◌≡◌, ◌+◌, ℕ, Bool, true, false, cond, ◌||◌, List, [], ◌∷◌, map, length, refl, sym, ap, ◌∙◌, arith}
 use Rattle.std.specs.List.{filter, list_any}
 use Rattle.au_priv.specs.declared.change.GrantChange.{GrantChange}
 use Rattle.au_priv.specs.declared.growing.GrowingLists.{GrowingLists}
-use Rattle.au_priv.specs.Changing.{with_admin, with_grant, with_object}
+use Rattle.au_priv.specs.Changing.{with_admin, with_grant}
 use Rattle.std.specs.Ordering.{is_eq}
 use Rattle.au_priv.specs.Order.{fields_before, is_in_order, object_before, placed, role_before, system_before}
-use Rattle.au_priv.specs.Rights.{Grants}
 use Rattle.au_priv.specs.descent.Editing.{listed}
 use Rattle.au_priv.specs.descent.Growing.{AreReady, IsRoomy, before_by, grown, merged}
 use Rattle.au_priv.proofs.Limits.{fewer, placed_length}

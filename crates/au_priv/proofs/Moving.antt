@@ -1,8 +1,8 @@
 -- What is moved from the end of one list to another, the last first.
-use Rattle.std.proofs.Common.{◌≡◌, ℕ, ◌+◌, Bool, true, not, List, [], ◌∷◌, ◌++◌, length, take, drop, reverse, refl, sym, ap, subst, ◌∙◌, append_assoc}
+use Rattle.std.proofs.Common.{◌≡◌, ℕ, Bool, true, not, List, [], ◌∷◌, ◌++◌, length, take, drop, reverse, refl, sym, ap, ◌∙◌, append_assoc}
 use Rattle.std.specs.List.{filter}
 use Rattle.std.proofs.Math.Seq.{drop-append_seam, take-append_seam}
-use Rattle.std.proofs.lemmas.List.{append-nil, reverse-append, take-append-drop}
+use Rattle.std.proofs.lemmas.List.{reverse-append, take-append-drop}
 use Rattle.au_base.specs.Order.{IsIrreflexive, IsTransitive}
 use Rattle.au_priv.specs.Order.{is_in_order}
 use Rattle.au_priv.specs.descent.Growing.{merged}

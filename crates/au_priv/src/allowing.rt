@@ -2,6 +2,7 @@
 ghost use Rattle.std.specs.Prelude.{◌≡◌, ◌≢◌, ◌≤◌, ◌↔◌, IsTrue, Some, length};
 ghost use Rattle.std.specs.Option.{option_map};
 ghost use Rattle.au_base.specs.Limits.{GRANTS};
+ghost use Rattle.au_priv.specs.declared.reach.TheConstants.{FEW_ROLES};
 ghost use Rattle.au_priv.specs.declared.allowed.Allowed.{Allowed};
 ghost use Rattle.au_priv.specs.Allowing.{AllowedIs, AllowedOnTable, AllowedOnTrail, IsRefusal, HasSomething, HoldsSomeAnyTable, ReadsTrail, any_table_privilege, dual_answer};
 ghost use Rattle.au_priv.specs.descent.Search.{IsReach};
@@ -10,7 +11,7 @@ use crate::allowed::Allowed;
 use crate::direct::{is_granted, is_grantee};
 use crate::grants::Grants;
 use crate::holding::{has_found, has_right};
-use crate::reach::reach;
+use crate::reach::{FEW_ROLES, reach};
 use crate::right::Sought;
 use au_base::built_in::{AUDIT_ADMIN, AUDIT_VIEWER};
 use au_base::limits::GRANTS;
@@ -70,7 +71,7 @@ fn on_table(grants: &Grants, user: &Name, table: &TableName, action: Action) -> 
     if !is_grantee(roles, user) {
         return on_table_found(grants, user, &[], 0, table, action);
     }
-    if roles.len() <= 1_000 {
+    if roles.len() <= FEW_ROLES {
         on_table_by_few_roles(grants, user, table, action)
     } else {
         on_table_by_many_roles(grants, user, table, action)
@@ -79,11 +80,11 @@ fn on_table(grants: &Grants, user: &Name, table: &TableName, action: Action) -> 
 
 fn on_table_by_few_roles(grants: &Grants, user: &Name, table: &TableName, action: Action) -> Allowed
     requires other { user.now ≢ table.now.owner }
-    requires few { length grants.now.role ≤ 1000 }
+    requires few { length grants.now.role ≤ FEW_ROLES }
     ensures { AllowedOnTable grants.now user.now table.now action result }
 {
-    let mut marks = [false; 1_000];
-    let mut queue = [0; 1_000];
+    let mut marks = [false; FEW_ROLES];
+    let mut queue = [0; FEW_ROLES];
     let roles = grants.role_grants();
     let count = reach(roles, user, &mut marks[..roles.len()], &mut queue);
     on_table_found(grants, user, &queue, count, table, action)
@@ -187,7 +188,7 @@ pub fn refusal(grants: &Grants, user: &Name, table: &TableName) -> Code
     if !is_grantee(roles, user) {
         return refusal_found(grants, user, &[], 0, table);
     }
-    if roles.len() <= 1_000 {
+    if roles.len() <= FEW_ROLES {
         refusal_by_few_roles(grants, user, table)
     } else {
         refusal_by_many_roles(grants, user, table)
@@ -195,11 +196,11 @@ pub fn refusal(grants: &Grants, user: &Name, table: &TableName) -> Code
 }
 
 fn refusal_by_few_roles(grants: &Grants, user: &Name, table: &TableName) -> Code
-    requires { length grants.now.role ≤ 1000 }
+    requires { length grants.now.role ≤ FEW_ROLES }
     ensures { IsRefusal grants.now user.now table.now result }
 {
-    let mut marks = [false; 1_000];
-    let mut queue = [0; 1_000];
+    let mut marks = [false; FEW_ROLES];
+    let mut queue = [0; FEW_ROLES];
     let roles = grants.role_grants();
     let count = reach(roles, user, &mut marks[..roles.len()], &mut queue);
     refusal_found(grants, user, &queue, count, table)

@@ -1,13 +1,14 @@
 //! Who holds which right.
 ghost use Rattle.std.specs.Prelude.{◌≤◌, ◌↔◌, IsTrue, length};
 ghost use Rattle.au_base.specs.Limits.{GRANTS};
+ghost use Rattle.au_priv.specs.declared.reach.TheConstants.{FEW_ROLES};
 ghost use Rattle.au_priv.specs.Holding.{HasRight, IsGranted};
 ghost use Rattle.au_priv.specs.descent.Search.{HasByRole, IsFirstGrant, IsGrantedBehind, IsReach, grantee_at};
 
 use crate::circle::is_granted_to_some;
 use crate::direct::{is_granted, is_grantee};
 use crate::grants::Grants;
-use crate::reach::{end_of_grants, reach, role_of};
+use crate::reach::{FEW_ROLES, end_of_grants, reach, role_of};
 use crate::right::Sought;
 use au_base::Name;
 use au_base::limits::GRANTS;
@@ -32,7 +33,7 @@ fn has_by_role(grants: &Grants, user: &Name, right: Sought<'_>) -> bool
     if !is_grantee(roles, user) {
         return false;
     }
-    if roles.len() <= 1_000 {
+    if roles.len() <= FEW_ROLES {
         has_by_few_roles(grants, user, right)
     } else {
         has_by_many_roles(grants, user, right)
@@ -41,11 +42,11 @@ fn has_by_role(grants: &Grants, user: &Name, right: Sought<'_>) -> bool
 
 fn has_by_few_roles(grants: &Grants, user: &Name, right: Sought<'_>) -> bool
     requires direct { ¬ IsGranted grants.now user.now right }
-    requires few { length grants.now.role ≤ 1000 }
+    requires few { length grants.now.role ≤ FEW_ROLES }
     ensures { IsTrue result ↔ HasByRole grants.now user.now right.entry }
 {
-    let mut marks = [false; 1_000];
-    let mut queue = [0; 1_000];
+    let mut marks = [false; FEW_ROLES];
+    let mut queue = [0; FEW_ROLES];
     has_by_search(grants, user, right, &mut marks, &mut queue)
 }
 

@@ -8,6 +8,10 @@ ghost use Rattle.au_priv.specs.descent.Search.{EndAt, IsFirstGrant, IsReach, IsS
 use crate::places::first_role_place;
 use au_base::Name;
 
+/// So many grants of roles are few: a search over them takes places for as many, and over more it
+/// takes places for as many as there can be.
+pub const FEW_ROLES: usize = 1_000;
+
 /// Puts into the queue the places of the first grants of roles to the user and to each role that
 /// the user holds, and gives how many there are. What the marks and the queue held is gone.
 pub fn reach(

@@ -1,8 +1,6 @@
-use Rattle.std.proofs.Common.{refl, sym, ap, ◌∙◌, List, ℕ, arith}
-use Rattle.std.specs.List.{list_any}
+use Rattle.std.proofs.Common.{arith}
 use Rattle.au_priv.specs.Holding.{grants_object}
 use Rattle.au_priv.specs.Order.{object_before, object_fields}
-use Rattle.au_priv.specs.descent.Growing.{merged}
 use Rattle.au_priv.proofs.Growths.{merged_length, new_ordered, new_whole}
 use Rattle.au_priv.proofs.Ordered.{object_told}
 use Rattle.au_priv.proofs.granting.grant_object.Goals as goal

@@ -1,4 +1,4 @@
-use Rattle.std.proofs.Common.{refl, sym, ap, ◌∙◌, List, ℕ, arith}
+use Rattle.std.proofs.Common.{refl, ap, ◌∙◌, List, ℕ, arith}
 use Rattle.std.specs.List.{list_any}
 use Rattle.au_priv.specs.Holding.{grants_role}
 use Rattle.au_priv.specs.Order.{role_before, role_fields}

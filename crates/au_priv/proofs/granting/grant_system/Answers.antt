@@ -1,8 +1,6 @@
-use Rattle.std.proofs.Common.{refl, sym, ap, ◌∙◌, List, ℕ, arith}
-use Rattle.std.specs.List.{list_any}
+use Rattle.std.proofs.Common.{refl, arith}
 use Rattle.au_priv.specs.Holding.{grants_privilege}
 use Rattle.au_priv.specs.Order.{system_before, system_fields}
-use Rattle.au_priv.specs.descent.Growing.{merged}
 use Rattle.au_priv.proofs.Growths.{merged_length, new_ordered, new_whole, set_merged, set_ready}
 use Rattle.au_priv.proofs.Ordered.{system_told}
 use Rattle.au_priv.proofs.granting.grant_system.Goals as goal

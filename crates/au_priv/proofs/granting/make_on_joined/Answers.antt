@@ -1,4 +1,4 @@
-use Rattle.std.proofs.Common.{subst, sym, ◌∙◌}
+use Rattle.std.proofs.Common.{subst, sym}
 use Rattle.au_priv.specs.Order.{AreInOrder, object_before, role_before, system_before}
 use Rattle.au_priv.specs.Rights.{Grants}
 use Rattle.au_priv.specs.descent.Editing.{listed}

@@ -1,5 +1,4 @@
-use Rattle.std.proofs.Common.{◌≡◌, ◌∙◌, true, sym, ap, reverse, [], ◌∷◌, ◌++◌, arith, List, subst}
-use Rattle.std.proofs.lemmas.List.{append-nil}
+use Rattle.std.proofs.Common.{◌≡◌, ◌∙◌, true, sym, ap, reverse, [], ◌∷◌, ◌++◌, arith, subst}
 use Rattle.au_priv.specs.Order.{is_in_order}
 use Rattle.au_priv.specs.descent.Growing.{before_by, merged}
 use Rattle.au_priv.specs.descent.Halving.{IsPlaceOf}

@@ -1,4 +1,4 @@
-use Rattle.std.proofs.Common.{◌≡◌, ◌+◌, ◌≤◌, ◌++◌, reverse}
+use Rattle.std.proofs.Common.{◌≡◌, ◌+◌, ◌++◌, reverse}
 use Rattle.std.specs.Prelude.{IsTrue, vec_capacity, vec_len}
 use Rattle.au_priv.specs.Order.{is_in_order}
 use Rattle.au_priv.specs.descent.Growing.{before_by, merged}

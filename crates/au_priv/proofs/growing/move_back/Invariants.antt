@@ -1,4 +1,4 @@
-use Rattle.std.proofs.Common.{◌≡◌, ◌+◌, ◌≤◌, ◌++◌, reverse}
+use Rattle.std.proofs.Common.{◌≡◌, ◌+◌, ◌++◌, reverse}
 use Rattle.std.specs.Prelude.{vec_capacity, vec_len}
 use Rattle.au_priv.proofs.growing.move_back.Given as goal
 

@@ -1,4 +1,4 @@
-use Rattle.std.proofs.Common.{◌≡◌, ◌∙◌, sym, ap, reverse, arith}
+use Rattle.std.proofs.Common.{◌∙◌, sym, ap, reverse, arith}
 use Rattle.au_priv.proofs.Moving.{moved_front, moved_tail}
 use Rattle.au_priv.proofs.growing.move_from.Goals as goal
 

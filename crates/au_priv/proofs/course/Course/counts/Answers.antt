@@ -1,4 +1,4 @@
-use Rattle.std.proofs.Common.{◌≡◌, ◌+◌, ℕ, length, ap, arith}
+use Rattle.std.proofs.Common.{length, ap, arith}
 use Rattle.au_priv.specs.Order.{object_before, role_before, system_before}
 use Rattle.au_priv.specs.Rights.{Grants}
 use Rattle.au_priv.proofs.Growths.{merged_length}
