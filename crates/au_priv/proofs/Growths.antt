@@ -1,17 +1,20 @@
 -- Lists that grow: a new entry, and what the lists are when the new ones are joined to the others.
-use Rattle.std.proofs.Common.{◌≡◌, ◌+◌, ℕ, Bool, true, false, cond, ◌||◌, List, [], ◌∷◌, map, length, refl, sym, ap, ◌∙◌, arith}
+use Rattle.std.proofs.Common.{◌≡◌, ◌≤◌, ◌+◌, ℕ, Bool, true, false, cond, ◌||◌, List, [], ◌∷◌, map, length, refl, sym, ap, subst, ◌∙◌, arith}
 use Rattle.std.specs.List.{filter, list_any}
 use Rattle.au_priv.specs.declared.change.GrantChange.{GrantChange}
 use Rattle.au_priv.specs.declared.growing.GrowingLists.{GrowingLists}
-use Rattle.au_priv.specs.Changing.{with_admin, with_grant}
+use Rattle.au_priv.specs.declared.kind.Kind.TheVariants as K
+use Rattle.au_priv.specs.Changing.{applied, with_admin, with_grant, with_object}
 use Rattle.std.specs.Ordering.{is_eq}
 use Rattle.au_priv.specs.Order.{fields_before, is_in_order, object_before, placed, role_before, system_before}
-use Rattle.au_priv.specs.descent.Editing.{listed}
-use Rattle.au_priv.specs.descent.Growing.{AreReady, IsRoomy, before_by, grown, merged}
+use Rattle.au_priv.specs.Rights.{Grants}
+use Rattle.au_priv.specs.descent.Editing.{adds, listed}
+use Rattle.au_priv.specs.descent.Growing.{AreReady, HasGrowth, IsRoomy, KeepsGrowth, before_by, grown, merged}
 use Rattle.au_priv.proofs.Limits.{fewer, placed_length}
 use Rattle.au_priv.proofs.Merging.{any_merged, map_merged, placed_into}
 use Rattle.au_priv.proofs.Ordered.{admin_same, cmp_by, placed_in_order, same_order, told_apart}
 use Rattle.au_priv.proofs.Orders.{apart, joins}
+use Rattle.au_priv.proofs.Rooms.{object_grows, parted, role_grows, system_grows}
 
 pub merged_placed : {X : Type 0} (fields : X → List (List ℕ)) (entry : X) (fresh kept after : List X) → AreReady (before_by fields) fresh kept → after ≡ placed (before_by fields) entry fresh
     → merged (before_by fields) after kept ≡ placed (before_by fields) entry (merged (before_by fields) fresh kept)
@@ -123,3 +126,47 @@ roomy_for before fresh kept test change k m f l room =
       move = (let move = room.move in omega (arith, long, one, move));
       add = room.add;
     }
+
+fewer_fit : (count less more k m f l : ℕ) → less ≤ more → IsRoomy (count + more) k m f l → IsRoomy (count + less) k m f l
+fewer_fit count less more k m f l fewer_is room = record {
+  stand = (let stand = room.stand in omega (arith, fewer_is, stand));
+  move = (let move = room.move in omega (arith, fewer_is, move));
+  add = room.add;
+}
+
+-- room for some changes is room for the first
+pub growth_first : (change : GrantChange) (rest : List GrantChange) (lists : GrowingLists) → HasGrowth (change ∷ rest) lists → HasGrowth (change ∷ []) lists
+growth_first change rest lists room = record {
+  system = fewer_fit (length (grown lists).system) _ _ _ _ _ _ (let parts = parted (adds K.Privilege change) change (filter (adds K.Privilege) rest) in omega (arith, parts)) room.system;
+  role = fewer_fit (length (grown lists).role) _ _ _ _ _ _ (let parts = parted (adds K.Role change) change (filter (adds K.Role) rest) in omega (arith, parts)) room.role;
+  object = fewer_fit (length (grown lists).object) _ _ _ _ _ _ (let parts = parted (adds K.Object change) change (filter (adds K.Object) rest) in omega (arith, parts)) room.object;
+}
+
+-- and, once the first is made, for the others
+pub growth_left : (change : GrantChange) (rest : List GrantChange) (lists later : GrowingLists) → HasGrowth (change ∷ rest) lists → grown later ≡ applied change (grown lists) → KeepsGrowth lists later → HasGrowth rest later
+growth_left change rest lists later room makes keeps = record {
+  system = (let parts = parted (adds K.Privilege change) change (filter (adds K.Privilege) rest) in
+      let grows = system_grows change (grown lists) in
+      let same : length (grown later).system ≡ length (applied change (grown lists)).system = ap (λ (g : Grants). length g.system) makes in
+      let stand = room.system.stand in
+      let move = room.system.move in
+      let large = keeps.kept.system in
+      let wide = keeps.moving.system in
+      record { stand = omega (arith, parts, grows, same, stand, large); move = omega (arith, parts, grows, same, move, wide); add = keeps.system });
+  role = (let parts = parted (adds K.Role change) change (filter (adds K.Role) rest) in
+      let grows = role_grows change (grown lists) in
+      let same : length (grown later).role ≡ length (applied change (grown lists)).role = ap (λ (g : Grants). length g.role) makes in
+      let stand = room.role.stand in
+      let move = room.role.move in
+      let large = keeps.kept.role in
+      let wide = keeps.moving.role in
+      record { stand = omega (arith, parts, grows, same, stand, large); move = omega (arith, parts, grows, same, move, wide); add = keeps.role });
+  object = (let parts = parted (adds K.Object change) change (filter (adds K.Object) rest) in
+      let grows = object_grows change (grown lists) in
+      let same : length (grown later).object ≡ length (applied change (grown lists)).object = ap (λ (g : Grants). length g.object) makes in
+      let stand = room.object.stand in
+      let move = room.object.move in
+      let large = keeps.kept.object in
+      let wide = keeps.moving.object in
+      record { stand = omega (arith, parts, grows, same, stand, large); move = omega (arith, parts, grows, same, move, wide); add = keeps.object });
+}

@@ -19,4 +19,5 @@ pub mod Reached
 pub mod Refusals
 pub mod Regranted
 pub mod Rooms
+pub mod Spaces
 pub mod Walks

@@ -12,12 +12,12 @@ use Rattle.au_priv.specs.Rights.{Grants}
 use Rattle.au_priv.specs.descent.Editing.{HasRoom, KeepsCapacity, adds, listed}
 use Rattle.au_priv.proofs.Limits.{fewer, granted_length, object_length, one_length}
 
-parted : {X : Type 0} (b : Bool) (x : X) (rest : List X) → length (cond b (x ∷ rest) rest) ≡ length (cond b (x ∷ []) []) + length rest
+pub parted : {X : Type 0} (b : Bool) (x : X) (rest : List X) → length (cond b (x ∷ rest) rest) ≡ length (cond b (x ∷ []) []) + length rest
 parted true x rest = omega arith
 parted false x rest = omega arith
 
 -- a change adds no grant of another kind than its own, and of that one at most
-system_grows : (change : GrantChange) (grants : Grants) → length (applied change grants).system ≤ length grants.system + length (filter (adds K.Privilege) (change ∷ []))
+pub system_grows : (change : GrantChange) (grants : Grants) → length (applied change grants).system ≤ length grants.system + length (filter (adds K.Privilege) (change ∷ []))
 system_grows (UserGone user) grants = (let a = fewer (λ e. not (system_to user e)) grants.system in omega (arith, a))
 system_grows (RoleGone role) grants = (let a = fewer (λ e. not (system_to role e)) grants.system in omega (arith, a))
 system_grows (SystemGrant grantee privilege admin) grants =
@@ -31,7 +31,7 @@ system_grows (ObjectGrant grantee table action) grants = omega arith
 system_grows (ObjectRevoke grantee table action) grants = omega arith
 system_grows (TableGone table) grants = omega arith
 
-role_grows : (change : GrantChange) (grants : Grants) → length (applied change grants).role ≤ length grants.role + length (filter (adds K.Role) (change ∷ []))
+pub role_grows : (change : GrantChange) (grants : Grants) → length (applied change grants).role ≤ length grants.role + length (filter (adds K.Role) (change ∷ []))
 role_grows (UserGone user) grants = (let a = fewer (λ e. not (role_to user e)) grants.role in omega (arith, a))
 role_grows (RoleGone role) grants = (let a = fewer (λ e. not (names_role role e)) grants.role in omega (arith, a))
 role_grows (SystemGrant grantee privilege admin) grants = omega arith
@@ -45,7 +45,7 @@ role_grows (ObjectGrant grantee table action) grants = omega arith
 role_grows (ObjectRevoke grantee table action) grants = omega arith
 role_grows (TableGone table) grants = omega arith
 
-object_grows : (change : GrantChange) (grants : Grants) → length (applied change grants).object ≤ length grants.object + length (filter (adds K.Object) (change ∷ []))
+pub object_grows : (change : GrantChange) (grants : Grants) → length (applied change grants).object ≤ length grants.object + length (filter (adds K.Object) (change ∷ []))
 object_grows (UserGone user) grants = (let a = fewer (λ e. not (object_to user e)) grants.object in omega (arith, a))
 object_grows (RoleGone role) grants = (let a = fewer (λ e. not (object_to role e)) grants.object in omega (arith, a))
 object_grows (SystemGrant grantee privilege admin) grants = omega arith

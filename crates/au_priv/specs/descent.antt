@@ -3,4 +3,5 @@ pub mod Editing
 pub mod Growing
 pub mod Halving
 pub mod Search
+pub mod Spacious
 pub mod Spared

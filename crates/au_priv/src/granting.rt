@@ -1,9 +1,9 @@
 //! Changes made in lists of grants that grow.
 ghost use Rattle.std.specs.Prelude.{◌≡◌, ◌+◌, ◌<◌, ◌∷◌, [], length, vec_capacity, vec_len};
 ghost use Rattle.std.specs.List.{list_any};
-ghost use Rattle.au_priv.specs.Changing.{applied, with_grant, with_object};
+ghost use Rattle.au_priv.specs.Changing.{applied, applied_all, with_grant, with_object};
 ghost use Rattle.au_priv.specs.Holding.{grants_privilege, grants_role, grants_object};
-ghost use Rattle.au_priv.specs.Order.{object_before, role_before, system_before};
+ghost use Rattle.au_priv.specs.Order.{AreInOrder, object_before, role_before, system_before};
 ghost use Rattle.au_priv.specs.Walking.{grants_privilege_as, grants_role_as};
 ghost use Rattle.au_priv.specs.descent.Editing.{listed};
 ghost use Rattle.au_priv.specs.descent.Growing.{AreGrowing, AreReady, HasGrowth, IsRoomy, KeepsGrowth, grown, merged};
@@ -13,6 +13,21 @@ use crate::change::GrantChange;
 use crate::direct::{has_object, has_privilege, has_privilege_as, has_role, has_role_as};
 use crate::growing::{GrowingLists, add, join};
 use au_base::{Action, Name, Privilege, TableName};
+
+/// Makes the changes in their order, and puts the new grants to their places. There is room for the
+/// grants that they add, and the call takes no memory.
+pub fn make_all_growing(lists: &mut GrowingLists, changes: Vec<GrantChange>)
+    requires ready { AreGrowing lists.old }
+    requires room { HasGrowth changes.items lists.old }
+    ensures after { listed lists.new.kept ≡ applied_all changes.items (grown lists.old) }
+    ensures order { AreInOrder (listed lists.new.kept) }
+{
+    let mut rest = changes.into_iter();
+    while let Some(change) = rest.next() {
+        make_growing(lists, change);
+    }
+    join_all(lists);
+}
 
 /// Makes the change. There is room for a grant that it adds, and the call takes no memory.
 pub fn make_growing(lists: &mut GrowingLists, change: GrantChange)

@@ -1,9 +1,10 @@
 -- How changes are made in vectors of grants.
-use Rattle.std.specs.Prelude.{◌≡◌, ◌+◌, ◌≤◌, List, Bool, true, false, length, vec_capacity}
+use Rattle.std.specs.Prelude.{◌≡◌, ◌+◌, ◌≤◌, ◌<◌, ℕ, List, [], Bool, true, false, MatchOption, ⊤, length, vec_capacity}
 use Rattle.std.specs.List.{filter}
 use Rattle.au_priv.specs.declared.change.GrantChange.{GrantChange}
 use Rattle.au_priv.specs.declared.change.GrantChange.TheVariants.{SystemGrant, RoleGrant, ObjectGrant}
 use Rattle.au_priv.specs.declared.edits.Edits.{Edits}
+use Rattle.au_priv.specs.declared.edits.Growth.{Growth}
 use Rattle.au_priv.specs.declared.kind.Kind.{Kind}
 use Rattle.au_priv.specs.declared.kind.Kind.TheVariants as K
 use Rattle.au_priv.specs.declared.lists.GrantLists.{GrantLists}
@@ -32,8 +33,24 @@ pub record KeepsCapacity (lists later : GrantLists) : Type 0 where
   pub role : vec_capacity later.role ≡ vec_capacity lists.role
   pub object : vec_capacity later.object ≡ vec_capacity lists.object
 
+-- the vectors are empty, and there is room to move so many grants of each kind
+pub record IsSpacious (system role object : ℕ) (growth : Growth) : Type 0 where
+  pub no_fresh_system : growth.fresh.system.items ≡ []
+  pub no_fresh_role : growth.fresh.role.items ≡ []
+  pub no_fresh_object : growth.fresh.object.items ≡ []
+  pub no_system : growth.moving.system.items ≡ []
+  pub no_role : growth.moving.role.items ≡ []
+  pub no_object : growth.moving.object.items ≡ []
+  pub fresh_system : 0 < vec_capacity growth.fresh.system
+  pub fresh_role : 0 < vec_capacity growth.fresh.role
+  pub fresh_object : 0 < vec_capacity growth.fresh.object
+  pub for_system : system ≤ vec_capacity growth.moving.system
+  pub for_role : role ≤ vec_capacity growth.moving.role
+  pub for_object : object ≤ vec_capacity growth.moving.object
+
 -- the vectors are for as many grants more as the changes add
 pub record AreSpared (edits : Edits) : Type 0 where
   pub system : edits.system.more ≡ length (filter (adds K.Privilege) edits.changes.items)
   pub role : edits.role.more ≡ length (filter (adds K.Role) edits.changes.items)
   pub object : edits.object.more ≡ length (filter (adds K.Object) edits.changes.items)
+  pub growth : MatchOption edits.growth ⊤ (IsSpacious (edits.system.count + edits.system.more) (edits.role.count + edits.role.more) (edits.object.count + edits.object.more))
