@@ -22,3 +22,4 @@ pub mod TakenLemmas
 pub mod UnderLemmas
 pub mod UsedLemmas
 pub mod ViewLemmas
+pub mod FrontLemmas

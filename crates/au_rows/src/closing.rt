@@ -1,6 +1,7 @@
 //! The end of all changes of a client.
-ghost use Rattle.std.specs.Prelude.{◌≡◌, ◌+◌, ◌≤◌, List, Option, false, filter, length, true, map, vec_len, vec_capacity};
+ghost use Rattle.std.specs.Prelude.{◌≡◌, ◌+◌, ◌++◌, ◌∷◌, ◌<◌, ◌≤◌, [], ℕ, List, Option, filter, length, slice_index_or, take, true, map, vec_len, vec_capacity};
 ghost use Rattle.std.specs.List.{count_by, list_all};
+ghost use Rattle.au_rows.specs.declared.place.Place.{Place as Kept};
 ghost use Rattle.au_rows.specs.declared.table.Table.{Table};
 ghost use Rattle.au_rows.specs.Held.{all_ended, changes_of_others};
 ghost use Rattle.au_rows.specs.Kept.{IsIndexed, Sound, change_of, held_of, place_left, place_open, place_shown};
@@ -19,25 +20,37 @@ fn is_left(place: &Place) -> bool
     place.settled.is_some() || place.owner.is_some()
 }
 
-/// Takes the places away of whose rows nothing is left.
-fn keep_left(places: &mut Vec<Place>)
-    ensures items { places.new.items ≡ filter place_left places.old.items }
-    ensures len { vec_len places.new ≤ vec_len places.old }
+/// Moves the place at an index behind the kept ones, where something of its row is left, and answers
+/// how many are kept then.
+fn keep_at(places: &mut Vec<Place>, kept: usize, at: usize) -> usize
+    requires behind { kept ≤ at }
+    requires within { at < length places.old.items }
+    ensures front { (d : Kept) → take result places.new.items ≡ take kept places.old.items ++ filter place_left (slice_index_or places.old.items at d ∷ []) }
+    ensures back { (k : ℕ) (d : Kept) → at < k → slice_index_or places.new.items k d ≡ slice_index_or places.old.items k d }
+    ensures within { result ≤ at + 1 }
+    ensures len { vec_len places.new ≡ vec_len places.old }
     ensures capacity { vec_capacity places.new ≡ vec_capacity places.old }
 {
-    places.retain(|place| is_left(place));
+    let place = places[at];
+    if !is_left(&place) {
+        return kept;
+    }
+    places[kept] = place;
+    kept + 1
 }
 
-/// Takes the places away of whose rows nothing is left, in one pass, where there are such places.
-fn sweep(places: &mut Vec<Place>, bare: bool)
-    requires { bare ≡ false → list_all place_left places.old.items ≡ true }
+/// Takes the places away of whose rows nothing is left; below the index there are none.
+fn sweep(places: &mut Vec<Place>, from: usize)
+    requires { list_all place_left (take from places.old.items) ≡ true }
     ensures items { places.new.items ≡ filter place_left places.old.items }
     ensures len { vec_len places.new ≤ vec_len places.old }
     ensures capacity { vec_capacity places.new ≡ vec_capacity places.old }
 {
-    if bare {
-        keep_left(places);
+    let mut kept = from;
+    for at in from..places.len() {
+        kept = keep_at(places, kept, at);
     }
+    places.truncate(kept);
 }
 
 /// Ends all changes of the client.

@@ -1,6 +1,6 @@
 //! The end of a client's changes, row by row.
-ghost use Rattle.std.specs.Prelude.{◌≡◌, ◌+◌, ◌≤◌, [], ◌∷◌, false, filter, length, not, true, vec_len, vec_capacity};
-ghost use Rattle.std.specs.List.{list_all};
+ghost use Rattle.std.specs.Prelude.{◌≡◌, ◌+◌, ◌≤◌, [], ◌∷◌, ℕ, false, filter, length, take, true, vec_len, vec_capacity};
+ghost use Rattle.std.specs.List.{list_all, position_or_len};
 ghost use Rattle.au_rows.specs.Edits.{edited};
 ghost use Rattle.au_rows.specs.Ends.{EndedBefore, IsCovered, IsGone, RowEnded, SlotDropped, is_clear, is_loose};
 ghost use Rattle.au_rows.specs.Kept.{is_apart, is_logged, is_owned, is_whole, place_at, place_ended, place_from, place_in, place_left, slot_ended, unsettled_others};
@@ -10,7 +10,7 @@ ghost use Rattle.au_rows.specs.Stored.{Frees};
 use crate::changes::Changes;
 use crate::ending::Ending;
 use crate::place::Place;
-use crate::places::{find, write};
+use crate::places::{find, index_of, write};
 use crate::unsettled::Unsettled;
 use crate::versions::Versions;
 use au_base::ClientNo;
@@ -44,12 +44,18 @@ fn replaced(place: Place, ending: Ending) -> Option<usize>
     }
 }
 
-/// Ends the changes of a place's owner, and answers whether nothing is left of the row.
-fn end_place(places: &mut Vec<Place>, versions: &mut Versions, place: Place, ending: Ending) -> bool
+/// Ends the changes of a place's owner, and answers the index of the place where nothing is left of
+/// its row, or else how many places there are.
+fn end_place(
+    places: &mut Vec<Place>,
+    versions: &mut Versions,
+    place: Place,
+    ending: Ending,
+) -> usize
     requires order { in_order places.old.items ≡ true }
     requires there { place_in place.table place.number places.old.items ≡ Some place }
     ensures items { places.new.items ≡ edited (place_from place.table place.number) (place_at place.table place.number) places.old.items (place_ended ending place ∷ []) }
-    ensures bare { result ≡ not (place_left (place_ended ending place)) }
+    ensures left { (n : ℕ) → n ≤ result → list_all place_left (take n places.old.items) ≡ true → list_all place_left (take n places.new.items) ≡ true }
     ensures frees { Frees versions.old.slots versions.new.slots (slot_ended ending place) }
     ensures room { versions.old.room ≤ versions.new.room }
     ensures len { vec_len places.new ≤ vec_len places.old }
@@ -57,23 +63,36 @@ fn end_place(places: &mut Vec<Place>, versions: &mut Versions, place: Place, end
 {
     versions.free(replaced(place, ending));
     let ended = ended(place, ending);
+    let bare = first_bare(places, ended);
     write(places, ended);
-    ended.settled.is_none()
+    bare
 }
 
-/// Ends the changes of a place's owner, where that is the client, and answers whether a place is
-/// there of whose row nothing is left.
+/// The index of the place where nothing is left of its row, or else how many places there are.
+fn first_bare(places: &[Place], place: Place) -> usize
+    requires { in_order places.now ≡ true }
+    ensures bare { place_left place ≡ false → result ≡ position_or_len (place_from place.table place.number) places.now }
+{
+    if place.settled.is_none() && place.owner.is_none() {
+        index_of(places, place.table, place.number)
+    } else {
+        places.len()
+    }
+}
+
+/// Ends the changes of a place's owner, where that is the client, and answers an index below which
+/// places have no less left than before.
 fn end_if_own(
     places: &mut Vec<Place>,
     versions: &mut Versions,
     place: Place,
     by: ClientNo,
     ending: Ending,
-) -> bool
+) -> usize
     requires order { in_order places.old.items ≡ true }
     requires whole { list_all (is_whole versions.old.slots) places.old.items ≡ true }
     requires there { place_in place.table place.number places.old.items ≡ Some place }
-    ensures left { result ≡ false → list_all place_left places.old.items ≡ true → list_all place_left places.new.items ≡ true }
+    ensures left { (n : ℕ) → n ≤ result → list_all place_left (take n places.old.items) ≡ true → list_all place_left (take n places.new.items) ≡ true }
     ensures row { RowEnded ending place.table place.number by places.old.items versions.old.slots places.new.items versions.new.slots }
     ensures room { versions.old.room ≤ versions.new.room }
     ensures len { vec_len places.new ≤ vec_len places.old }
@@ -82,22 +101,22 @@ fn end_if_own(
     if place.is_by(by) {
         end_place(places, versions, place, ending)
     } else {
-        false
+        places.len()
     }
 }
 
-/// Ends the client's changes of the row of a change, and answers whether a place is there of whose
-/// row nothing is left.
+/// Ends the client's changes of the row of a change, and answers an index below which places have
+/// no less left than before.
 fn end_row(
     places: &mut Vec<Place>,
     versions: &mut Versions,
     change: Unsettled,
     by: ClientNo,
     ending: Ending,
-) -> bool
+) -> usize
     requires order { in_order places.old.items ≡ true }
     requires whole { list_all (is_whole versions.old.slots) places.old.items ≡ true }
-    ensures left { result ≡ false → list_all place_left places.old.items ≡ true → list_all place_left places.new.items ≡ true }
+    ensures left { (n : ℕ) → n ≤ result → list_all place_left (take n places.old.items) ≡ true → list_all place_left (take n places.new.items) ≡ true }
     ensures row { RowEnded ending change.table change.number by places.old.items versions.old.slots places.new.items versions.new.slots }
     ensures room { versions.old.room ≤ versions.new.room }
     ensures len { vec_len places.new ≤ vec_len places.old }
@@ -105,7 +124,7 @@ fn end_row(
 {
     match find(places, change.table, change.number) {
         Some(place) => end_if_own(places, versions, place, by, ending),
-        None => false,
+        None => places.len(),
     }
 }
 
@@ -145,19 +164,19 @@ fn drop_version(places: &[Place], versions: &mut Versions, change: Unsettled)
 }
 
 /// Ends the client's changes of the row of one of its changes, and lets the version of this change
-/// go where nothing names it. It answers whether a place is there of whose row nothing is left.
+/// go where nothing names it. It answers an index below which places have no less left than before.
 fn end_change(
     places: &mut Vec<Place>,
     versions: &mut Versions,
     change: Unsettled,
     by: ClientNo,
     ending: Ending,
-) -> bool
+) -> usize
     requires order { in_order places.old.items ≡ true }
     requires whole { list_all (is_whole versions.old.slots) places.old.items ≡ true }
     requires loose { is_loose versions.old.slots change ≡ true }
     ensures gone { IsGone change.slot (place_in change.table change.number places.new.items) versions.new.slots }
-    ensures left { result ≡ false → list_all place_left places.old.items ≡ true → list_all place_left places.new.items ≡ true }
+    ensures left { (n : ℕ) → n ≤ result → list_all place_left (take n places.old.items) ≡ true → list_all place_left (take n places.new.items) ≡ true }
     ensures row { RowEnded ending change.table change.number by places.old.items versions.old.slots places.new.items versions.new.slots }
     ensures room { versions.old.room ≤ versions.new.room }
     ensures len { vec_len places.new ≤ vec_len places.old }
@@ -168,21 +187,21 @@ fn end_change(
     bare
 }
 
-/// Ends the client's changes, the newest first, and answers whether places are there of whose rows
-/// nothing is left.
+/// Ends the client's changes, the newest first, and answers an index below which something is left
+/// of each place's row.
 pub(crate) fn end_all(
     places: &mut Vec<Place>,
     versions: &mut Versions,
     changes: &mut Changes,
     by: ClientNo,
     ending: Ending,
-) -> bool
+) -> usize
     requires order { in_order places.old.items ≡ true }
     requires whole { list_all (is_whole versions.old.slots) places.old.items ≡ true }
     requires logged { list_all (is_logged versions.old.slots) changes.old.listed ≡ true }
     requires owned { list_all (is_owned places.old.items) changes.old.listed ≡ true }
     requires covered { IsCovered by places.old.items changes.old.listed }
-    ensures left { result ≡ false → list_all place_left places.old.items ≡ true → list_all place_left places.new.items ≡ true }
+    ensures left { list_all place_left places.old.items ≡ true → list_all place_left (take result places.new.items) ≡ true }
     ensures ended { EndedBefore ending by [] changes.old.listed places.old.items versions.old.slots places.new.items versions.new.slots }
     ensures others { changes.new.listed ≡ filter (unsettled_others by) changes.old.listed }
     ensures room { versions.old.room ≤ versions.new.room }
@@ -190,9 +209,10 @@ pub(crate) fn end_all(
     ensures capacity { vec_capacity places.old ≤ vec_capacity places.new }
     ensures changes_room { changes.old.room + length changes.old.listed ≤ changes.new.room + length changes.new.listed }
 {
-    let mut bare = false;
+    let mut bare = places.len();
     while let Some(change) = changes.pop(by) {
-        bare |= end_change(places, versions, change, by, ending);
+        let next = end_change(places, versions, change, by, ending);
+        bare = bare.min(next);
     }
     bare
 }

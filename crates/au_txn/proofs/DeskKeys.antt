@@ -17,8 +17,8 @@ use Rattle.au_txn.specs.Rows.{Row, is_in, row_at}
 use Rattle.au_txn.specs.Transactions.{AreFrom, IsKeyLocked, IsRowLocked, MakesKey, is_of_table, laid_over, names_row, names_table, rows_differ}
 use Rattle.au_txn.proofs.KeysStay.{keyed-dropped, keyed-opened, keyed-quiet, keyed-settled, keyed-undone, keyed-written}
 use Rattle.au_txn.proofs.Numbered.{has-contains}
-use Rattle.au_txn.proofs.RowOrder.{row_at-filter, is_row-is, same_table-is, same_table-self, there}
-use Rattle.au_txn.proofs.TableLemmas.{key-named, key_in, named_in, tables_irreflexive}
+use Rattle.au_txn.proofs.RowOrder.{row_at-filter, is_row-is, same_table-is, there}
+use Rattle.au_txn.proofs.TableLemmas.{key-named, key_in, named_in}
 
 -- the table of a name among joined and among filtered tables
 named-append : (t : TableName) (xs ys : List Table) → named_in t (xs ++ ys) ≡ or_else (named_in t xs) (named_in t ys)

@@ -1,5 +1,5 @@
 -- What replay has laid is what the changes that are kept say, but for those that stand in a list.
-use Rattle.std.proofs.Common.{◌≡◌, ◌≢◌, ◌<◌, ◌≤◌, ◌+◌, ◌-◌, ◌∙◌, ◌⊎◌, inl, inr, ℕ, zero, suc, Bool, true, false, cond, List, [], ◌∷◌, ◌++◌, get_or, length, map, take, refl, sym, ap, ap₂, subst, arith, append_assoc, Option, None, Some}
+use Rattle.std.proofs.Common.{◌≡◌, ◌≢◌, ◌≤◌, ◌+◌, ◌-◌, ◌∙◌, ◌⊎◌, inl, inr, ℕ, zero, suc, Bool, true, false, cond, List, [], ◌∷◌, ◌++◌, get_or, length, map, take, refl, sym, ap, ap₂, subst, arith, append_assoc, Option, None, Some}
 use Rattle.std.specs.Prelude.{◌==◌, IsSome}
 use Rattle.std.specs.List.{AllByRecursion}
 use Rattle.std.specs.Option.{option_map}
@@ -13,7 +13,7 @@ use Rattle.au_rows.specs.Held.{Change, Contents, IsOpen, number_of, seen_at}
 use Rattle.au_txn.specs.declared.change.RowChange.{RowChange}
 use Rattle.au_txn.specs.declared.finals.Final.{Final}
 use Rattle.au_txn.specs.Desks.{is_open, laid_but, laid_by, open_in, replayer}
-use Rattle.au_txn.specs.Inside.{Ties, changes_from, committed, final_in, kept_change, laid_in, name_in, open_tables, own_changes, unlisted}
+use Rattle.au_txn.specs.Inside.{Ties, changes_from, committed, final_in, kept_change, laid_in, name_in, open_tables, unlisted}
 use Rattle.au_txn.specs.Logs.{Changes, changes_of}
 use Rattle.au_txn.specs.Rows.{Row, row_at, with_content}
 use Rattle.au_txn.specs.Transactions.{AreFrom, IsRowLocked, laid_over, made}

@@ -1,22 +1,15 @@
-use Rattle.std.proofs.Common.{◌≡◌, ◌∙◌, ◌||◌, Bool, true, false, ◌∷◌, sym, refl, arith}
+use Rattle.std.proofs.Common.{◌≡◌, ◌∙◌, true, ◌∷◌, sym, refl, arith}
 use Rattle.std.specs.List.{list_all}
-use Rattle.au_rows.specs.Kept.{is_owned, is_logged}
+use Rattle.au_rows.specs.Kept.{is_owned, is_logged, place_left}
 use Rattle.au_rows.proofs.AllLemmas.{ended-none, ended-step}
 use Rattle.au_rows.proofs.EndLemmas.{loose-frees, kept-is-loose}
+use Rattle.au_rows.proofs.FrontLemmas.{all-front, front-less}
 use Rattle.au_rows.proofs.TakenLemmas.{all-others, ended-all, taken-all, taken-first, taken-length, taken-others}
 use Rattle.au_rows.proofs.ends.end_all.Goals as goal
 
-none-before : (a b : Bool) → (a || b) ≡ false → a ≡ false
-none-before true b h = h
-none-before false b h = refl
-
-none-of : (a b : Bool) → (a || b) ≡ false → b ≡ false
-none-of true b h = absurd (cc)
-none-of false b h = h
-
 pub loop-change-init : goal.loop-change-init
 loop-change-init c = record {
-  left = λ bare h. h;
+  left = λ h. all-front place_left c.args.places.now.items _ h;
   ended = ended-none c.args.ending c.args.by c.args.changes.now.listed c.args.places.now.items c.args.versions.now.slots c.requires.order c.requires.whole c.requires.covered;
   others = refl;
   logged = c.requires.logged;
@@ -27,8 +20,8 @@ loop-change-init c = record {
   changes_room = omega arith;
 }
 
-pub end_change-bare-requires-clause-loose : goal.end_change-bare-requires-clause-loose
-end_change-bare-requires-clause-loose c =
+pub end_change-next-requires-clause-loose : goal.end_change-next-requires-clause-loose
+end_change-next-requires-clause-loose c =
     let change = c.in-Some.change in
     let before = c.args.versions.now.slots in
     let left = c.pop.new.self.listed in
@@ -57,10 +50,10 @@ loop-change-preserved c =
     let len = i.len in
     let capacity = i.capacity in
     record {
-      left = λ bare h. c.end_change-bare.ensures.left (none-of c.loop-change.bare c.end_change-bare.result bare) (i.left (none-before c.loop-change.bare c.end_change-bare.result bare) h);
-      ended = ended-step c.args.ending c.args.by change left c.args.changes.now.listed places c.loop-change.places.items c.end_change-bare.new.places.items before c.loop-change.versions.slots c.end_change-bare.new.versions.slots
+      left = λ h. c.end_change-next.ensures.left c.min-bare.result (omega arith) (front-less place_left c.loop-change.places.items c.min-bare.result c.loop-change.bare (omega arith) (i.left h));
+      ended = ended-step c.args.ending c.args.by change left c.args.changes.now.listed places c.loop-change.places.items c.end_change-next.new.places.items before c.loop-change.versions.slots c.end_change-next.new.versions.slots
           (taken-first c.args.by change old left taken c.args.ending c.args.changes.now.listed places c.loop-change.places.items before c.loop-change.versions.slots i.ended)
-          first taken.own c.end_change-bare.ensures.gone c.end_change-bare.ensures.row;
+          first taken.own c.end_change-next.ensures.gone c.end_change-next.ensures.row;
       others = taken-others c.args.by change old left taken ∙ i.others;
       logged = logged;
       owned = owned;

@@ -1,13 +1,7 @@
-use Rattle.std.proofs.Common.{◌≡◌, ◌∙◌, ◌∷◌, [], Bool, not, refl, sym, true, false}
+use Rattle.std.proofs.Common.{◌≡◌, ◌∙◌, sym, true, false}
 use Rattle.au_rows.specs.Held.{is_by}
-use Rattle.au_rows.specs.Kept.{place_at, place_ended, place_from, place_left}
-use Rattle.au_rows.proofs.EditLemmas.{all_edited}
-use Rattle.au_rows.proofs.EndLemmas.{alone, ended-row, kept-row}
+use Rattle.au_rows.proofs.EndLemmas.{ended-row, kept-row}
 use Rattle.au_rows.proofs.ends.end_if_own.Goals as goal
-
-unbare : (b : Bool) → not b ≡ false → b ≡ true
-unbare true h = refl
-unbare false h = absurd (cc)
 
 pub returns-then-is_by-clause-row : goal.returns-then-is_by-clause-row
 returns-then-is_by-clause-row c =
@@ -19,9 +13,3 @@ returns-else-is_by-clause-row c =
     let other : is_by c.args.by c.args.place.owner ≡ false = sym c.is_by.ensures ∙ c.if-is_by.false in
     kept-row _ c.args.places.now.items c.args.place.table c.args.place.number c.args.ending c.args.by c.requires.order c.requires.whole
     (rw c.requires.there other)
-
-pub returns-then-is_by-clause-left : goal.returns-then-is_by-clause-left
-returns-then-is_by-clause-left c = λ bare left.
-    rw c.end_place.ensures.items
-    (all_edited place_left (place_from c.args.place.table c.args.place.number) (place_at c.args.place.table c.args.place.number) c.args.places.now.items (place_ended c.args.ending c.args.place ∷ []) left
-    (alone place_left (place_ended c.args.ending c.args.place) (unbare (place_left (place_ended c.args.ending c.args.place)) (sym c.end_place.ensures.bare ∙ bare))))

@@ -1,4 +1,4 @@
-use Rattle.std.proofs.Common.{◌≡◌, ◌∙◌, ◌++◌, [], List, sym, subst, ap, map}
+use Rattle.std.proofs.Common.{◌≡◌, ◌∙◌, ◌++◌, List, sym, subst, ap, map}
 use Rattle.std.specs.List.{Contains}
 use Rattle.au_txn.specs.declared.change.RowChange.{RowChange}
 use Rattle.au_txn.specs.declared.row_name.RowName.{RowName}
