@@ -157,7 +157,7 @@ is_fga table policy other = same_table other.name.table table && bytes_eq other.
 abbrev pub fga_after : (List ℕ → Expr) → Change → List FgaPolicy → List FgaPolicy
 fga_after tree (Fga table policy condition columns all types enabled) policies =
     put_in_order (λ other. by_fields (fga_fields other.name.table other.name.policy) (fga_fields table policy))
-        (record { name = record { table = table; policy = policy }; condition = read_as tree condition; columns = columns; all = all; types = types; enabled = enabled }) policies
+    (record { name = record { table = table; policy = policy }; condition = read_as tree condition; columns = columns; all = all; types = types; enabled = enabled }) policies
 fga_after tree (FgaGone table policy) policies = without (is_fga table policy) policies
 fga_after tree (TableGone table) policies = without (λ other. same_table other.name.table table) policies
 fga_after tree _ policies = policies

@@ -1,4 +1,6 @@
 pub mod Changing
 pub mod Demand
 pub mod Enabling
+pub mod Lawful
 pub mod Matching
+pub mod Replaying

@@ -5,6 +5,7 @@ mod Exact
 mod Loops
 mod Names
 mod PartLemmas
+mod Pieces
 mod Table
 mod TableRows
 mod Whole

@@ -205,10 +205,7 @@ fn read_granted(alloc: Global, tag: u8, bytes: &[u8]) -> Result<(Change, &[u8]),
 
 /// An object privilege: the grantee, the table and the action.
 #[tactic(auto, unfolding(crate::specs::Changes::object_right))]
-fn read_right(
-    alloc: Global,
-    bytes: &[u8],
-) -> Result<((Name, TableName, Action), &[u8]), ReadError>
+fn read_right(alloc: Global, bytes: &[u8]) -> Result<((Name, TableName, Action), &[u8]), ReadError>
     ensures { Gives (λ x. ((x.0.0, (x.0.1, x.0.2)), x.1.now)) result (object_right.first bytes.now) }
 {
     let (grantee, rest) = Name::read(alloc, bytes)?;

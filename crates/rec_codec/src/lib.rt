@@ -7,6 +7,7 @@ mod enabled;
 mod fine_grained;
 mod frame;
 mod frames;
+mod image_writer;
 mod lists;
 mod numbers;
 mod parts;
@@ -21,3 +22,4 @@ mod tables;
 
 pub use frame::Frame;
 pub use frames::{one_front, one_reading, read, write, write_framed};
+pub use image_writer::ImageWriter;

@@ -7,7 +7,9 @@ ghost use Rattle.rec_codec.specs.Changes.{object_action};
 ghost use Rattle.rec_codec.specs.Tables.{cell_behind, cell_text, cells, columns, integer, moment, places};
 
 use crate::lists::{read_list_u8, write_list_u8};
-use crate::numbers::{read_run, read_u8, read_u16, read_u32, read_u64, write_u8, write_u16, write_u32, write_u64};
+use crate::numbers::{
+    read_run, read_u8, read_u16, read_u32, read_u64, write_u8, write_u16, write_u32, write_u64,
+};
 use crate::parts::text_of;
 use crate::read_error::ReadError;
 use crate::spelled::Spelled;
@@ -78,10 +80,7 @@ pub(crate) fn write_columns(values: &List<Column>, out: &mut Vec<u8>) -> Result<
 
 /// The columns of a table.
 #[tactic(auto, unfolding(crate::specs::Tables::columns))]
-pub(crate) fn read_columns(
-    alloc: Global,
-    bytes: &[u8],
-) -> Result<(List<Column>, &[u8]), ReadError>
+pub(crate) fn read_columns(alloc: Global, bytes: &[u8]) -> Result<(List<Column>, &[u8]), ReadError>
     ensures { Gives (λ x. (x.0, x.1.now)) result (columns.first bytes.now) }
 {
     read_list_u8::<Column>(alloc, bytes)
@@ -288,10 +287,7 @@ impl Spelled for RowNo {
 
 /// SELECT, INSERT, UPDATE or DELETE.
 #[tactic(auto, unfolding(crate::specs::Changes::object_action))]
-pub(crate) fn read_object_action(
-    alloc: Global,
-    bytes: &[u8],
-) -> Result<(Action, &[u8]), ReadError>
+pub(crate) fn read_object_action(alloc: Global, bytes: &[u8]) -> Result<(Action, &[u8]), ReadError>
     ensures { Gives (λ x. (x.0, x.1.now)) result (object_action.first bytes.now) }
 {
     let (action, rest) = Action::read(alloc, bytes)?;
