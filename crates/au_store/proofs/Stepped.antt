@@ -20,7 +20,7 @@ use Rattle.rec_codec.specs.Frames.{framed}
 use Rattle.au_store.specs.Recovery.{RecoversTo, RecoversToEither}
 use Rattle.au_store.specs.Doubts.{IsAfter}
 use Rattle.au_store.specs.Stored.{IsKeptOn}
-use Rattle.au_store.specs.Steps.{EventWrites, Exceeds, EventCosts, FitsUnder, IsMoved, IsMovedTo, IsWithin, MakesBy, StepCosts, StepLeaves, StepMoves, StepsBy, append_cost, growth, step_cost, written_length}
+use Rattle.au_store.specs.Steps.{EventWrites, Exceeds, EventCosts, FitsUnder, HasFrame, IsMoved, IsMovedTo, IsWithin, MakesBy, StepCosts, StepLeaves, StepMoves, StepsBy, append_cost, growth, step_cost, written_length}
 
 -- the state and the reply
 pub steps_by : (m n : State) (event : Event) (prepared : Prepared) (answer : Said) → Step m event prepared.reply (after prepared m) → MakesBy prepared m answer n → StepsBy m event answer n
@@ -57,6 +57,10 @@ exceeds_frame m event n seat needed limit bytes (Some f) is writes full =
       exceeds = full.exceeds;
     }
 
+some_frame : (m : State) (event : Event) (n : State) (bytes : List ℕ) (frame : Option Frame) → Some bytes ≡ framed_option frame → EventWrites m event n frame → HasFrame m event
+some_frame m event n bytes None is writes = absurd (let none : Some bytes ≡ None = is in cc)
+some_frame m event n bytes (Some f) is writes = (n, f, writes)
+
 module _ (m : State) (event : Event) (prepared : Prepared) (w : Writes m event.client event.ask (stamp_of m event.reading) (after prepared m) prepared.framed) where
   -- where the journal stands then
   pub step_moves : (n : State) (answer : Said) (old new : Seat) → MakesBy prepared m answer n → ((reply : Reply) → answer ≡ said.Replied reply → IsWithin old prepared.framed)
@@ -81,6 +85,10 @@ module _ (m : State) (event : Event) (prepared : Prepared) (w : Writes m event.c
   step_costs n said.Disk before now made cost full = inr (event_costs before now cost)
   step_costs n (said.Full needed limit) before now made cost full = full needed limit refl
   step_costs n said.Memory before now made cost full = absurd made
+
+  -- where there is something to write
+  pub frame_there : (bytes : List ℕ) × (prepared.framed ≡ Some bytes) → HasFrame m event
+  frame_there some = some_frame m event (after prepared m) some.0 w.frame (sym some.1 ∙ w.bytes_are) w.of_step
 
   -- where it is too long
   pub exceeds_by : (seat : Seat) (needed limit : ℕ) → (bytes : List ℕ) × (prepared.framed ≡ Some bytes) × IsFullAt seat false (length bytes) needed limit → Exceeds m event seat needed limit

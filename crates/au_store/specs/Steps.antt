@@ -84,9 +84,15 @@ StepLeaves m event doubted all =
 abbrev pub StepDoubts : State → Event → Meaning → Seat → Type 0
 StepDoubts m event new seat = (kept : Kept) × IsAfter m event kept × IsStoodOn m.kept kept new seat
 
--- the step was tried: the clock was read, once nothing was in doubt; where the disk failed, this step is in doubt
+-- the event has a frame to write
+abbrev pub HasFrame : State → Event → Type 0
+HasFrame m event = (n : State) × (frame : Frame) × EventWrites m event n (Some frame)
+
+-- the step was tried: the clock was read, once nothing was in doubt; where the disk failed, there was a frame to write, and
+-- this step is in doubt
 pub record IsTried {D C : Type 0} (told : Type 0) (meaning : D → Meaning) (ticking : C → Option Ticking) (event : Event) (old new : Stored D C) (answer : Said) : Type 0 where
   pub read : Reads (ticking old.clock) (ticking new.clock) new.reading
+  pub wrote : answer ≡ said.Disk → HasFrame old.state event
   pub doubts : told → answer ≡ said.Disk → StepDoubts old.state event (meaning new.disk) new.seat
 
 -- an earlier step is in doubt, and its mend failed: the clock wasn't read, nothing but that mend was written, the same step
@@ -94,6 +100,7 @@ pub record IsTried {D C : Type 0} (told : Type 0) (meaning : D → Meaning) (tic
 pub record IsUnmended {D C : Type 0} (told : Type 0) (meaning : D → Meaning) (old new : Stored D C) (answer : Said) : Type 0 where
   pub failed : answer ≡ said.Disk
   pub stood : old.seat.doubt ≢ Settled
+  pub seat : new.seat ≡ old.seat
   pub clock : new.clock ≡ old.clock
   pub reading : new.reading ≡ old.reading
   pub cost : (meaning new.disk).written ≤ (meaning old.disk).written + 1

@@ -23,6 +23,7 @@ use au_journal::{Appended, Doubt, Mended};
 use std::alloc::Global;
 
 impl<D: Disk, C: Clock> Store<D, C> {
+    ghost use Rattle.au_store.specs.History.{HistoryGoesOn};
     ghost use Rattle.au_store.specs.Recovery.{RecoversToEither};
     ghost use Rattle.au_store.specs.Steps.{CarriesTo, Exceeds, IsMoved, IsTried, IsUnmended, IsWithin, MakesBy, StepCause, StepCosts, StepLeaves, StepMoves, StepsBy, append_cost, event_at, growth};
     ghost use Rattle.au_store.specs.Doubts.{IsLeftBy, IsStoodOn};
@@ -39,8 +40,10 @@ impl<D: Disk, C: Clock> Store<D, C> {
         ensures step { StepsBy self.old.state (event_at client ask.now self.new.reading) result self.new.state }
         ensures moves { StepMoves self.old.state (event_at client ask.now self.new.reading) self.new.state result self.old.seat self.new.seat }
         ensures full { (needed limit : ℕ) → result ≡ Said.Full needed limit → Exceeds self.old.state (event_at client ask.now self.new.reading) self.old.seat needed limit }
+        ensures history { HistoryGoesOn D.faults client ask.now self.old self.new result }
         ensures tries { IsTried D.told D.meaning C.ticking (event_at client ask.now self.new.reading) self.old self.new result ⊎ IsUnmended D.told D.meaning self.old self.new result }
         ensures settled { result ≢ Said.Disk → self.new.seat.doubt ≡ Doubt.Settled }
+        ensures in_doubt { result ≡ Said.Disk → self.new.seat.doubt ≢ Doubt.Settled }
         ensures kept { D.told → result ≢ Said.Disk → IsKeptOn self.new.state.kept (D.meaning self.new.disk) self.new.seat }
         ensures any_moment { D.told → (doubted : Kept) → IsStoodOn self.old.state.kept doubted (D.meaning self.old.disk) self.old.seat
             → LeavesSince (StepLeaves self.old.state (event_at client ask.now self.new.reading) doubted) (D.meaning self.old.disk) (D.meaning self.new.disk) }
@@ -101,7 +104,7 @@ impl<D: Disk, C: Clock> Store<D, C> {
         requires fits { Fits prepared (reserved_of self.old) }
         requires carries { CarriesTo self.old.state.kept prepared.framed (after prepared self.old.state).kept }
         requires ends { EndsWell (after prepared self.old.state).kept }
-        requires left { IsLeftBy self.old.state.kept (after prepared self.old.state).kept }
+        requires left { IsLeftBy self.old.state (after prepared self.old.state).kept }
         ensures made { MakesBy prepared self.old.state result self.new.state }
         ensures within { (reply : AnyReply) → result ≡ Said.Replied reply → IsWithin self.old.seat prepared.framed }
         ensures full { (needed limit : ℕ) → result ≡ Said.Full needed limit → (bytes : List ℕ) × (prepared.framed ≡ Some bytes) × IsFullAt self.old.seat false (length bytes) needed limit }
@@ -109,6 +112,8 @@ impl<D: Disk, C: Clock> Store<D, C> {
         ensures moved { IsMoved result (growth prepared.framed) self.old.seat self.new.seat }
         ensures kept { D.told → result ≢ Said.Disk → IsKeptOn self.new.state.kept (D.meaning self.new.disk) self.new.seat }
         ensures settled { result ≢ Said.Disk → self.new.seat.doubt ≡ Doubt.Settled }
+        ensures in_doubt { result ≡ Said.Disk → self.new.seat.doubt ≢ Doubt.Settled }
+        ensures wrote { result ≡ Said.Disk → (bytes : List ℕ) × (prepared.framed ≡ Some bytes) }
         ensures doubted { D.told → result ≡ Said.Disk → IsStoodOn self.old.state.kept (after prepared self.old.state).kept (D.meaning self.new.disk) self.new.seat }
         ensures any_moment { D.told → LeavesSince (RecoversToEither self.old.state.kept (after prepared self.old.state).kept) (D.meaning self.old.disk) (D.meaning self.new.disk) }
         ensures same { (self.new.clock ≡ self.old.clock) × (self.new.reading ≡ self.old.reading) }

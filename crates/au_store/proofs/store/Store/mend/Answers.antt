@@ -11,7 +11,7 @@ invariant_of-self g c =
     let new = c.mend.new.self in
     let kept = c.self.inside.engine.state.kept in
     let sound = c.self.invariant in
-    mend_sound g.D.Disk.told (g.D.Disk.meaning j.disk) (g.D.Disk.meaning new.disk) j.seat new.seat kept c.mend.result sound c.mend.ensures.mends c.mend.ensures.rests
+    mend_sound g.D.Disk.told (g.D.Disk.meaning j.disk) (g.D.Disk.meaning new.disk) j.seat new.seat c.self.inside.engine.state c.mend.result sound c.mend.ensures.mends c.mend.ensures.rests
     (λ told done. mended_kept (ReplayedTo kept) (ReplayedTo (sound.stands told).doubted) j.seat new.seat sound.gated (g.D.Disk.meaning j.disk) (g.D.Disk.meaning new.disk)
     (c.mend.ensures.mends done) (sound.stands told).stood (λ bodies others doubted. c.mend.ensures.mended told bodies others doubted done))
     (λ told doubted stands failed. still_stands (ReplayedTo kept) (ReplayedTo doubted) j.seat new.seat sound.gated g.D.Disk.meaning j.disk new.disk c.mend.ensures.still
