@@ -16,8 +16,8 @@ use Rattle.au_engine.specs.History.{AreSteps, Entry}
 use Rattle.au_engine.specs.State.{State}
 use Rattle.au_store.specs.Recovery.{RecoversTo, RecoversToEither, ReplayedTo}
 use Rattle.au_store.specs.Standing.{Holds, IsInDoubt}
-use Rattle.au_store.specs.Doubts.{IsAfter, IsStoodOn}
-use Rattle.au_store.specs.Steps.{HasFrame, StepLeaves, event_at}
+use Rattle.au_store.specs.Doubts.{HasFrame, IsAfter, IsStoodOn}
+use Rattle.au_store.specs.Steps.{StepLeaves, event_at}
 use Rattle.au_store.specs.Stored.{IsKeptOn}
 use Rattle.au_main.specs.Answers.{Answer, AreUnmended, Made, Unmended, said_of, steps_of}
 use Rattle.au_main.specs.OnDisk.{IsTried, CameBy, RecoversAlong, IsUncertain, RecoversAfter, StandsFor, IsOnDisk, MakesOnDisk, StepsOnDisk}

@@ -58,7 +58,7 @@ answers_by means s t client ask said first step history (inl tried) settled kept
     state = step;
     history = history;
     doubt = settled;
-    on_disk = λ told. record { settled = settled; kept = kept told; wrote = tried.wrote; doubts = tried.doubts told; any_moment = leaves told };
+    on_disk = λ told. record { settled = settled; kept = kept told; wrote = λ is. let some = tried.wrote is in (some.0, some.1, some.2); doubts = tried.doubts told; any_moment = leaves told };
     time = time;
   },
   refl,

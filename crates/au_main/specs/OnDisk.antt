@@ -14,8 +14,8 @@ use Rattle.au_engine.specs.History.{AreSteps}
 use Rattle.au_engine.specs.State.{State}
 use Rattle.au_engine.specs.Step.{Event}
 use Rattle.au_store.specs.Recovery.{RecoversTo, RecoversToEither}
-use Rattle.au_store.specs.Doubts.{IsAfter, IsStoodOn}
-use Rattle.au_store.specs.Steps.{HasFrame, StepDoubts, StepLeaves, event_at}
+use Rattle.au_store.specs.Doubts.{HasFrame, IsAfter, IsStoodOn}
+use Rattle.au_store.specs.Steps.{StepDoubts, StepLeaves, event_at}
 use Rattle.au_store.specs.Stored.{IsKeptOn}
 use Rattle.au_main.specs.Answers.{Answer, AreUnmended, Made, Unmended, steps_of}
 

@@ -166,10 +166,10 @@ pub record HasRun {D C : Type 0} (means : Means D C) (status : Status) (left now
   pub any_moment : means.told → NoneIsBare (means.meaning disk) → LeavesSince (RunLeaves (means.meaning disk) opened.reading opened.state answers) (means.meaning disk) (means.meaning last)
   pub at_last : means.told → Leaves (RecoversAfter closed.state answers) (means.meaning last)
 
--- no store was opened, and why; the clock was read once at most, and a crash leaves what an opening at its reading does
+-- no store was opened, and why; and what that left of the clock and the disk
 pub record IsUnopened {D C : Type 0} (means : Means D C) (status : Status) (disk last : D) (clock clocked : C) : Type 0 where
   pub why : OpenFault
   pub status_is : status ≡ status_of why
   pub says : means.told → OpenSays (means.meaning disk).reads why
-  pub in_vain : OpensInVain means.told means.meaning means.ticking disk last clock clocked
+  pub in_vain : OpensInVain means.told means.meaning means.ticking disk last clock clocked why
   pub cause : OpenCause why (means.faults disk) (means.faults last)

@@ -9,7 +9,7 @@ use Rattle.au_journal.specs.declared.doubt.Doubt.TheVariants.{Settled, Body, Gat
 use Rattle.au_journal.specs.declared.seat.Seat.{Seat}
 use Rattle.au_journal.specs.Frames.{front, IsLimit, AreSome}
 use Rattle.au_journal.specs.Images.{Closed, EndsIn, In, MayStandFor, StandsGated}
-use Rattle.au_journal.specs.Seats.{AppendDoubts, IsIn, IsSettled, IsDoubted, MayLeave, advanced, bare_after, mend_bytes, mended, there_of}
+use Rattle.au_journal.specs.Seats.{AppendDoubts, IsIn, IsSettled, IsDoubted, MayLeave, advanced, bare_after, mended, there_of}
 use Rattle.au_store.specs.Standing.{Holds, HoldsEither, IsKept, IsInDoubt, StandsOn}
 
 -- a closed gate behind the bodies
@@ -80,15 +80,6 @@ gated_after Gate bare is = is
 gated_after Edge bare is = refl
 gated_after Other bare is = is
 gated_after Head bare is = is
-
--- and writes one byte at most
-pub mend_writes : (doubt : Doubt) → mend_bytes doubt ≤ 1
-mend_writes Settled = omega arith
-mend_writes Body = omega arith
-mend_writes Gate = omega arith
-mend_writes Edge = omega arith
-mend_writes Other = omega arith
-mend_writes Head = omega arith
 
 module _ (P Q : List (List ℕ) → Type 0) (old new : Seat) (gated : old.bare ≡ false) where
   -- where no body is in doubt

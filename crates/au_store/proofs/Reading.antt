@@ -193,14 +193,27 @@ open_leaves old mid new kept reading stays time recovers leaves =
     both_calls (OpenLeaves old reading) old mid new stays.time time (λ c since. inl (stays.images c since))
     (weaker_since (RecoversToEither kept (start kept reading).kept) (OpenLeaves old reading) mid new (λ c either. inr (kept, recovers, either)) leaves)
 
--- where no store was opened over what was replayed
-pub opens_in_vain : {D C : Type 0} (told : Type 0) (meaning : D → Meaning) (ticking : C → Option Ticking) (disk mid last : D) (clock clocked : C) (kept : Kept) (gated : Type 0)
-    → Stays (meaning disk) (meaning mid) → Passes (meaning mid) (meaning last) → (told → ReadsAs kept (meaning disk).reads) → (told → NoneIsBare (meaning disk) → gated)
-    → BeginsInVain told meaning ticking kept gated mid last clock clocked → OpensInVain told meaning ticking disk last clock clocked
-opens_in_vain told meaning ticking disk mid last clock clocked kept gated stays time recovers gates (inl none) =
-    inl (none.0, subst (λ (d : _). LeavesSince (meaning disk).images (meaning disk) (meaning d)) (sym none.1) stays.images)
-opens_in_vain told meaning ticking disk mid last clock clocked kept gated stays time recovers gates (inr tried) =
-    inr (tried.0, tried.1, λ tells none. open_leaves (meaning disk) (meaning mid) (meaning last) kept tried.0 stays time (recovers tells) (tried.2 tells (gates tells none)))
+-- where no store was opened, before the clock was read
+pub unread_in_vain : {D C : Type 0} (told : Type 0) (meaning : D → Meaning) (ticking : C → Option Ticking) (disk last : D) (clock clocked : C) (why : OpenFault)
+    → clocked ≡ clock → Stays (meaning disk) (meaning last) → OpensInVain told meaning ticking disk last clock clocked why
+unread_in_vain told meaning ticking disk last clock clocked fault.Disk same stays = inl (same, stays)
+unread_in_vain told meaning ticking disk last clock clocked fault.Unformatted same stays = (same, stays)
+unread_in_vain told meaning ticking disk last clock clocked (fault.Damaged area at) same stays = (same, stays)
+unread_in_vain told meaning ticking disk last clock clocked fault.Worn same stays = (same, stays)
+unread_in_vain told meaning ticking disk last clock clocked fault.Memory same stays = (inl same, stays)
+
+-- and over what was replayed
+module _ {D C : Type 0} (told : Type 0) (meaning : D → Meaning) (ticking : C → Option Ticking) (disk mid last : D) (clock clocked : C) (kept : Kept) (gated : Type 0)
+    (stays : Stays (meaning disk) (meaning mid)) (time : Passes (meaning mid) (meaning last)) (recovers : told → ReadsAs kept (meaning disk).reads) (gates : told → NoneIsBare (meaning disk) → gated) where
+  stays_to : last ≡ mid → Stays (meaning disk) (meaning last)
+  stays_to same = subst (λ (d : D). Stays (meaning disk) (meaning d)) (sym same) stays
+
+  pub opens_in_vain : (why : OpenFault) → BeginsInVain told meaning ticking kept gated mid last clock clocked why → OpensInVain told meaning ticking disk last clock clocked why
+  opens_in_vain fault.Disk vain = inr (vain.0, vain.1, λ tells none. open_leaves (meaning disk) (meaning mid) (meaning last) kept vain.0 stays time (recovers tells) (vain.2 tells (gates tells none)))
+  opens_in_vain fault.Unformatted vain = (vain.0, stays_to vain.1)
+  opens_in_vain (fault.Damaged area at) vain = (vain.0, stays_to vain.1)
+  opens_in_vain fault.Worn vain = (vain.0, stays_to vain.1)
+  opens_in_vain fault.Memory vain = (vain.0, stays_to vain.1)
 
 -- no call of the disk changes nothing
 pub stays_same : (m : Meaning) → CountsNow m → OnlyNow m → Stays m m

@@ -51,6 +51,6 @@ abandoned_sound told m seat state client sound = record {
         doubted = was.doubted;
         stood = was.stood;
         left = λ unsettled. let by = was.left unsettled in
-            record { from = by.from; event = by.event; gone = client ∷ by.gone; since = ap (abandoned client) by.since; is_after = by.is_after };
+            record { from = by.from; event = by.event; gone = client ∷ by.gone; since = ap (abandoned client) by.since; has_frame = by.has_frame; is_after = by.is_after };
       };
 }

@@ -15,7 +15,8 @@ use Rattle.au_store.specs.declared.deed.Deed.{Deed}
 use Rattle.au_store.specs.declared.deed.Deed.TheVariants as deed
 use Rattle.au_store.specs.declared.entry.Entry.{Entry}
 use Rattle.au_store.specs.declared.entry.Entry.TheVariants.{Opened, Stepped, Abandoned, Faulted, Filled}
-use Rattle.au_store.specs.Steps.{EventWrites, event_at, written_length}
+use Rattle.au_store.specs.Doubts.{EventWrites}
+use Rattle.au_store.specs.Steps.{event_at, written_length}
 use Rattle.au_store.specs.Stored.{Stored}
 
 -- where a history leads: the state, the used length, the limit, and the count of faults that was named last

@@ -4,7 +4,7 @@ ghost use Rattle.au_io.specs.Disk.{Stays};
 ghost use Rattle.au_io.specs.Moments.{Leaves, LeavesSince};
 ghost use Rattle.au_journal.specs.Creation.{IsSelectedFormatted, OthersAreBlank};
 ghost use Rattle.au_journal.specs.Frames.{IsLimit};
-ghost use Rattle.au_journal.specs.Walk.{IsUnformatted};
+ghost use Rattle.au_journal.specs.Walk.{IsStill, IsUnformatted};
 ghost use Rattle.au_engine.specs.Image.{image_of};
 ghost use Rattle.au_engine.specs.Opening.{opening};
 ghost use Rattle.rec_codec.specs.Frames.{IsSpellable, framed};
@@ -27,6 +27,7 @@ impl<D: Disk, C: Clock> Store<D, C> {
         ensures formatted { D.told → result ≡ Created.Formatted → IsSelectedFormatted (D.meaning disk.old).reads }
         ensures unformatted { D.told → result ≡ Created.Done → IsUnformatted (D.meaning disk.old).reads }
         ensures untouched { result ≡ Created.Formatted → Stays (D.meaning disk.old) (D.meaning disk.new) }
+        ensures synced { result ≡ Created.Formatted → IsStill (D.meaning disk.new) }
         ensures uncalled { result ≡ Created.Memory → disk.new ≡ disk.old }
         ensures done { D.told → result ≡ Created.Done → Leaves (IsMade limit (opening sys_password.now)) (D.meaning disk.new) }
         ensures any_moment { D.told → Leaves OthersAreBlank (D.meaning disk.old)

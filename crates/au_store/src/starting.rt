@@ -26,7 +26,6 @@ use rec_codec::write_framed;
 use std::alloc::Global;
 
 impl<D: Disk, C: Clock> Store<D, C> {
-    ghost use Rattle.au_store.specs.History.{StandsFor, first_of};
     ghost use Rattle.au_store.specs.Starting.{BeginsInVain, IsOpened, IsSeated, NoneIsBare, OpenCause, OpenCosts, OpenLeaves, OpenSays, OpensInVain, StartSays};
 
     /// Opens the store that the disk recovers to: syncs the three areas, replays what stands in the
@@ -37,9 +36,8 @@ impl<D: Disk, C: Clock> Store<D, C> {
         ensures seated { D.told → IfOk result (λ store. IsSeated (D.meaning disk).reads store.reading store.seat) }
         ensures kept { D.told → IfOk result (λ store. IsKeptOn store.state.kept (D.meaning store.disk) store.seat) }
         ensures settled { IfOk result (λ store. store.seat.doubt ≡ Doubt.Settled) }
-        ensures history { IfOk result (λ store. StandsFor D.faults store (first_of D.faults store)) }
         ensures read { IfOk result (λ store. Reads (C.ticking clock) (C.ticking store.clock) store.reading) }
-        ensures in_vain { IfErr result (λ failed. OpensInVain D.told D.meaning C.ticking disk failed.0 clock failed.1) }
+        ensures in_vain { IfErr result (λ failed. OpensInVain D.told D.meaning C.ticking disk failed.0 clock failed.1 failed.2) }
         ensures why { D.told → IfErr result (λ failed. OpenSays (D.meaning disk).reads failed.2) }
         ensures any_moment { D.told → NoneIsBare (D.meaning disk)
             → IfOk result (λ store. LeavesSince (OpenLeaves (D.meaning disk) store.reading) (D.meaning disk) (D.meaning store.disk)) }
@@ -74,7 +72,7 @@ impl<D: Disk, C: Clock> Store<D, C> {
         ensures kept { D.told → IfOk result (λ store. IsKeptOn store.state.kept (D.meaning store.disk) store.seat) }
         ensures settled { IfOk result (λ store. store.seat.doubt ≡ Doubt.Settled) }
         ensures clock { IfOk result (λ store. Reads (C.ticking clock) (C.ticking store.clock) store.reading) }
-        ensures in_vain { IfErr result (λ failed. BeginsInVain D.told D.meaning C.ticking engine.state.kept ((seat_of journal).bare ≡ false) (disk_of journal) failed.0 clock failed.1) }
+        ensures in_vain { IfErr result (λ failed. BeginsInVain D.told D.meaning C.ticking engine.state.kept ((seat_of journal).bare ≡ false) (disk_of journal) failed.0 clock failed.1 failed.2) }
         ensures why { IfErr result (λ failed. StartSays engine.state.kept failed.2) }
         ensures any_moment { D.told → (seat_of journal).bare ≡ false
             → IfOk result (λ store. LeavesSince (RecoversToEither engine.state.kept (start engine.state.kept store.reading).kept) (D.meaning (disk_of journal)) (D.meaning store.disk)) }

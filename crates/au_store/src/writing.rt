@@ -38,6 +38,7 @@ pub(crate) fn write<D: Disk>(journal: &mut Journal<D>, prepared: &Prepared) -> A
     ensures ended { (seat_of journal.new).ended ≡ true }
     ensures gated { (seat_of journal.new).bare ≡ false }
     ensures wrote { result ≡ Appended.Disk → (bytes : List ℕ) × (prepared.now.framed ≡ Some bytes) }
+    ensures fits { result ≡ Appended.Disk → IsWithin (seat_of journal.old) prepared.now.framed }
     ensures in_doubt { result ≡ Appended.Disk → (seat_of journal.new).doubt ≢ Doubt.Settled }
     ensures settled { result ≡ Appended.Done → (seat_of journal.new).doubt ≡ Doubt.Settled }
     ensures time { Passes (D.meaning (disk_of journal.old)) (D.meaning (disk_of journal.new)) }

@@ -63,3 +63,11 @@ returns-in-Some-clause-wrote g c = λ failed. (c.in-Some.framed.now, sym c.in-So
 
 pub returns-in-Some-clause-in_doubt : goal.returns-in-Some-clause-in_doubt
 returns-in-Some-clause-in_doubt g c = λ failed. append_unsettled (seat_of c.append.new.self).doubt (c.append.ensures.in_doubt failed)
+
+pub returns-in-Some-clause-fits : goal.returns-in-Some-clause-fits
+returns-in-Some-clause-fits g c = λ failed.
+    let old = seat_of c.args.journal.now in
+    let bytes = c.in-Some.framed.now in
+    within_limit old c.args.prepared.now.framed bytes c.in-Some.ensures (λ over.
+    let is = (c.append.ensures.full (needed_of old (length bytes)) old.limit).1 (record { bound = refl; needed_is = refl; limit_is = refl; exceeds = over }) in
+    let no : answer.Disk ≡ answer.Full (needed_of old (length bytes)) old.limit = sym failed ∙ is in cc)

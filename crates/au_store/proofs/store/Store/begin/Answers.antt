@@ -133,22 +133,13 @@ returns-in-Err-write_start-clause-cause g c =
     rw c.shut-in-Err-write_start.ensures (cause.never_falls, cause.failed refl)
 
 pub returns-then-instance-ge-INSTANCES-clause-in_vain : goal.returns-then-instance-ge-INSTANCES-clause-in_vain
-returns-then-instance-ge-INSTANCES-clause-in_vain g c = inl (refl, c.shut.ensures)
+returns-then-instance-ge-INSTANCES-clause-in_vain g c = (refl, c.shut.ensures)
 
 pub returns-in-Err-clause-in_vain : goal.returns-in-Err-clause-in_vain
-returns-in-Err-clause-in_vain g c = inr (
-  c.now-reading.result,
-  c.now-reading.ensures,
-  λ told gated.
-      let laws = g.met.D.Disk g.world.𝓛 g.world.𝓜 g.world.𝓡 ((λ s x. x), (λ x. x), (λ x. x), λ x. x) in
-      let meaning = g.D.Disk.meaning in
-      let j = c.args.journal in
-      let kept = c.args.engine.state.kept in
-      rw c.shut-in-Err.ensures (unstarted (meaning (disk_of j)) (seat_of j) kept (start kept c.now-reading.result).kept (laws.only_now (disk_of j)) gated (c.requires.read told)),
-)
+returns-in-Err-clause-in_vain g c = (inr (c.now-reading.result, c.now-reading.ensures), c.shut-in-Err.ensures)
 
 pub returns-in-Err-write_start-clause-in_vain : goal.returns-in-Err-write_start-clause-in_vain
-returns-in-Err-write_start-clause-in_vain g c = inr (
+returns-in-Err-write_start-clause-in_vain g c = (
   c.now-reading.result,
   c.now-reading.ensures,
   λ told gated.

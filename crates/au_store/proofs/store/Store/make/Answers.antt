@@ -48,7 +48,7 @@ invariant_of-self-in-Disk g c =
     let carries = rw (← c.self.view_is) at c.requires.carries in
     let next = (after c.args.prepared m).kept in
     let left = rw (← c.self.view_is) at c.requires.left in
-    record { ended = c.write.ensures.ended; gated = c.write.ensures.gated; ends = sound.ends; stands = λ told. record { doubted = next; left = λ unsettled. left; stood = c.write.ensures.doubted told m.kept next (settled_stands (ReplayedTo m.kept) (ReplayedTo (sound.stands told).doubted) j.seat j.seat sound.gated (g.D.Disk.meaning j.disk) settled (sound.stands told).stood) carries c.in-Disk.is } }
+    record { ended = c.write.ensures.ended; gated = c.write.ensures.gated; ends = sound.ends; stands = λ told. record { doubted = next; left = λ unsettled. let some = c.write.ensures.wrote c.in-Disk.is in left some.0 some.1; stood = c.write.ensures.doubted told m.kept next (settled_stands (ReplayedTo m.kept) (ReplayedTo (sound.stands told).doubted) j.seat j.seat sound.gated (g.D.Disk.meaning j.disk) settled (sound.stands told).stood) carries c.in-Disk.is } }
 
 pub returns-in-Done-clause-within : goal.returns-in-Done-clause-within
 returns-in-Done-clause-within g c =
@@ -130,3 +130,6 @@ returns-in-Disk-clause-in_doubt g c = λ is. c.write.ensures.in_doubt c.in-Disk.
 
 pub returns-in-Disk-clause-wrote : goal.returns-in-Disk-clause-wrote
 returns-in-Disk-clause-wrote g c = λ is. c.write.ensures.wrote c.in-Disk.is
+
+pub returns-in-Disk-clause-fits : goal.returns-in-Disk-clause-fits
+returns-in-Disk-clause-fits g c = rw (← c.self.view_is) (λ is. c.write.ensures.fits c.in-Disk.is)

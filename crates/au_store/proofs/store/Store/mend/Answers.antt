@@ -1,6 +1,5 @@
-use Rattle.std.proofs.Common.{arith}
 use Rattle.au_store.specs.Recovery.{ReplayedTo}
-use Rattle.au_store.proofs.Keeping.{mend_writes, mended_kept, mending_since, still_stands}
+use Rattle.au_store.proofs.Keeping.{mended_kept, mending_since, still_stands}
 use Rattle.au_store.proofs.Sound.{mend_sound}
 use Rattle.au_store.proofs.store.Store.mend.Goals as goal
 
@@ -53,7 +52,7 @@ returns-clause-any_moment g c =
     (λ bodies others was. c.mend.ensures.any_moment bodies others was))
 
 pub returns-clause-cost : goal.returns-clause-cost
-returns-clause-cost g c = rw (← c.self.view_is) (let most = mend_writes c.self.inside.journal.seat.doubt in omega (arith, most, c.mend.ensures.cost))
+returns-clause-cost g c = rw (← c.self.view_is) c.mend.ensures.cost
 
 pub returns-clause-stood : goal.returns-clause-stood
 returns-clause-stood g c = rw (← c.self.view_is) c.mend.ensures.stood

@@ -1,9 +1,9 @@
-use Rattle.std.proofs.Common.{◌∙◌, inl, refl, sym}
+use Rattle.std.proofs.Common.{◌≡◌, ◌∙◌, false, refl, sym}
 use Rattle.au_io.specs.Moments.{both_pass, both_stay}
 use Rattle.au_journal.specs.Journals.{disk_of, seat_of}
 use Rattle.au_engine.specs.Image.{nothing}
 use Rattle.au_store.proofs.Begun.{cause_after, match_both, no_cost, says_of}
-use Rattle.au_store.proofs.Reading.{gated_by, mount_cause, mount_says, open_leaves, opened_by, opens_in_vain, recovered, seated_by, start_says}
+use Rattle.au_store.proofs.Reading.{gated_by, mount_cause, mount_says, open_leaves, opened_by, opens_in_vain, recovered, seated_by, start_says, unread_in_vain}
 use Rattle.au_store.proofs.store.Store.open.Goals as goal
 
 pub returns-in-Err-clause-why : goal.returns-in-Err-clause-why
@@ -151,7 +151,8 @@ returns-in-Err-recover-clause-cause g c =
     rw c.shut.ensures (cause_after c.in-Err-recover.why (faults c.args.disk) (faults (disk_of c.in-Ok.journal)) (faults (disk_of c.recover.new.journal)) c.in-Ok.ensures.cause c.in-Err-recover.ensures.cause)
 
 pub returns-in-Err-clause-in_vain : goal.returns-in-Err-clause-in_vain
-returns-in-Err-clause-in_vain g c = inl (refl, c.in-Err.ensures.stays.images)
+returns-in-Err-clause-in_vain g c =
+    unread_in_vain g.D.Disk.told g.D.Disk.meaning g.C.Clock.ticking c.args.disk c.in-Err.disk c.args.clock c.args.clock c.from.result refl c.in-Err.ensures.stays
 
 pub returns-in-Err-recover-clause-in_vain : goal.returns-in-Err-recover-clause-in_vain
 returns-in-Err-recover-clause-in_vain g c =
@@ -161,7 +162,8 @@ returns-in-Err-recover-clause-in_vain g c =
     let mid = meaning (disk_of c.in-Ok.journal) in
     let new = meaning (disk_of c.recover.new.journal) in
     let stays = both_stay old mid new (laws.counts_now (disk_of c.in-Ok.journal)) c.in-Ok.ensures.stays c.recover.ensures.stays in
-    inl (refl, rw c.shut.ensures stays.images)
+    rw c.shut.ensures
+    (unread_in_vain g.D.Disk.told meaning g.C.Clock.ticking c.args.disk (disk_of c.recover.new.journal) c.args.clock c.args.clock c.in-Err-recover.why refl stays)
 
 pub returns-in-Ok-recover-clause-in_vain : goal.returns-in-Ok-recover-clause-in_vain
 returns-in-Ok-recover-clause-in_vain g c =
@@ -179,7 +181,4 @@ returns-in-Ok-recover-clause-in_vain g c =
     (λ failed vain time. opens_in_vain g.D.Disk.told meaning g.C.Clock.ticking d n failed.0 c.args.clock failed.1 kept (seat.bare ≡ false) stays time
     (λ told. recovered old new seat kept stays.reads (laws.reads_is_image n told) (c.in-Ok-recover.ensures.read told (c.in-Ok.ensures.mounted told)))
     (λ told none. gated_by old new seat kept stays.reads (laws.reads_is_image n told) (c.in-Ok-recover.ensures.read told (c.in-Ok.ensures.mounted told)) (laws.reads_is_image d told) none)
-    vain)
-
-pub returns-in-Ok-recover-clause-history : goal.returns-in-Ok-recover-clause-history
-returns-in-Ok-recover-clause-history g c = match_both c.begin.result _ _ _ _ _ _ c.begin.ensures.time c.begin.ensures.time (λ store _ _. refl) (λ failed _ _. tt)
+    failed.2 vain)
