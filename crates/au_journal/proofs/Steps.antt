@@ -9,7 +9,7 @@ use Rattle.au_journal.specs.declared.seat.Seat.{Seat}
 use Rattle.au_journal.specs.declared.doubt.Doubt.{Doubt}
 use Rattle.au_journal.specs.Frames.{spelled, front, framed_of, IsLimit, AreSome}
 use Rattle.au_journal.specs.Images.{Closed, Doubted, TornEnd, EndsIn, In, MayStandFor, StandsAt, StandsGated}
-use Rattle.au_journal.specs.Seats.{IsPlaced, IsSettled, IsGateDoubted, IsEdgeDoubted, IsFramed, advanced, left_in, with_frame}
+use Rattle.au_journal.specs.Seats.{IsPlaced, IsSettled, IsGateDoubted, IsEdgeDoubted, IsFramed, advanced, left_in}
 use Rattle.au_journal.proofs.Leaving.{in_weaker, leaves_weaker}
 use Rattle.au_journal.proofs.Lists.{within, bare_is_torn, end_within, frame_over, over_again}
 use Rattle.au_journal.proofs.Standing.{front-push, some-push, closed_at, doubted_or}
@@ -135,6 +135,3 @@ gate_then_frame area used framed old mid new short first second =
     ∙ ap (λ (l : List ℕ). with_area area (overwritten l used (165 ∷ framed)) (with_area area bytes old)) (area_with area bytes old)
     ∙ twice area bytes (overwritten bytes used (165 ∷ framed)) old
     ∙ ap (λ (l : List ℕ). with_area area l old) (over_again (area_of area old) (165 ∷ framed) used short (omega arith))
-
-pub frame_still : (seat : Seat) (framed : List ℕ) (all : Areas) → with_frame (advanced 0 seat) framed all ≡ with_frame seat framed all
-frame_still seat framed all = ap (λ (u : ℕ). with_area seat.area (overwritten (area_of seat.area all) u (165 ∷ framed)) all) (let same : seat.used + 0 ≡ seat.used = omega arith in same)

@@ -62,6 +62,10 @@ pub data IsOnTheWay (limit : ℕ) (framed : List ℕ) (all c : Areas) : Type 0 w
   writing : On A (λ _ new. IsGateShut new) (gate_shut all) c → IsOnTheWay limit framed all c
   opening : On A (Torn 0 1) (rest_written limit framed all) c → IsOnTheWay limit framed all c
 
+-- an image from before the format, or one on the way from what the disk read then: area B is never touched
+abbrev pub FormatPasses : Meaning → ℕ → List ℕ → Areas → Type 0
+FormatPasses old limit framed all = old.images all ⊎ IsOnTheWay limit framed old.reads all
+
 -- a new area: it stands for its one body, and a closed gate comes behind
 abbrev pub IsNew : ℕ → List ℕ → List ℕ → Type 0
 IsNew limit body area = StandsGated limit (body ∷ []) area

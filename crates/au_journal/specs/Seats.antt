@@ -111,14 +111,14 @@ pub record IsFramed (bytes body : List ℕ) : Type 0 where
   pub is : bytes ≡ framed_of body
   pub some : 0 < length body
 
--- the seat behind n bytes more, with a gate there and no doubt
+-- the seat behind n bytes more, with a gate there, no frame found behind it and no doubt
 abbrev pub advanced : ℕ → Seat → Seat
 advanced n seat = record {
   area = seat.area;
   limit = seat.limit;
   size = seat.size;
   used = seat.used + n;
-  reach = seat.reach;
+  reach = seat.used + n;
   ended = seat.ended;
   bare = false;
   doubt = Settled;
@@ -131,7 +131,7 @@ flipped n seat = record {
   limit = seat.limit;
   size = seat.size;
   used = 13 + n;
-  reach = seat.reach;
+  reach = 13 + n;
   ended = seat.ended;
   bare = false;
   doubt = Settled;
@@ -222,6 +222,15 @@ mend_bytes Gate = 1
 mend_bytes Edge = 1
 mend_bytes Other = 0
 mend_bytes Head = 1
+
+-- a doubt that a sync alone ends, since the byte of the gate or of Head wasn't written
+abbrev pub NeedsSyncAlone : Doubt → Type 0
+NeedsSyncAlone Settled = ⊥
+NeedsSyncAlone Body = ⊤
+NeedsSyncAlone Gate = ⊥
+NeedsSyncAlone Edge = ⊥
+NeedsSyncAlone Other = ⊤
+NeedsSyncAlone Head = ⊥
 
 -- a mend has synced the area of the doubt
 abbrev pub IsSynced : Doubt → Seat → Meaning → Type 0

@@ -27,7 +27,7 @@ pub(crate) fn add_frame<D: Disk>(disk: &mut D, seat: Seat, framed: &[u8]) -> Res
     ensures advances { IfOk result (λ new. new ≡ advanced (length framed.now) seat) }
     ensures in_doubt { IfErr result (λ new. AppendDoubts new.doubt) }
     ensures rests { IfErr result (IsUnmoved seat) }
-    ensures short { IfOk result (λ new. new.used ≤ 2 ^ 62) }
+    ensures short { IfOk result (λ new. (new.used ≤ 2 ^ 62) × (new.reach ≤ 2 ^ 62)) }
     ensures time { Passes (D.meaning disk.old) (D.meaning disk.new) }
     ensures cost { (D.meaning disk.new).written ≤ (D.meaning disk.old).written + length framed.now + 1 }
     ensures cause { SeatCause result (D.faults disk.old) (D.faults disk.new) }
@@ -45,8 +45,10 @@ pub(crate) fn add_frame<D: Disk>(disk: &mut D, seat: Seat, framed: &[u8]) -> Res
             ..seat
         });
     }
+    let used = seat.used + framed.len() as u64;
     Ok(Seat {
-        used: seat.used + framed.len() as u64,
+        used,
+        reach: used,
         bare: false,
         doubt: Doubt::Settled,
         ..seat
@@ -65,7 +67,7 @@ pub(crate) fn close_end<D: Disk>(disk: &mut D, seat: Seat) -> Result<Seat, Seat>
     ensures any_moment { D.told → (bodies others : List (List ℕ)) → IsSettled (D.meaning disk.old) seat bodies
         → LeavesSince (MayLeave seat bodies seat.area others) (D.meaning disk.old) (D.meaning disk.new) }
     ensures reads { D.told → OnOk result ((D.meaning disk.new).reads ≡ with_gate seat (D.meaning disk.old).reads) }
-    ensures advances { IfOk result (λ new. new ≡ advanced 0 seat) }
+    ensures advances { IfOk result (λ new. new ≡ left_in Doubt.Settled false seat) }
     ensures in_doubt { IfErr result (λ new. AppendDoubts new.doubt) }
     ensures rests { IfErr result (λ new. new ≡ left_in Doubt.Edge true seat) }
     ensures time { Passes (D.meaning disk.old) (D.meaning disk.new) }

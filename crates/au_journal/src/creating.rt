@@ -3,7 +3,7 @@ ghost use Rattle.std.specs.Prelude.{◌≡◌, List, ℕ};
 ghost use Rattle.au_io.specs.declared.disk.Area.TheVariants.{A};
 ghost use Rattle.au_io.specs.Disk.{Passes, Stays};
 ghost use Rattle.au_io.specs.Moments.{Leaves, LeavesSince};
-ghost use Rattle.au_journal.specs.Creation.{IsSelectedFormatted, OthersAreBlank, IsNew, IsOnly, laid_down, FormatLeaves, FormatCause};
+ghost use Rattle.au_journal.specs.Creation.{IsSelectedFormatted, OthersAreBlank, IsNew, IsOnly, laid_down, FormatLeaves, FormatPasses, FormatCause};
 ghost use Rattle.au_journal.specs.Frames.{IsLimit};
 ghost use Rattle.au_journal.specs.Images.{In};
 ghost use Rattle.au_journal.specs.Seats.{IsFramed};
@@ -29,6 +29,7 @@ impl<D: Disk> Journal<D> {
         ensures laid_down { D.told → result ≡ Formatting.Done → IsOnly (laid_down limit framed.now (D.meaning disk.old).reads) (D.meaning disk.new) }
         ensures any_moment { D.told → (body : List ℕ) → IsFramed framed.now body → Leaves OthersAreBlank (D.meaning disk.old)
             → LeavesSince (FormatLeaves (D.meaning disk.old) limit body) (D.meaning disk.old) (D.meaning disk.new) }
+        ensures on_the_way { D.told → LeavesSince (FormatPasses (D.meaning disk.old) limit framed.now) (D.meaning disk.old) (D.meaning disk.new) }
         ensures again { D.told → Leaves OthersAreBlank (D.meaning disk.old) → LeavesSince OthersAreBlank (D.meaning disk.old) (D.meaning disk.new) }
         ensures time { Passes (D.meaning disk.old) (D.meaning disk.new) }
         ensures cause { FormatCause result (D.faults disk.old) (D.faults disk.new) }

@@ -85,7 +85,7 @@ pub(crate) fn flip_seat<D: Disk>(disk: &mut D, seat: Seat, framed: &[u8]) -> Res
     ensures moves { IfOk result (λ new. new ≡ flipped (length framed.now) seat) }
     ensures in_doubt { IfErr result (λ new. FlipDoubts new.doubt) }
     ensures rests { IfErr result (IsUnmoved seat) }
-    ensures short { IfOk result (λ new. new.used ≤ 2 ^ 62) }
+    ensures short { IfOk result (λ new. (new.used ≤ 2 ^ 62) × (new.reach ≤ 2 ^ 62)) }
     ensures time { Passes (D.meaning disk.old) (D.meaning disk.new) }
     ensures cost { (D.meaning disk.new).written ≤ (D.meaning disk.old).written + 15 + length framed.now }
     ensures cause { SeatCause result (D.faults disk.old) (D.faults disk.new) }
@@ -103,9 +103,11 @@ pub(crate) fn flip_seat<D: Disk>(disk: &mut D, seat: Seat, framed: &[u8]) -> Res
             ..seat
         });
     }
+    let used = HEAD_BYTES as u64 - 1 + framed.len() as u64;
     Ok(Seat {
         area: beside(seat.area),
-        used: HEAD_BYTES as u64 - 1 + framed.len() as u64,
+        used,
+        reach: used,
         bare: false,
         doubt: Doubt::Settled,
         ..seat

@@ -1,12 +1,12 @@
 //! What ends a doubt.
 ghost use Rattle.std.specs.Prelude.{◌≡◌, ◌≢◌, ◌≤◌, ◌+◌, List, ℕ, IfOk, IsErr, OnOk};
-ghost use Rattle.au_io.specs.Disk.{Passes, HasCause};
+ghost use Rattle.au_io.specs.Disk.{Passes, Stays, HasCause};
 ghost use Rattle.au_io.specs.declared.disk.Area.TheVariants as area;
 ghost use Rattle.au_io.specs.Moments.{Leaves, LeavesSince};
 ghost use Rattle.au_journal.specs.Causes.{SeatCause};
 ghost use Rattle.au_journal.specs.Frames.{front};
 ghost use Rattle.au_journal.specs.Images.{EndsIn, In, IsSafe};
-ghost use Rattle.au_journal.specs.Seats.{BothStand, IsHeadDoubted, IsSettled, IsDoubted, IsSynced, MayLeave, mend_bytes, mended, mended_reads, there_of, with_letter};
+ghost use Rattle.au_journal.specs.Seats.{BothStand, IsHeadDoubted, IsSettled, IsDoubted, IsSynced, MayLeave, NeedsSyncAlone, mend_bytes, mended, mended_reads, there_of, with_letter};
 
 use crate::gates::close_gate;
 use crate::synced::select;
@@ -25,6 +25,7 @@ pub(crate) fn mend_seat<D: Disk>(disk: &mut D, seat: Seat) -> Result<Seat, Faile
     ensures still { seat.doubt ≡ Doubt.Settled → disk.new ≡ disk.old }
     ensures reads { D.told → OnOk result ((D.meaning disk.new).reads ≡ mended_reads seat.doubt seat (D.meaning disk.old).reads) }
     ensures synced { OnOk result (IsSynced seat.doubt seat (D.meaning disk.new)) }
+    ensures only_syncs { NeedsSyncAlone seat.doubt → Stays (D.meaning disk.old) (D.meaning disk.new) }
     ensures stood { IsErr result → seat.doubt ≢ Doubt.Settled }
     ensures mends { IfOk result (λ new. new ≡ mended seat) }
     ensures time { Passes (D.meaning disk.old) (D.meaning disk.new) }
@@ -47,6 +48,7 @@ fn clear_doubt<D: Disk>(disk: &mut D, seat: Seat) -> Result<(), Failed>
     ensures still { seat.doubt ≡ Doubt.Settled → disk.new ≡ disk.old }
     ensures reads { D.told → OnOk result ((D.meaning disk.new).reads ≡ mended_reads seat.doubt seat (D.meaning disk.old).reads) }
     ensures synced { OnOk result (IsSynced seat.doubt seat (D.meaning disk.new)) }
+    ensures only_syncs { NeedsSyncAlone seat.doubt → Stays (D.meaning disk.old) (D.meaning disk.new) }
     ensures stood { IsErr result → seat.doubt ≢ Doubt.Settled }
     ensures time { Passes (D.meaning disk.old) (D.meaning disk.new) }
     ensures cost { (D.meaning disk.new).written ≤ (D.meaning disk.old).written + mend_bytes seat.doubt }

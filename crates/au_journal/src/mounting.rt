@@ -1,5 +1,5 @@
 //! Mounting a disk, and walking over what stands there.
-ghost use Rattle.std.specs.Prelude.{◌≡◌, ◌≢◌, ◌≤◌, ◌+◌, ◌^◌, ◌++◌, [], ◌∷◌, ℕ, List, Option, length, take, false, true, IfOk, IfErr, OnOk, OnErr, MatchOption, MatchResult};
+ghost use Rattle.std.specs.Prelude.{◌≡◌, ◌≢◌, ◌≤◌, ◌+◌, ◌^◌, ◌++◌, [], ◌∷◌, ℕ, List, Option, None, Ok, length, take, false, true, IfOk, IfErr, OnOk, OnErr, MatchOption, MatchResult, ⊤};
 ghost use Rattle.au_io.specs.Areas.{area_of};
 ghost use Rattle.au_io.specs.Disk.{Stays, HasCause};
 ghost use Rattle.au_journal.specs.Causes.{FaultCause, WalkCause};
@@ -46,7 +46,9 @@ impl<D: Disk> Journal<D> {
         ensures why { D.told → (bodies : List (List ℕ)) (walked : IsWalked (D.meaning (disk_of self.old)) (seat_of self.old) bodies)
             → IfErr result (WalkSays walked.rest (seat_of self.old).area (seat_of self.old).used) }
         ensures never_unformatted { IfErr result (λ why. why ≢ MountFault.Unformatted) }
+        ensures over { (seat_of self.old).ended ≡ true → (result ≡ Ok None) × (self.new ≡ self.old) }
         ensures ended { IfOk result (λ found. MatchOption found ((seat_of self.new).ended ≡ true) (λ n. (seat_of self.new).reach ≡ (seat_of self.new).used + 9 + n)) }
+        ensures reached { IfOk result (λ found. MatchOption found ((seat_of self.old).ended ≡ false → (seat_of self.new).reach ≡ (seat_of self.new).used) (λ _. ⊤)) }
         ensures still { OnErr result (seat_of self.new ≡ seat_of self.old) }
         ensures same { ((seat_of self.new).area ≡ (seat_of self.old).area) × ((seat_of self.new).limit ≡ (seat_of self.old).limit)
             × ((seat_of self.new).used ≡ (seat_of self.old).used) × ((seat_of self.new).doubt ≡ (seat_of self.old).doubt) }
@@ -66,6 +68,7 @@ impl<D: Disk> Journal<D> {
         )?;
         self.seat = match found {
             None => Seat {
+                reach: seat.used,
                 ended: true,
                 bare: seat.size == seat.used,
                 ..seat

@@ -3,8 +3,8 @@ ghost use Rattle.std.specs.Prelude.{◌≤◌, length};
 
 use au_io::{Area, Disk, Failed};
 
-/// How many bytes a window holds at most: some 130 small frames, and little to move with a journal.
-const WINDOW_BYTES: usize = 16_384;
+/// How many bytes a window holds at most: some 16 small frames, and little to move with a journal.
+const WINDOW_BYTES: usize = 2_048;
 
 /// Bytes of an area, as they were when it was last filled. Contracts see its fields.
 #[derive(Drop)]

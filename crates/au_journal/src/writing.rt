@@ -1,7 +1,7 @@
 //! Adding a body to a journal, changing its area, and mending what failed.
 ghost use Rattle.std.specs.Prelude.{◌≡◌, ◌↔◌, ◌<◌, ◌≤◌, ◌+◌, ◌^◌, ◌≢◌, ◌++◌, [], ◌∷◌, List, ℕ, true, false, length, IfOk, IfErr, OnOk};
 ghost use Rattle.au_io.specs.declared.disk.Area.TheVariants as area;
-ghost use Rattle.au_io.specs.Disk.{Passes};
+ghost use Rattle.au_io.specs.Disk.{Passes, Stays};
 ghost use Rattle.au_io.specs.Moments.{LeavesSince};
 ghost use Rattle.au_journal.specs.Causes.{SeatCause};
 ghost use Rattle.au_journal.specs.Images.{IsSafe};
@@ -29,7 +29,7 @@ fn append_at<D: Disk>(disk: &mut D, seat: Seat, framed: &[u8]) -> Result<Seat, S
     ensures advances { IfOk result (λ new. new ≡ advanced (length framed.now) seat) }
     ensures in_doubt { IfErr result (λ new. AppendDoubts new.doubt) }
     ensures rests { IfErr result (IsUnmoved seat) }
-    ensures short { IfOk result (λ new. new.used ≤ 2 ^ 62) }
+    ensures short { IfOk result (λ new. (new.used ≤ 2 ^ 62) × (new.reach ≤ 2 ^ 62)) }
     ensures time { Passes (D.meaning disk.old) (D.meaning disk.new) }
     ensures cost { (D.meaning disk.new).written ≤ (D.meaning disk.old).written + length framed.now + gate_bytes seat.bare }
     ensures cause { SeatCause result (D.faults disk.old) (D.faults disk.new) }
@@ -48,7 +48,7 @@ impl<D: Disk> Journal<D> {
     ghost use Rattle.au_journal.specs.Journals.{disk_of, seat_of};
     ghost use Rattle.au_journal.specs.Causes.{AppendCause, MendCause};
     ghost use Rattle.au_journal.specs.Images.{other_of};
-    ghost use Rattle.au_journal.specs.Seats.{FlipDoubts, IsFullAt, IsSynced, flipped, mend_bytes, mended, mended_reads, there_of, with_image};
+    ghost use Rattle.au_journal.specs.Seats.{FlipDoubts, IsFullAt, IsSynced, NeedsSyncAlone, flipped, mend_bytes, mended, mended_reads, there_of, with_image};
 
     /// Adds a body, given as framed bytes: its length, the body and a closed gate. Never `Full` where
     /// it is free of the limit. Both syncs of `Done` have been made.
@@ -139,6 +139,7 @@ impl<D: Disk> Journal<D> {
             → LeavesSince (MayLeave (seat_of self.old) bodies (there_of (seat_of self.old).doubt (seat_of self.old).area) others) (D.meaning (disk_of self.old)) (D.meaning (disk_of self.new)) }
         ensures still { (seat_of self.old).doubt ≡ Doubt.Settled → disk_of self.new ≡ disk_of self.old }
         ensures reads { D.told → result ≡ Mended.Done → (D.meaning (disk_of self.new)).reads ≡ mended_reads (seat_of self.old).doubt (seat_of self.old) (D.meaning (disk_of self.old)).reads }
+        ensures only_syncs { NeedsSyncAlone (seat_of self.old).doubt → Stays (D.meaning (disk_of self.old)) (D.meaning (disk_of self.new)) }
         ensures stood { result ≡ Mended.Disk → (seat_of self.old).doubt ≢ Doubt.Settled }
         ensures synced { result ≡ Mended.Done → IsSynced (seat_of self.old).doubt (seat_of self.old) (D.meaning (disk_of self.new)) }
         ensures mends { result ≡ Mended.Done → seat_of self.new ≡ mended (seat_of self.old) }

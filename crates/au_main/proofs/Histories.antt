@@ -1,10 +1,11 @@
 -- Histories, and runs over lines, that go on by one.
-use Rattle.std.proofs.Common.{◌≡◌, ℕ, List, [], ◌∷◌, ◌++◌, refl, sym, ap, ◌∙◌, subst, append-nil}
+use Rattle.std.proofs.Common.{◌≡◌, ◌≢◌, ◌⊎◌, inl, inr, ⊎_elim, ℕ, List, [], ◌∷◌, ◌++◌, length, refl, sym, ap, ◌∙◌, subst, append-nil, append_assoc, length-append, arith}
 use Rattle.std.specs.Prelude.{Option, Some, None, flat_map}
 use Rattle.std.specs.List.{AllByRecursion, AllZip}
 use Rattle.std.proofs.lemmas.List.{map-append}
 use Rattle.std.proofs.lemmas.List.Concat.{flat_map-append}
 use Rattle.au_base.specs.declared.ask.Ask.{Ask}
+use Rattle.au_base.specs.declared.numbers.ClientNo.{ClientNo}
 use Rattle.au_base.specs.declared.reply.Reply.{Reply}
 use Rattle.au_base.specs.declared.reply.Said.TheVariants.{Replied, Disk, Full, Memory}
 use Rattle.au_io.specs.Moments.{CountsNow, OnlyNow}
@@ -15,13 +16,16 @@ use Rattle.au_engine.specs.Step.{Event, Step}
 use Rattle.au_engine.specs.History.{Entry, Run, AreSteps, stepped, entries_of}
 use Rattle.au_script.specs.declared.lines.ScriptLine.{ScriptLine}
 use Rattle.au_script.specs.declared.lines.ScriptLine.TheVariants as line
+use Rattle.au_journal.specs.declared.seat.Seat.{Seat}
+use Rattle.au_store.specs.declared.entry.Entry.{Entry as Held}
+use Rattle.au_store.specs.History.{StandsFor, first_of}
 use Rattle.au_store.specs.Stored.{Stored, IsKeptOn}
-use Rattle.au_main.specs.Answers.{Answer, Made, Unmended, Goes, GoesOver, Place, ReadAll, asks_of, line_of, place_of, readings_of, said_of, steps_of, texts}
+use Rattle.au_main.specs.Answers.{AllEntriesOf, Answer, AreUnmended, EntriesOf, IsLegalBy, LeavesDoubt, Made, Unmended, ReadAll, UnmendedInDoubt, asks_of, line_of, readings_of, said_of, steps_of, texts}
 use Rattle.au_main.specs.Built.{IsScriptLine}
 use Rattle.au_main.specs.Means.{Means}
 use Rattle.au_main.specs.Ran.{Ran}
-use Rattle.au_main.specs.Serving.{Answers, Does, Serves}
-use Rattle.au_main.proofs.OnDisk.{IsOnDisk-none, IsOnDisk-more}
+use Rattle.au_main.specs.Serving.{Answers, Does, DoubtBy, Serves, StateBy}
+use Rattle.au_main.proofs.OnDisk.{AreUnmended-push, IsOnDisk-none, IsOnDisk-more}
 
 -- ---- lists
 
@@ -83,25 +87,92 @@ AreSteps-still : (k m n : State) (entries : List Entry) → AreSteps k entries m
 AreSteps-still k m n entries steps same = rw (append-nil entries) (subst (λ (x : State). AreSteps k entries x) (sym same) steps)
 
 -- an answer: a reply is one more step, and anything else is none
-AreSteps-goes : (k : State) (entries : List Entry) (p q : Place) (a : Answer) → AreSteps k entries p.state → Goes p a q → AreSteps k (entries ++ steps_of a) q.state
-AreSteps-goes k entries p q (Made client ask reading (Replied reply)) steps goes =
-    AreSteps-push k p.state q.state entries (record { client = client; ask = ask; reading = reading }) reply steps goes.step
-AreSteps-goes k entries p q (Made client ask reading Disk) steps goes = AreSteps-still k p.state q.state entries steps goes.state
-AreSteps-goes k entries p q (Made client ask reading (Full needed limit)) steps goes = AreSteps-still k p.state q.state entries steps goes.1.state
-AreSteps-goes k entries p q (Made client ask reading Memory) steps goes = AreSteps-still k p.state q.state entries steps goes.state
-AreSteps-goes k entries p q (Unmended client ask) steps goes = AreSteps-still k p.state q.state entries steps goes.state
-
-GoesOver-push : (p q r : Place) (answers : List Answer) (a : Answer) → GoesOver p answers q → Goes q a r → GoesOver p (answers ++ a ∷ []) r
-GoesOver-push p q r [] a over goes = (r, subst (λ (x : Place). Goes x a r) over goes, refl)
-GoesOver-push p q r (first ∷ answers) a over goes = (over.0, over.1, GoesOver-push over.0 q r answers a over.2 goes)
+AreSteps-goes : (k m n : State) (entries : List Entry) (a : Answer) → AreSteps k entries m → StateBy m a n → AreSteps k (entries ++ steps_of a) n
+AreSteps-goes k m n entries (Made client ask reading (Replied reply)) steps state = AreSteps-push k m n entries (record { client = client; ask = ask; reading = reading }) reply steps state
+AreSteps-goes k m n entries (Made client ask reading Disk) steps state = AreSteps-still k m n entries steps state
+AreSteps-goes k m n entries (Made client ask reading (Full needed limit)) steps state = AreSteps-still k m n entries steps state
+AreSteps-goes k m n entries (Made client ask reading Memory) steps state = AreSteps-still k m n entries steps state
+AreSteps-goes k m n entries (Unmended client ask) steps state = AreSteps-still k m n entries steps state
 
 -- where the disk failed the state stays
-goes_state : (p q : Place) (a : Answer) → Goes p a q → said_of a ≡ Disk → q.state ≡ p.state
-goes_state p q (Made client ask reading (Replied reply)) goes is = absurd (let no : Replied reply ≡ Disk = is in cc)
-goes_state p q (Made client ask reading Disk) goes is = goes.state
-goes_state p q (Made client ask reading (Full needed limit)) goes is = goes.1.state
-goes_state p q (Made client ask reading Memory) goes is = goes.state
-goes_state p q (Unmended client ask) goes is = goes.state
+goes_state : (m n : State) (a : Answer) → StateBy m a n → said_of a ≡ Disk → n ≡ m
+goes_state m n (Made client ask reading (Replied reply)) state is = absurd (let no : Replied reply ≡ Disk = is in cc)
+goes_state m n (Made client ask reading Disk) state is = state
+goes_state m n (Made client ask reading (Full needed limit)) state is = state
+goes_state m n (Made client ask reading Memory) state is = state
+goes_state m n (Unmended client ask) state is = state
+
+-- ---- the store's list
+
+AllEntriesOf-push : (answers : List Answer) (a : Answer) (entries made : List Held) → AllEntriesOf answers entries → EntriesOf a made → AllEntriesOf (answers ++ a ∷ []) (entries ++ made)
+AllEntriesOf-push [] a entries made of is = (made, [], is, refl, ap (λ (l : List Held). l ++ made) of ∙ sym (append-nil made))
+AllEntriesOf-push (first ∷ answers) a entries made of is = (
+  of.0,
+  of.1 ++ made,
+  of.2,
+  AllEntriesOf-push answers a of.1 made of.3 is,
+  ap (λ (l : List Held). l ++ made) of.4 ∙ append_assoc of.0 of.1 made,
+)
+
+IsLegalBy-push : {D C : Type 0} (means : Means D C) (o s t : Stored D C) (answers : List Answer) (a : Answer) → IsLegalBy means o s answers
+    → ((entries : List Held) → StandsFor means.faults s entries → (made : List Held) × EntriesOf a made × StandsFor means.faults t (entries ++ made))
+    → IsLegalBy means o t (answers ++ a ∷ [])
+IsLegalBy-push means o s t answers a legal history =
+    let on = history (first_of means.faults o ++ legal.entries) legal.stands in
+    record {
+      entries = legal.entries ++ on.0;
+      of_answers = AllEntriesOf-push answers a legal.entries on.0 legal.of_answers on.1;
+      stands = subst (λ (l : List Held). StandsFor means.faults t l) (append_assoc (first_of means.faults o) legal.entries on.0) on.2;
+    }
+
+-- ---- doubts
+
+-- where an element stands in a list that goes on by one
+last_or_before : {X : Type 0} (xs before rest : List X) (x y : X) → xs ++ x ∷ [] ≡ before ++ y ∷ rest → ((before ≡ xs) × (y ≡ x)) ⊎ ((more : List X) × (xs ≡ before ++ y ∷ more))
+last_or_before [] [] rest x y is = inl (refl, (let same : y ≡ x = cc in same))
+last_or_before [] (b ∷ before) rest x y is = absurd (let sizes = ap length is in omega (arith, sizes, length-append before (y ∷ rest)))
+last_or_before (a ∷ xs) [] rest x y is = inr (xs, (let same : a ∷ xs ≡ y ∷ xs = cc in same))
+last_or_before (a ∷ xs) (b ∷ before) rest x y is =
+    let head : a ≡ b = cc in
+    let tail : xs ++ x ∷ [] ≡ before ++ y ∷ rest = cc in
+    ⊎_elim
+    (λ (here : (before ≡ xs) × (y ≡ x)). inl (let same : b ∷ before ≡ a ∷ xs = cc (head, here.0) in same, here.1))
+    (λ (there : (more : List _) × (xs ≡ before ++ y ∷ more)). inr (there.0, (let same : a ∷ xs ≡ b ∷ (before ++ y ∷ there.0) = cc (head, there.1) in same)))
+    (last_or_before xs before rest x y tail)
+
+LeavesDoubt-last : (answers : List Answer) (client : ClientNo) (ask : Ask) (reading : ℕ) → LeavesDoubt (answers ++ Made client ask reading Disk ∷ [])
+LeavesDoubt-last answers client ask reading = record { before = answers; client = client; ask = ask; reading = reading; since = []; split = refl; unmended = tt }
+
+LeavesDoubt-more : (answers : List Answer) (client : ClientNo) (ask : Ask) → LeavesDoubt answers → LeavesDoubt (answers ++ Unmended client ask ∷ [])
+LeavesDoubt-more answers client ask doubt = let a = Unmended client ask in record {
+  before = doubt.before;
+  client = doubt.client;
+  ask = doubt.ask;
+  reading = doubt.reading;
+  since = doubt.since ++ a ∷ [];
+  split = ap (λ (l : List Answer). l ++ a ∷ []) doubt.split ∙ append_assoc doubt.before (Made doubt.client doubt.ask doubt.reading Disk ∷ doubt.since) (a ∷ []);
+  unmended = AreUnmended-push doubt.since client ask doubt.unmended;
+}
+
+-- what stands in the list before it goes on by one
+UnmendedInDoubt-push : (answers : List Answer) (a : Answer) → UnmendedInDoubt answers → ((client : ClientNo) (ask : Ask) → Unmended client ask ≡ a → LeavesDoubt answers)
+    → UnmendedInDoubt (answers ++ a ∷ [])
+UnmendedInDoubt-push answers a each last before rest client ask is = ⊎_elim
+    (λ (here : (before ≡ answers) × (Unmended client ask ≡ a)). subst LeavesDoubt (sym here.0) (last client ask here.1))
+    (λ (there : (more : List Answer) × (answers ≡ before ++ Unmended client ask ∷ more)). each before there.0 client ask there.1)
+    (last_or_before answers before rest a (Unmended client ask) is)
+
+unmended_push : (answers : List Answer) (a : Answer) (s t : Seat) → UnmendedInDoubt answers → (s.doubt ≢ Settled → LeavesDoubt answers) → DoubtBy a s t → UnmendedInDoubt (answers ++ a ∷ [])
+unmended_push answers (Made client ask reading said) s t each doubt by =
+    UnmendedInDoubt-push answers (Made client ask reading said) each (λ other first is. absurd (let no : Unmended other first ≡ Made client ask reading said = is in cc))
+unmended_push answers (Unmended client ask) s t each doubt by = UnmendedInDoubt-push answers (Unmended client ask) each (λ other first is. doubt by.0)
+
+doubt_push : (answers : List Answer) (a : Answer) (s t : Seat) → (s.doubt ≢ Settled → LeavesDoubt answers) → DoubtBy a s t → t.doubt ≢ Settled → LeavesDoubt (answers ++ a ∷ [])
+doubt_push answers (Made client ask reading (Replied reply)) s t doubt by unsettled = absurd (unsettled (by (λ is. let no : Replied reply ≡ Disk = is in cc)))
+doubt_push answers (Made client ask reading Disk) s t doubt by unsettled = LeavesDoubt-last answers client ask reading
+doubt_push answers (Made client ask reading (Full needed limit)) s t doubt by unsettled = absurd (unsettled (by (λ is. let no : Full needed limit ≡ Disk = is in cc)))
+doubt_push answers (Made client ask reading Memory) s t doubt by unsettled = absurd (unsettled (by (λ is. let no : Memory ≡ Disk = is in cc)))
+doubt_push answers (Unmended client ask) s t doubt by unsettled = LeavesDoubt-more answers client ask (doubt by.0)
 
 -- ---- runs over lines
 
@@ -112,7 +183,7 @@ asks_of-append (line.Ask label ask ∷ s) t = ap (λ xs. (1, ask) ∷ xs) (asks_
 
 -- a store was opened, and no line was done yet
 pub Ran-none : {D C : Type 0} (means : Means D C) (s : Stored D C)
-    → CountsNow (means.meaning s.disk) → OnlyNow (means.meaning s.disk) → (means.told → s.seat.doubt ≡ Settled) → (means.told → IsKeptOn s.state.kept (means.meaning s.disk) s.seat)
+    → CountsNow (means.meaning s.disk) → OnlyNow (means.meaning s.disk) → s.seat.doubt ≡ Settled → (means.told → IsKeptOn s.state.kept (means.meaning s.disk) s.seat)
     → Ran means [] s s [] []
 Ran-none means s counts only settled kept = record {
   script = [];
@@ -120,8 +191,10 @@ Ran-none means s counts only settled kept = record {
   asks = refl;
   read = ReadAll-nil (means.ticking s.clock);
   history = AreSteps-none s.state;
-  goes = refl;
-  on_disk = λ told. IsOnDisk-none s.state (means.meaning s.disk) s.seat counts only (settled told) (kept told);
+  legal = record { entries = []; of_answers = refl; stands = refl };
+  unmended = λ before rest client ask is. absurd (let sizes = ap length is in omega (arith, sizes, length-append before (Unmended client ask ∷ rest)));
+  in_doubt = λ unsettled. absurd (unsettled settled);
+  on_disk = λ told. IsOnDisk-none s.state (means.meaning s.disk) s.seat counts only settled (kept told);
   text_is = refl;
 }
 
@@ -133,7 +206,9 @@ Ran-skip means lines bytes o s answers text spelled ran = record {
   asks = ran.asks ∙ sym (asks_of-append ran.script (line.Skip ∷ []) ∙ append-nil (asks_of ran.script));
   read = ran.read;
   history = ran.history;
-  goes = ran.goes;
+  legal = ran.legal;
+  unmended = ran.unmended;
+  in_doubt = ran.in_doubt;
   on_disk = ran.on_disk;
   text_is = ran.text_is;
 }
@@ -141,7 +216,7 @@ Ran-skip means lines bytes o s answers text spelled ran = record {
 Ran-ask : {D C : Type 0} (means : Means D C) (lines : List (List ℕ)) (bytes label : List ℕ) (ask : Ask) (a : Answer) (o s t : Stored D C) (answers : List Answer) (text : List ℕ)
     → IsScriptLine bytes (line.Ask label ask) → Ran means lines o s answers text → Answers means s t ask a → Ran means (lines ++ bytes ∷ []) o t (answers ++ a ∷ []) (text ++ line_of (said_of a))
 Ran-ask means lines bytes label ask a o s t answers text spelled ran answer =
-    let history = AreSteps-goes o.state (flat_map steps_of answers) (place_of means s) (place_of means t) a ran.history answer.goes in
+    let history = AreSteps-goes o.state s.state t.state (flat_map steps_of answers) a ran.history answer.state in
     record {
       script = ran.script ++ line.Ask label ask ∷ [];
       spelled = AllZip-append IsScriptLine lines (bytes ∷ []) ran.script (line.Ask label ask ∷ []) ran.spelled (spelled, tt);
@@ -149,9 +224,11 @@ Ran-ask means lines bytes label ask a o s t answers text spelled ran answer =
       read = rw (flat_map-append readings_of answers (a ∷ []), append-nil (readings_of a))
           (ReadAll-append (means.ticking o.clock) (means.ticking s.clock) (means.ticking t.clock) (flat_map readings_of answers) (readings_of a) ran.read answer.read);
       history = rw (steps_of-push answers a) history;
-      goes = GoesOver-push (place_of means o) (place_of means s) (place_of means t) answers a ran.goes answer.goes;
+      legal = IsLegalBy-push means o s t answers a ran.legal answer.history;
+      unmended = unmended_push answers a s.seat t.seat ran.unmended ran.in_doubt answer.doubt;
+      in_doubt = doubt_push answers a s.seat t.seat ran.in_doubt answer.doubt;
       on_disk = λ told. IsOnDisk-more o.state s.state t.state answers (means.meaning o.disk) (means.meaning s.disk) (means.meaning t.disk) s.seat t.seat (ran.on_disk told) ran.history answer.time
-          a (goes_state (place_of means s) (place_of means t) a answer.goes) (answer.on_disk told);
+          a (goes_state s.state t.state a answer.state) (answer.on_disk told);
       text_is = rw ran.text_is (sym (flat_map-append (λ x. line_of (said_of x)) answers (a ∷ []) ∙ ap (λ l. texts answers ++ l) (append-nil (line_of (said_of a)))));
     }
 

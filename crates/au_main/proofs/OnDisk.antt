@@ -16,11 +16,11 @@ use Rattle.au_engine.specs.History.{AreSteps, Entry}
 use Rattle.au_engine.specs.State.{State}
 use Rattle.au_store.specs.Recovery.{RecoversTo, RecoversToEither, ReplayedTo}
 use Rattle.au_store.specs.Standing.{Holds, IsInDoubt}
-use Rattle.au_store.specs.Doubts.{IsAfter, IsStoodOn}
+use Rattle.au_store.specs.Doubts.{HasFrame, IsAfter, IsStoodOn}
 use Rattle.au_store.specs.Steps.{StepLeaves, event_at}
 use Rattle.au_store.specs.Stored.{IsKeptOn}
-use Rattle.au_main.specs.Answers.{Answer, Made, Unmended, said_of, steps_of}
-use Rattle.au_main.specs.OnDisk.{AreUnmended, IsTried, CameBy, RecoversAlong, IsUncertain, RecoversAfter, StandsFor, IsOnDisk, MakesOnDisk, StepsOnDisk}
+use Rattle.au_main.specs.Answers.{Answer, AreUnmended, Made, Unmended, said_of, steps_of}
+use Rattle.au_main.specs.OnDisk.{IsTried, CameBy, RecoversAlong, IsUncertain, RecoversAfter, StandsFor, IsOnDisk, MakesOnDisk, StepsOnDisk}
 
 -- ---- what a run came by
 
@@ -60,7 +60,7 @@ no_steps [] unmended = refl
 no_steps (Made client ask reading said ∷ answers) unmended = absurd unmended
 no_steps (Unmended client ask ∷ answers) unmended = no_steps answers unmended
 
-AreUnmended-push : (answers : List Answer) (client : ClientNo) (ask : Ask) → AreUnmended answers → AreUnmended (answers ++ Unmended client ask ∷ [])
+pub AreUnmended-push : (answers : List Answer) (client : ClientNo) (ask : Ask) → AreUnmended answers → AreUnmended (answers ++ Unmended client ask ∷ [])
 AreUnmended-push [] client ask unmended = tt
 AreUnmended-push (Made other first reading said ∷ answers) client ask unmended = absurd unmended
 AreUnmended-push (Unmended other first ∷ answers) client ask unmended = AreUnmended-push answers client ask unmended
@@ -74,12 +74,14 @@ IsUncertain-more m answers client ask kept un = let a = Unmended client ask in r
   since = un.since ++ a ∷ [];
   split = ap (λ (l : List Answer). l ++ a ∷ []) un.split ∙ append_assoc un.before (Made un.client un.ask un.reading Disk ∷ un.since) (a ∷ []);
   unmended = AreUnmended-push un.since client ask un.unmended;
+  has_frame = un.has_frame;
   is_after = un.is_after;
 }
 
-IsUncertain-last : (m : State) (answers : List Answer) (client : ClientNo) (ask : Ask) (reading : ℕ) (kept : Kept) → IsAfter m (event_at client ask reading) kept
+IsUncertain-last : (m : State) (answers : List Answer) (client : ClientNo) (ask : Ask) (reading : ℕ) (kept : Kept) → HasFrame m (event_at client ask reading) → IsAfter m (event_at client ask reading) kept
     → IsUncertain m (answers ++ Made client ask reading Disk ∷ []) kept
-IsUncertain-last m answers client ask reading kept is = record { before = answers; client = client; ask = ask; reading = reading; since = []; split = refl; unmended = tt; is_after = is }
+IsUncertain-last m answers client ask reading kept has_frame is =
+    record { before = answers; client = client; ask = ask; reading = reading; since = []; split = refl; unmended = tt; has_frame = has_frame; is_after = is }
 
 -- the run came by what is kept after the step in doubt
 CameBy-uncertain : (m n : State) (answers : List Answer) (kept : Kept) → AreSteps m (flat_map steps_of answers) n → IsUncertain n answers kept → CameBy m answers kept
@@ -139,10 +141,10 @@ module _ (m n o : State) (answers : List Answer) (first old new : Meaning) (befo
   })
 
   -- this step is in doubt
-  doubt_comes : (client : ClientNo) (ask : Ask) (reading : ℕ) (kept : Kept) → o ≡ n → IsAfter n (event_at client ask reading) kept → IsStoodOn n.kept kept new after
+  doubt_comes : (client : ClientNo) (ask : Ask) (reading : ℕ) (kept : Kept) → o ≡ n → HasFrame n (event_at client ask reading) → IsAfter n (event_at client ask reading) kept → IsStoodOn n.kept kept new after
       → StandsFor o (answers ++ Made client ask reading Disk ∷ []) new after
-  doubt_comes client ask reading kept same is stood = subst (λ (s : State). StandsFor s (answers ++ Made client ask reading Disk ∷ []) new after) (sym same)
-      (record { doubted = kept; stood = stood; which = inr (IsUncertain-last n answers client ask reading kept is) })
+  doubt_comes client ask reading kept same has_frame is stood = subst (λ (s : State). StandsFor s (answers ++ Made client ask reading Disk ∷ []) new after) (sym same)
+      (record { doubted = kept; stood = stood; which = inr (IsUncertain-last n answers client ask reading kept has_frame is) })
 
   -- all the moments
   moments : (a : Answer) → LeavesSince (RecoversAlong m (answers ++ a ∷ [])) old new → LeavesSince (RecoversAlong m (answers ++ a ∷ [])) first new
@@ -186,7 +188,7 @@ module _ (m n o : State) (answers : List Answer) (first old new : Meaning) (befo
   a_fault client ask reading same makes = record {
     time = both_pass first old new disk.time time;
     any_moment = moments (Made client ask reading Disk) (made_moments client ask reading Disk (makes.any_moment disk.stands.doubted disk.stands.stood));
-    stands = let next = makes.doubts refl in doubt_comes client ask reading next.0 same next.1 next.2;
+    stands = let next = makes.doubts refl in doubt_comes client ask reading next.0 same (makes.wrote refl) next.1 next.2;
   }
 
   -- one step more

@@ -43,7 +43,7 @@ pub record RanSoFar {D C : Type 0} (means : Means D C) (count : ℕ) (opened her
 
 -- a store was opened, and nothing was taken yet
 pub RanSoFar-none : {D C : Type 0} (means : Means D C) (s : Stored D C) (p : Stretch) (a : Option (List ℕ)) (g : Option (List ℕ))
-    → CountsNow (means.meaning s.disk) → OnlyNow (means.meaning s.disk) → (means.told → s.seat.doubt ≡ Settled) → (means.told → IsKeptOn s.state.kept (means.meaning s.disk) s.seat)
+    → CountsNow (means.meaning s.disk) → OnlyNow (means.meaning s.disk) → s.seat.doubt ≡ Settled → (means.told → IsKeptOn s.state.kept (means.meaning s.disk) s.seat)
     → p.bytes ≡ [] → p.taken ≡ 0 → RanSoFar means 0 s s p a a g g
 RanSoFar-none means s p a g counts only settled kept none zero = record {
   lines = [];
@@ -362,7 +362,7 @@ module _ {D C : Type 0} (means : Means D C) where
 
   -- nothing was taken yet
   pub RanToFront-opened : (s : Stored D C) (a : Option (List ℕ)) (g : Option (List ℕ)) → CountsNow (means.meaning s.disk) → OnlyNow (means.meaning s.disk)
-      → (means.told → s.seat.doubt ≡ Settled) → (means.told → IsKeptOn s.state.kept (means.meaning s.disk) s.seat) → Ended-so Memory a a s s g g
+      → s.seat.doubt ≡ Settled → (means.told → IsKeptOn s.state.kept (means.meaning s.disk) s.seat) → Ended-so Memory a a s s g g
   RanToFront-opened s a g counts only settled kept =
       let nothing : Stretch = record { bytes = []; taken = 0 } in
       no_memory_before 0 s s nothing a a g g (RanSoFar-none means s nothing a g counts only settled kept refl refl) a

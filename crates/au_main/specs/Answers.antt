@@ -1,21 +1,17 @@
 -- What the asks of a script come to.
-use Rattle.std.specs.Prelude.{◌≡◌, ◌<◌, ◌≤◌, ℕ, ◌+◌, List, [], ◌∷◌, flat_map, length, Option, Some, None, ⊤}
+use Rattle.std.specs.Prelude.{◌≡◌, ℕ, List, [], ◌∷◌, ◌++◌, flat_map, Option, Some, None, ⊤}
 use Rattle.au_base.specs.declared.ask.Ask.{Ask}
 use Rattle.au_base.specs.declared.numbers.ClientNo.{ClientNo}
-use Rattle.au_base.specs.declared.reply.Reply.{Reply}
 use Rattle.au_base.specs.declared.reply.Said.{Said}
 use Rattle.au_base.specs.declared.reply.Said.TheVariants.{Replied, Disk, Full, Memory}
 use Rattle.au_http.specs.Replies.{said_text}
-use Rattle.au_io.specs.Faults.{HasRisen}
 use Rattle.au_io.specs.Time.{Ticking, after_reading}
-use Rattle.rec_codec.specs.declared.frame.Frame.{Frame}
-use Rattle.rec_codec.specs.Frames.{framed}
-use Rattle.au_engine.specs.State.{State}
-use Rattle.au_engine.specs.Step.{Event, Step}
 use Rattle.au_engine.specs.History.{Entry, Stepped}
 use Rattle.au_script.specs.declared.lines.ScriptLine.{ScriptLine}
 use Rattle.au_script.specs.declared.lines.ScriptLine.TheVariants as line
-use Rattle.au_store.specs.Steps.{EventWrites, event_at, written_length}
+use Rattle.au_store.specs.declared.entry.Entry.{Entry as Held}
+use Rattle.au_store.specs.declared.entry.Entry.TheVariants.{Faulted}
+use Rattle.au_store.specs.History.{StandsFor, Tells, first_of}
 use Rattle.au_store.specs.Stored.{Stored}
 use Rattle.au_main.specs.Lines.{with_end}
 use Rattle.au_main.specs.Means.{Means}
@@ -70,65 +66,39 @@ ReadAll None new readings = ⊤
 ReadAll (Some t) new [] = new ≡ Some t
 ReadAll (Some t) new (reading ∷ readings) = (reading ≡ t.next) × ReadAll (Some (after_reading t)) new readings
 
--- the state, the used length of the journal and its limit, and how often the disk has failed
-pub record Place : Type 0 where
-  pub state : State
-  pub used : ℕ
-  pub limit : ℕ
-  pub faults : ℕ
+-- the entries that the answer leaves in the store's history
+abbrev pub EntriesOf : Answer → List Held → Type 0
+EntriesOf (Made client ask reading said) made = Tells client ask reading said made
+EntriesOf (Unmended client ask) made = (count : ℕ) × (made ≡ Faulted client count ∷ [])
 
-abbrev pub place_of : {D C : Type 0} → Means D C → Stored D C → Place
-place_of means store = record { state = store.state; used = store.seat.used; limit = store.seat.limit; faults = means.faults store.disk }
+-- the answers, one after another, leave these entries
+abbrev pub AllEntriesOf : List Answer → List Held → Type 0
+AllEntriesOf [] entries = entries ≡ []
+AllEntriesOf (a ∷ answers) entries = (made rest : List Held) × EntriesOf a made × AllEntriesOf answers rest × (entries ≡ made ++ rest)
 
--- the frame, with one gate behind it, ends within the limit; without a frame nothing is needed
-abbrev pub FitsIn : Place → Option Frame → Type 0
-FitsIn p None = ⊤
-FitsIn p (Some frame) = p.used + length (framed frame) + 1 ≤ p.limit
+-- The store as it was opened, and the entries of the answers, are a legal list of the store: a reply is a step, and where
+-- the disk failed or the journal was full an entry of that stands in the step's place. The store stands for the list.
+pub record IsLegalBy {D C : Type 0} (means : Means D C) (opened here : Stored D C) (answers : List Answer) : Type 0 where
+  pub entries : List Held
+  pub of_answers : AllEntriesOf answers entries
+  pub stands : StandsFor means.faults here (first_of means.faults opened ++ entries)
 
--- the event's step was made: its frame ends within the limit, and the used length grew by it
-pub record IsStepped (p : Place) (event : Event) (reply : Reply) (q : Place) : Type 0 where
-  pub step : Step p.state event reply q.state
-  pub frame : Option Frame
-  pub writes : EventWrites p.state event q.state frame
-  pub within : FitsIn p frame
-  pub used : q.used ≡ p.used + written_length frame
-  pub limit : q.limit ≡ p.limit
-  pub faults : q.faults ≡ p.faults
+-- each of them is of a step that couldn't mend an earlier one's doubt
+abbrev pub AreUnmended : List Answer → Type 0
+AreUnmended [] = ⊤
+AreUnmended (Made client ask reading said ∷ answers) = ⊥
+AreUnmended (Unmended client ask ∷ answers) = AreUnmended answers
 
--- the disk failed once more, and the rest is as it was
-pub record IsFaulted (p q : Place) : Type 0 where
-  pub state : q.state ≡ p.state
-  pub used : q.used ≡ p.used
-  pub limit : q.limit ≡ p.limit
-  pub rose : HasRisen p.faults q.faults
+-- behind these answers a step is in doubt: it was tried and the disk failed, and no step since could mend that
+pub record LeavesDoubt (answers : List Answer) : Type 0 where
+  pub before : List Answer
+  pub client : ClientNo
+  pub ask : Ask
+  pub reading : ℕ
+  pub since : List Answer
+  pub split : answers ≡ before ++ Made client ask reading Disk ∷ since
+  pub unmended : AreUnmended since
 
-pub record IsStill (p q : Place) : Type 0 where
-  pub state : q.state ≡ p.state
-  pub used : q.used ≡ p.used
-  pub limit : q.limit ≡ p.limit
-  pub faults : q.faults ≡ p.faults
-
--- the event has a frame, which with one gate behind it needs so much, over the limit
-pub record IsFilled (p : Place) (event : Event) (needed limit : ℕ) : Type 0 where
-  pub after : State
-  pub frame : Frame
-  pub writes : EventWrites p.state event after (Some frame)
-  pub needs : needed ≡ p.used + length (framed frame) + 1
-  pub bound : limit ≡ p.limit
-  pub exceeds : limit < needed
-
--- what was said to the event takes the place p to q: a full journal is told exactly where the frame doesn't fit
-abbrev pub SaidGoes : Place → Event → Said → Place → Type 0
-SaidGoes p event (Replied reply) q = IsStepped p event reply q
-SaidGoes p event Disk q = IsFaulted p q
-SaidGoes p event (Full needed limit) q = IsFilled p event needed limit × IsStill p q
-SaidGoes p event Memory q = IsStill p q
-
-abbrev pub Goes : Place → Answer → Place → Type 0
-Goes p (Made client ask reading said) q = SaidGoes p (event_at client ask reading) said q
-Goes p (Unmended client ask) q = IsFaulted p q
-
--- the answers, one after another, take the place p to q
-abbrev pub GoesOver : Place → List Answer → Place → Type 0
-GoesOver p [] q = q ≡ p
-GoesOver p (a ∷ answers) q = (between : Place) × Goes p a between × GoesOver between answers q
+-- no step failed to mend but where one is in doubt
+abbrev pub UnmendedInDoubt : List Answer → Type 0
+UnmendedInDoubt answers = (before rest : List Answer) (client : ClientNo) (ask : Ask) → answers ≡ before ++ Unmended client ask ∷ rest → LeavesDoubt before

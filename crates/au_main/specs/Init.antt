@@ -4,7 +4,7 @@ use Rattle.au_io.specs.Disk.{Meaning, Stays}
 use Rattle.au_io.specs.Faults.{HasRisen}
 use Rattle.au_io.specs.Moments.{Leaves, LeavesSince}
 use Rattle.au_journal.specs.Creation.{IsSelectedFormatted, OthersAreBlank}
-use Rattle.au_journal.specs.Walk.{IsUnformatted}
+use Rattle.au_journal.specs.Walk.{IsStill, IsUnformatted}
 use Rattle.au_engine.specs.Opening.{opening}
 use Rattle.au_store.specs.Creating.{CreateLeaves, IsMade}
 use Rattle.au_main.specs.declared.status.Status.{Status}
@@ -16,10 +16,11 @@ pub record IsCreated (told : Type 0) (password : List ℕ) (limit : ℕ) (old ne
   pub made : told → Leaves (IsMade limit (opening password)) new
   pub well : now ≡ before
 
--- the disk was formatted, and is as it was
+-- the disk was formatted, and is as it was; all that it holds is synced
 pub record IsKeptFormatted (told : Type 0) (old new : Meaning) (before now : ℕ) : Type 0 where
   pub formatted : told → IsSelectedFormatted old.reads
   pub stays : Stays old new
+  pub synced : IsStill new
   pub well : now ≡ before
 
 -- what comes of making a store with this password and limit, by how it ends; no other end comes

@@ -1,5 +1,5 @@
 -- What a crash leaves of a run.
-use Rattle.std.specs.Prelude.{◌≡◌, ◌≢◌, ◌⊎◌, ℕ, List, [], ◌∷◌, ◌++◌, flat_map, ⊤}
+use Rattle.std.specs.Prelude.{◌≡◌, ◌≢◌, ◌⊎◌, ℕ, List, [], ◌∷◌, ◌++◌, flat_map}
 use Rattle.au_base.specs.declared.ask.Ask.{Ask}
 use Rattle.au_base.specs.declared.numbers.ClientNo.{ClientNo}
 use Rattle.au_base.specs.declared.reply.Said.{Said}
@@ -14,16 +14,10 @@ use Rattle.au_engine.specs.History.{AreSteps}
 use Rattle.au_engine.specs.State.{State}
 use Rattle.au_engine.specs.Step.{Event}
 use Rattle.au_store.specs.Recovery.{RecoversTo, RecoversToEither}
-use Rattle.au_store.specs.Doubts.{IsAfter, IsStoodOn}
+use Rattle.au_store.specs.Doubts.{HasFrame, IsAfter, IsStoodOn}
 use Rattle.au_store.specs.Steps.{StepDoubts, StepLeaves, event_at}
 use Rattle.au_store.specs.Stored.{IsKeptOn}
-use Rattle.au_main.specs.Answers.{Answer, Made, Unmended, steps_of}
-
--- each of them is of a step that couldn't mend an earlier one's doubt
-abbrev pub AreUnmended : List Answer → Type 0
-AreUnmended [] = ⊤
-AreUnmended (Made client ask reading said ∷ answers) = ⊥
-AreUnmended (Unmended client ask ∷ answers) = AreUnmended answers
+use Rattle.au_main.specs.Answers.{Answer, AreUnmended, Made, Unmended, steps_of}
 
 -- the first step that is still to come is tried, and this is kept after its event
 abbrev pub IsTried : State → List Answer → Kept → Type 0
@@ -44,7 +38,8 @@ pub record CameBy (m : State) (answers : List Answer) (kept : Kept) : Type 0 whe
 abbrev pub RecoversAlong : State → List Answer → Areas → Type 0
 RecoversAlong m answers all = (kept : Kept) × CameBy m answers kept × RecoversTo kept all
 
--- a step is in doubt, and this is kept after its event: it was tried and the disk failed, and no step since could mend that
+-- a step is in doubt, and this is kept after its event: it was tried with a frame to write, the disk failed, and no step
+-- since could mend that
 pub record IsUncertain (m : State) (answers : List Answer) (kept : Kept) : Type 0 where
   pub before : List Answer
   pub client : ClientNo
@@ -53,6 +48,7 @@ pub record IsUncertain (m : State) (answers : List Answer) (kept : Kept) : Type 
   pub since : List Answer
   pub split : answers ≡ before ++ Made client ask reading Disk ∷ since
   pub unmended : AreUnmended since
+  pub has_frame : HasFrame m (event_at client ask reading)
   pub is_after : IsAfter m (event_at client ask reading) kept
 
 -- the areas recover to what is kept in m, or, where a step is in doubt, to what is kept after it
@@ -76,6 +72,7 @@ pub record IsOnDisk (m n : State) (answers : List Answer) (old new : Meaning) (s
 pub record MakesOnDisk (m n : State) (event : Event) (said : Said) (old new : Meaning) (before after : Seat) : Type 0 where
   pub settled : said ≢ Disk → after.doubt ≡ Settled
   pub kept : said ≢ Disk → IsKeptOn n.kept new after
+  pub wrote : said ≡ Disk → HasFrame m event
   pub doubts : said ≡ Disk → StepDoubts m event new after
   pub any_moment : (doubted : Kept) → IsStoodOn m.kept doubted old before → LeavesSince (StepLeaves m event doubted) old new
 

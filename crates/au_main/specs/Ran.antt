@@ -1,5 +1,5 @@
 -- How a run over the lines of a script goes.
-use Rattle.std.specs.Prelude.{◌≡◌, ◌⊎◌, ℕ, ◌+◌, ◌<◌, List, [], ◌∷◌, ◌++◌, length, map, flat_map, Option, IfSome}
+use Rattle.std.specs.Prelude.{◌≡◌, ◌≢◌, ◌⊎◌, ℕ, ◌+◌, ◌<◌, List, [], ◌∷◌, ◌++◌, length, map, flat_map, Option, IfSome}
 use Rattle.std.specs.List.{AllZip}
 use Rattle.std.specs.Io.KnownBytes.{Consumes, Appends, IsAtEnd}
 use Rattle.au_io.specs.Areas.{Areas}
@@ -7,16 +7,17 @@ use Rattle.au_io.specs.Disk.{Meaning}
 use Rattle.au_io.specs.Faults.{HasRisen}
 use Rattle.au_io.specs.Moments.{Leaves, LeavesSince}
 use Rattle.au_io.specs.Time.{Reads}
+use Rattle.au_journal.specs.declared.doubt.Doubt.TheVariants.{Settled}
 use Rattle.au_engine.specs.History.{IsHistory, Opened}
 use Rattle.au_engine.specs.State.{State}
 use Rattle.au_script.specs.declared.lines.ScriptLine.{ScriptLine}
 use Rattle.au_store.specs.declared.open_fault.OpenFault.{OpenFault}
 use Rattle.au_store.specs.declared.open_fault.OpenFault.TheVariants as fault
-use Rattle.au_store.specs.Starting.{IsOpened, NoneIsBare, OpenCause, OpenLeaves, OpenSays}
+use Rattle.au_store.specs.Starting.{IsOpened, IsSeated, NoneIsBare, OpenCause, OpenLeaves, OpenSays, OpensInVain}
 use Rattle.au_store.specs.Stored.{Stored}
 use Rattle.au_main.specs.declared.status.Status.{Status}
 use Rattle.au_main.specs.declared.status.Status.TheVariants.{Done, Usage, ReadFault, WriteFault, DiskFault, Unformatted, Formatted, Damaged, BadLine, TooLong, LobbyFault, Memory, Worn}
-use Rattle.au_main.specs.Answers.{Answer, GoesOver, ReadAll, asked, asks_of, place_of, readings_of, steps_of, texts}
+use Rattle.au_main.specs.Answers.{Answer, IsLegalBy, LeavesDoubt, ReadAll, UnmendedInDoubt, asked, asks_of, readings_of, steps_of, texts}
 use Rattle.au_main.specs.Built.{IsScriptLine, IsNoScriptLine}
 use Rattle.au_main.specs.Given.{AppendsFront}
 use Rattle.au_main.specs.Lines.{AreLines, ended, last_line, BeginsWithLines, script_limit}
@@ -26,15 +27,16 @@ use Rattle.au_main.specs.Serving.{FoundNoMemory, Served, ServedInPart, Stays}
 
 -- These lines were done in the store as it was opened, and it went on to what it is now. Each ask has one answer, at the
 -- clock's next reading unless an earlier step's doubt couldn't be mended. The opened state and the steps that were replied
--- to, in order, are a history that ends in the state; and the answers, each in its place, lead from the used length and
--- the count of faults at the opening to those of now.
+-- to, in order, are a history that ends in the state; and the answers, each in its place, are a legal list of the store.
 pub record Ran {D C : Type 0} (means : Means D C) (lines : List (List ℕ)) (opened here : Stored D C) (answers : List Answer) (text : List ℕ) : Type 0 where
   pub script : List ScriptLine
   pub spelled : AllZip IsScriptLine lines script
   pub asks : map asked answers ≡ asks_of script
   pub read : ReadAll (means.ticking opened.clock) (means.ticking here.clock) (flat_map readings_of answers)
   pub history : IsHistory (Opened opened.state ∷ flat_map steps_of answers) here.state
-  pub goes : GoesOver (place_of means opened) answers (place_of means here)
+  pub legal : IsLegalBy means opened here answers
+  pub unmended : UnmendedInDoubt answers
+  pub in_doubt : here.seat.doubt ≢ Settled → LeavesDoubt answers
   pub on_disk : means.told → IsOnDisk opened.state here.state answers (means.meaning opened.disk) (means.meaning here.disk) here.seat
   pub text_is : text ≡ texts answers
 
@@ -147,13 +149,14 @@ status_of fault.Memory = Memory
 abbrev pub RunLeaves : Meaning → ℕ → State → List Answer → Areas → Type 0
 RunLeaves old reading opened answers all = OpenLeaves old reading all ⊎ RecoversAlong opened answers all
 
--- a store was opened on the disk at the clock's next reading, as the next instance over what the disk recovers to; the
--- lines of the source were done in it up to this end, and disk and clock came back
+-- a store was opened on the disk at the clock's next reading, as the next instance over what the disk recovers to, in the
+-- area that is selected there, behind what stands there and under its limit; the lines of the source were done in it up to this end, and disk and clock came back
 pub record HasRun {D C : Type 0} (means : Means D C) (status : Status) (left now : Option (List ℕ)) (disk last : D) (clock clocked : C) (given gave : Option (List ℕ)) : Type 0 where
   pub opened : Stored D C
   pub closed : Stored D C
   pub answers : List Answer
   pub begins : means.told → IsOpened (means.meaning disk).reads opened.reading opened.state
+  pub seated : means.told → IsSeated (means.meaning disk).reads opened.reading opened.seat
   pub read : Reads (means.ticking clock) (means.ticking opened.clock) opened.reading
   pub well : means.faults opened.disk ≡ means.faults disk
   pub ran : RanTo means status left now opened closed answers given gave
@@ -163,11 +166,10 @@ pub record HasRun {D C : Type 0} (means : Means D C) (status : Status) (left now
   pub any_moment : means.told → NoneIsBare (means.meaning disk) → LeavesSince (RunLeaves (means.meaning disk) opened.reading opened.state answers) (means.meaning disk) (means.meaning last)
   pub at_last : means.told → Leaves (RecoversAfter closed.state answers) (means.meaning last)
 
--- no store was opened, and why; the clock was read once at most
+-- no store was opened, and why; and what that left of the clock and the disk
 pub record IsUnopened {D C : Type 0} (means : Means D C) (status : Status) (disk last : D) (clock clocked : C) : Type 0 where
   pub why : OpenFault
   pub status_is : status ≡ status_of why
   pub says : means.told → OpenSays (means.meaning disk).reads why
-  pub read : (clocked ≡ clock) ⊎ ((reading : ℕ) × Reads (means.ticking clock) (means.ticking clocked) reading)
+  pub in_vain : OpensInVain means.told means.meaning means.ticking disk last clock clocked why
   pub cause : OpenCause why (means.faults disk) (means.faults last)
-  pub any_moment : means.told → NoneIsBare (means.meaning disk) → (reading : ℕ) × LeavesSince (OpenLeaves (means.meaning disk) reading) (means.meaning disk) (means.meaning last)

@@ -1,23 +1,42 @@
 -- What serving a line comes to, over a store.
-use Rattle.std.specs.Prelude.{◌≡◌, ◌⊎◌, ℕ, List, [], Option}
+use Rattle.std.specs.Prelude.{◌≡◌, ◌≢◌, ◌⊎◌, ℕ, List, [], ◌++◌, Option}
 use Rattle.std.specs.Io.KnownBytes.{Appends}
 use Rattle.au_base.specs.declared.ask.Ask.{Ask}
 use Rattle.au_base.specs.declared.reply.Said.{Said}
+use Rattle.au_base.specs.declared.reply.Said.TheVariants.{Disk}
 use Rattle.au_io.specs.Disk.{Passes}
+use Rattle.au_journal.specs.declared.doubt.Doubt.TheVariants.{Settled}
+use Rattle.au_journal.specs.declared.seat.Seat.{Seat}
+use Rattle.au_engine.specs.State.{State}
 use Rattle.au_script.specs.declared.lines.ScriptLine.{ScriptLine}
 use Rattle.au_script.specs.declared.lines.ScriptLine.TheVariants as line
+use Rattle.au_store.specs.declared.entry.Entry.{Entry as Held}
+use Rattle.au_store.specs.History.{StandsFor}
+use Rattle.au_store.specs.Steps.{StepsBy, event_at}
 use Rattle.au_store.specs.Stored.{Stored}
-use Rattle.au_main.specs.Answers.{Answer, Goes, ReadAll, asked, line_of, place_of, readings_of, said_of}
+use Rattle.au_main.specs.Answers.{Answer, EntriesOf, Made, ReadAll, Unmended, asked, line_of, readings_of, said_of}
 use Rattle.au_main.specs.Built.{IsScriptLine}
 use Rattle.au_main.specs.Given.{AppendsFront}
 use Rattle.au_main.specs.Means.{Means}
 use Rattle.au_main.specs.OnDisk.{StepsOnDisk}
 
+-- the state by the answer: a reply is a step, and at any other answer it stays
+abbrev pub StateBy : State → Answer → State → Type 0
+StateBy m (Made client ask reading said) n = StepsBy m (event_at client ask reading) said n
+StateBy m (Unmended client ask) n = n ≡ m
+
+-- whether a step is in doubt by the answer: none is, unless the disk failed; what couldn't mend leaves the doubt that stood
+abbrev pub DoubtBy : Answer → Seat → Seat → Type 0
+DoubtBy (Made client ask reading said) s t = said ≢ Disk → t.doubt ≡ Settled
+DoubtBy (Unmended client ask) s t = (s.doubt ≢ Settled) × (t ≡ s)
+
 -- an ask of client 1 is answered so, and the store goes from s to t
 pub record Answers {D C : Type 0} (means : Means D C) (s t : Stored D C) (ask : Ask) (answer : Answer) : Type 0 where
   pub asks : asked answer ≡ (1, ask)
   pub read : ReadAll (means.ticking s.clock) (means.ticking t.clock) (readings_of answer)
-  pub goes : Goes (place_of means s) answer (place_of means t)
+  pub state : StateBy s.state answer t.state
+  pub history : (entries : List Held) → StandsFor means.faults s entries → (made : List Held) × EntriesOf answer made × StandsFor means.faults t (entries ++ made)
+  pub doubt : DoubtBy answer s.seat t.seat
   pub on_disk : means.told → StepsOnDisk s.state t.state answer (means.meaning s.disk) (means.meaning t.disk) s.seat t.seat
   pub time : Passes (means.meaning s.disk) (means.meaning t.disk)
 

@@ -1,5 +1,5 @@
 -- What a mend and an append make of what a journal stands on, for any property of its bodies.
-use Rattle.std.proofs.Common.{◌≡◌, inl, inr, ⊎_elim, ℕ, ◌≤◌, arith, Bool, false, List, [], ◌∷◌, ◌++◌, refl, sym, ◌∙◌, ap, subst}
+use Rattle.std.proofs.Common.{◌≡◌, ◌≢◌, inl, inr, ⊎_elim, ℕ, ◌≤◌, arith, Bool, false, List, [], ◌∷◌, ◌++◌, refl, sym, ◌∙◌, ap, subst}
 use Rattle.au_io.specs.declared.disk.Area.{Area}
 use Rattle.au_io.specs.Areas.{Areas, area_of}
 use Rattle.au_io.specs.Disk.{Meaning, Passes}
@@ -9,7 +9,7 @@ use Rattle.au_journal.specs.declared.doubt.Doubt.TheVariants.{Settled, Body, Gat
 use Rattle.au_journal.specs.declared.seat.Seat.{Seat}
 use Rattle.au_journal.specs.Frames.{front, IsLimit, AreSome}
 use Rattle.au_journal.specs.Images.{Closed, EndsIn, In, MayStandFor, StandsGated}
-use Rattle.au_journal.specs.Seats.{IsIn, IsSettled, IsDoubted, MayLeave, advanced, bare_after, mend_bytes, mended, there_of}
+use Rattle.au_journal.specs.Seats.{AppendDoubts, IsIn, IsSettled, IsDoubted, MayLeave, advanced, bare_after, mended, there_of}
 use Rattle.au_store.specs.Standing.{Holds, HoldsEither, IsKept, IsInDoubt, StandsOn}
 
 -- a closed gate behind the bodies
@@ -53,13 +53,14 @@ either_since P Q seat bodies there others old new gated so so_then leaves =
 
 -- after a call that left a write in doubt
 pub left_in_doubt : (P Q : List (List ℕ) → Type 0) (old new : Meaning) (seat : Seat) (bodies others : List (List ℕ)) → CountsNow new → Passes old new
-    → IsDoubted new seat bodies others → P bodies → Q others → LeavesSince (HoldsEither P Q) old new → IsInDoubt P Q new seat
-left_in_doubt P Q old new seat bodies others counts time doubted so so_then leaves = record {
+    → IsDoubted new seat bodies others → P bodies → Q others → seat.doubt ≢ Settled → LeavesSince (HoldsEither P Q) old new → IsInDoubt P Q new seat
+left_in_doubt P Q old new seat bodies others counts time doubted so so_then unsettled leaves = record {
   bodies = bodies;
   others = others;
   doubted = doubted;
   so = so;
   so_then = so_then;
+  unsettled = unsettled;
   leaves = at_last (HoldsEither P Q) old new counts time leaves;
 }
 
@@ -79,15 +80,6 @@ gated_after Gate bare is = is
 gated_after Edge bare is = refl
 gated_after Other bare is = is
 gated_after Head bare is = is
-
--- and writes one byte at most
-pub mend_writes : (doubt : Doubt) → mend_bytes doubt ≤ 1
-mend_writes Settled = omega arith
-mend_writes Body = omega arith
-mend_writes Gate = omega arith
-mend_writes Edge = omega arith
-mend_writes Other = omega arith
-mend_writes Head = omega arith
 
 module _ (P Q : List (List ℕ) → Type 0) (old new : Seat) (gated : old.bare ≡ false) where
   -- where no body is in doubt
@@ -134,8 +126,12 @@ module _ (P Q : List (List ℕ) → Type 0) (old new : Seat) (gated : old.bare �
         subst (λ (s : Seat). StandsOn P Q (meaning after) s) (sym is)
         (subst (λ (d : D). StandsOn P Q (meaning d) old) (sym (still kept.0)) (inl kept)))
         (λ (doubt : IsInDoubt P Q (meaning before) old).
-        inr (left_in_doubt P Q (meaning before) (meaning after) new doubt.bodies doubt.others counts time (doubted doubt.bodies doubt.others doubt.doubted) doubt.so doubt.so_then leaves))
+        inr (left_in_doubt P Q (meaning before) (meaning after) new doubt.bodies doubt.others counts time (doubted doubt.bodies doubt.others doubt.doubted) doubt.so doubt.so_then (subst (λ (s : Seat). s.doubt ≢ Settled) (sym is) doubt.unsettled) leaves))
         stands
+
+-- an append that failed leaves a doubt
+pub append_unsettled : (doubt : Doubt) → AppendDoubts doubt → doubt ≢ Settled
+append_unsettled doubt doubts is = subst AppendDoubts is doubts
 
 -- after an append that is done
 pub appended_kept : (P : List (List ℕ) → Type 0) (n : Meaning) (seat : Seat) (bodies : List (List ℕ)) (body : List ℕ) (size : ℕ) (old : Seat)

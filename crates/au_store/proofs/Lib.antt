@@ -1,6 +1,7 @@
 pub mod Begun
 pub mod Exclusive
 pub mod Frames
+pub mod Going
 pub mod Keeping
 pub mod Once
 pub mod Opening

@@ -4,8 +4,7 @@ use Rattle.au_entries.specs.declared.kept.Kept.{Kept}
 use Rattle.au_io.specs.declared.disk.Area.{Area}
 use Rattle.au_io.specs.Areas.{Areas, area_of, IsBounded}
 use Rattle.au_journal.specs.Frames.{front, Stands}
-use Rattle.au_journal.specs.Images.{In}
-use Rattle.au_journal.proofs.Ends.{closed_not_bare, selects_once, stands_once}
+use Rattle.au_journal.specs.Images.{Closed, In, Selects}
 use Rattle.au_store.specs.Opened.{IsBare}
 use Rattle.au_store.specs.Recovery.{ReadsAs, RecoversTo, Replayed}
 use Rattle.au_store.proofs.Reading.{OneFront, replayed_once}
@@ -13,7 +12,19 @@ use Rattle.au_store.proofs.Reading.{OneFront, replayed_once}
 below : (all : Areas) (area : Area) → IsBounded all → length (area_of area all) < 2 ^ 64
 below all area bounded = let small = bounded.each area in omega (arith, small)
 
-module _ (all : Areas) (bounded : IsBounded all) where
+-- an area holds one list of bodies
+abbrev pub OneList : Type 0
+OneList = (limit other : ℕ) (bodies others : List (List ℕ)) (area : List ℕ) → length area < 2 ^ 64 → Stands limit bodies area → Stands other others area → bodies ≡ others
+
+-- behind a closed gate it doesn't end where bodies end
+abbrev pub NotBare : Type 0
+NotBare = (limit other : ℕ) (bodies others : List (List ℕ)) (area : List ℕ) → length area < 2 ^ 64 → Closed (front limit bodies) area → area ≡ front other others → ⊥
+
+-- Head selects one area
+abbrev pub OneSelected : Type 0
+OneSelected = (a b : Area) (head : List ℕ) → Selects a head → Selects b head → a ≡ b
+
+module _ (stands_once : OneList) (closed_not_bare : NotBare) (selects_once : OneSelected) (all : Areas) (bounded : IsBounded all) where
   -- a selected area holds one list of bodies
   bodies_once : (a b : Area) (limit other : ℕ) (bodies others : List (List ℕ)) → In a (Stands limit bodies) all → In b (Stands other others) all → bodies ≡ others
   bodies_once a b limit other bodies others one two =

@@ -1,13 +1,14 @@
 -- From what a walk reads to what is said of a store that is opened, over plain variables.
-use Rattle.std.proofs.Common.{◌≡◌, inl, inr, ℕ, ◌+◌, ◌≤◌, ◌<◌, ◌^◌, Bool, true, false, List, [], ◌∷◌, ◌++◌, length, refl, sym, ◌∙◌, ap, subst, arith, append_assoc, length-append}
+use Rattle.std.proofs.Common.{◌≡◌, inl, inr, ℕ, ◌+◌, ◌≤◌, ◌<◌, ◌^◌, Bool, true, false, List, [], ◌∷◌, ◌++◌, length, Option, refl, sym, ◌∙◌, ap, subst, arith, append_assoc, length-append}
 use Rattle.std.proofs.lemmas.List.{append-nil, append_cancel_left}
 use Rattle.au_entries.specs.declared.kept.Kept.{Kept}
 use Rattle.au_io.specs.declared.disk.Area.{Area}
 use Rattle.au_io.specs.Areas.{Areas, area_of, IsBounded}
 use Rattle.au_io.specs.Disk.{Meaning, Passes, Stays}
 use Rattle.au_io.specs.Moments.{CountsNow, LeavesSince, OnlyNow, both_calls, weaker_since}
+use Rattle.au_io.specs.Time.{Ticking}
 use Rattle.au_journal.specs.declared.seat.Seat.{Seat}
-use Rattle.au_journal.specs.Frames.{frame, front, header, IsLimit, IsOpen, IsShut, AreSome, Stands}
+use Rattle.au_journal.specs.Frames.{frame, front, header, spelled, IsLimit, IsOpen, IsShut, AreSome, Stands}
 use Rattle.au_journal.specs.Images.{In, EndsIn}
 use Rattle.au_journal.specs.Seats.{IsSettled, gate_bytes}
 use Rattle.au_journal.specs.Walk.{IsMounted, IsWalked, MountSays, WalkSays}
@@ -17,7 +18,6 @@ use Rattle.au_journal.specs.declared.mount_fault.MountFault.TheVariants as mount
 use Rattle.au_base.specs.declared.limits.TheConstants.{INSTANCES}
 use Rattle.au_store.specs.declared.open_fault.OpenFault.{OpenFault}
 use Rattle.au_store.specs.declared.open_fault.OpenFault.TheVariants as fault
-use Rattle.au_journal.proofs.Standing.{front-push, front-nil, length-spelled}
 use Rattle.rec_codec.specs.declared.frame.Frame.{Frame}
 use Rattle.rec_codec.specs.declared.frame.Frame.TheVariants.{Image, Event, Purge}
 use Rattle.rec_codec.specs.Frames.{IsFrame, IsSpellable, spelled as frame_body}
@@ -29,7 +29,15 @@ use Rattle.au_store.specs.Recovery.{BeginsBy, GoesOnBy, GoesOnTo, ReadsAs, Recov
 use Rattle.rec_codec.specs.Frames.{framed}
 use Rattle.au_engine.specs.Returning.{start_frame}
 use Rattle.au_store.specs.Steps.{IsMovedTo}
-use Rattle.au_store.specs.Starting.{IsOpened, IsRead, IsSeated, NoneIsBare, OpenCause, OpenLeaves, OpenSays, StartSays, fault_of}
+use Rattle.au_store.specs.Starting.{BeginsInVain, IsOpened, IsRead, IsSeated, NoneIsBare, OpenCause, OpenLeaves, OpenSays, OpensInVain, StartSays, fault_of}
+
+-- frames stand one behind another
+abbrev pub Pushed : Type 0
+Pushed = (limit : ℕ) (bodies : List (List ℕ)) (body : List ℕ) → front limit (bodies ++ body ∷ []) ≡ front limit bodies ++ frame body
+
+-- a spelled body has its length before it
+abbrev pub Sized : Type 0
+Sized = (body : List ℕ) → length (spelled body) ≡ 8 + length body
 
 -- no body begins another
 abbrev pub OneFront : Type 0
@@ -89,7 +97,7 @@ cannot_follow one_front (first ∷ bodies) kept body so never = λ other next th
     never next (subst (λ (k : Kept). GoesOnBy k body next) (replayed_once one_front (first ∷ bodies) other kept there so) by)
 
 -- the area, where one more body was walked
-module _ (old new : Meaning) (s t : Seat) (bodies : List (List ℕ)) (body : List ℕ) (reads : new.reads ≡ old.reads) (area : t.area ≡ s.area) (limit : t.limit ≡ s.limit)
+module _ (pushed : Pushed) (sized : Sized) (old new : Meaning) (s t : Seat) (bodies : List (List ℕ)) (body : List ℕ) (reads : new.reads ≡ old.reads) (area : t.area ≡ s.area) (limit : t.limit ≡ s.limit)
     (walked : IsWalked old s bodies) (then : IsWalked new t (bodies ++ body ∷ [])) where
   more_split : area_of s.area old.reads ≡ front s.limit bodies ++ (frame body ++ then.rest)
   more_split =
@@ -97,7 +105,7 @@ module _ (old new : Meaning) (s t : Seat) (bodies : List (List ℕ)) (body : Lis
       ∙ ap (λ (a : Area). area_of a new.reads) (sym area)
       ∙ then.split
       ∙ ap (λ (l : ℕ). front l (bodies ++ body ∷ []) ++ then.rest) limit
-      ∙ ap (λ (l : List ℕ). l ++ then.rest) (front-push s.limit bodies body)
+      ∙ ap (λ (l : List ℕ). l ++ then.rest) (pushed s.limit bodies body)
       ∙ append_assoc (front s.limit bodies) (frame body) then.rest
 
   pub body_damage : (at : ℕ) → at ≡ s.used → AreReplayable bodies → CannotFollow bodies body → IsFrameDamage old.reads s.area at
@@ -117,8 +125,8 @@ module _ (old new : Meaning) (s t : Seat) (bodies : List (List ℕ)) (body : Lis
 
   pub next_place : (at next : ℕ) → at ≡ s.used → IsBounded new.reads → (at + 9 + length body ≤ 2 ^ 62 → next ≡ at + 9 + length body) → next ≡ t.used
   next_place at next place bounded is =
-      let sizes = ap length (front-push t.limit bodies body) ∙ length-append (front t.limit bodies) (frame body) in
-      let there : at + 9 + length body ≡ t.used = omega (arith, place, walked.placed.place, ap (λ (l : ℕ). length (front l bodies)) limit, then.placed.place, sizes, length-spelled body) in
+      let sizes = ap length (pushed t.limit bodies body) ∙ length-append (front t.limit bodies) (frame body) in
+      let there : at + 9 + length body ≡ t.used = omega (arith, place, walked.placed.place, ap (λ (l : ℕ). length (front l bodies)) limit, then.placed.place, sizes, sized body) in
       let fits : t.used ≤ 2 ^ 62 = omega (arith, then.placed.place, ap length then.split, length-append (front t.limit (bodies ++ body ∷ [])) then.rest, bounded.each t.area) in
       is (omega (arith, there, fits)) ∙ there
 
@@ -171,10 +179,13 @@ never_empty old new s t reads area limit mounted settled image =
     let same = append_cancel_left (front s.limit []) mounted.walked.rest stands.rest split in
     open_or_shut stands.rest (subst IsOpen same mounted.opens) stands.shut
 
+front_nil : (limit : ℕ) → length (front limit []) ≡ 13
+unfolding front
+front_nil limit = refl
+
 pub first_place : (m : Meaning) (seat : Seat) → IsWalked m seat [] → 13 ≡ seat.used
 first_place m seat walked =
-    let size : length (header seat.limit) ≡ 13 = refl in
-    sym (walked.placed.place ∙ ap length (front-nil seat.limit) ∙ size)
+    sym (walked.placed.place ∙ front_nil seat.limit)
 
 -- at any moment of the walk, and of the append behind it
 pub open_leaves : (old mid new : Meaning) (kept : Kept) (reading : ℕ) → Stays old mid → Passes mid new → ReadsAs kept old.reads
@@ -182,6 +193,28 @@ pub open_leaves : (old mid new : Meaning) (kept : Kept) (reading : ℕ) → Stay
 open_leaves old mid new kept reading stays time recovers leaves =
     both_calls (OpenLeaves old reading) old mid new stays.time time (λ c since. inl (stays.images c since))
     (weaker_since (RecoversToEither kept (start kept reading).kept) (OpenLeaves old reading) mid new (λ c either. inr (kept, recovers, either)) leaves)
+
+-- where no store was opened, before the clock was read
+pub unread_in_vain : {D C : Type 0} (told : Type 0) (meaning : D → Meaning) (ticking : C → Option Ticking) (disk last : D) (clock clocked : C) (why : OpenFault)
+    → clocked ≡ clock → Stays (meaning disk) (meaning last) → OpensInVain told meaning ticking disk last clock clocked why
+unread_in_vain told meaning ticking disk last clock clocked fault.Disk same stays = inl (same, stays)
+unread_in_vain told meaning ticking disk last clock clocked fault.Unformatted same stays = (same, stays)
+unread_in_vain told meaning ticking disk last clock clocked (fault.Damaged area at) same stays = (same, stays)
+unread_in_vain told meaning ticking disk last clock clocked fault.Worn same stays = (same, stays)
+unread_in_vain told meaning ticking disk last clock clocked fault.Memory same stays = (inl same, stays)
+
+-- and over what was replayed
+module _ {D C : Type 0} (told : Type 0) (meaning : D → Meaning) (ticking : C → Option Ticking) (disk mid last : D) (clock clocked : C) (kept : Kept) (gated : Type 0)
+    (stays : Stays (meaning disk) (meaning mid)) (time : Passes (meaning mid) (meaning last)) (recovers : told → ReadsAs kept (meaning disk).reads) (gates : told → NoneIsBare (meaning disk) → gated) where
+  stays_to : last ≡ mid → Stays (meaning disk) (meaning last)
+  stays_to same = subst (λ (d : D). Stays (meaning disk) (meaning d)) (sym same) stays
+
+  pub opens_in_vain : (why : OpenFault) → BeginsInVain told meaning ticking kept gated mid last clock clocked why → OpensInVain told meaning ticking disk last clock clocked why
+  opens_in_vain fault.Disk vain = inr (vain.0, vain.1, λ tells none. open_leaves (meaning disk) (meaning mid) (meaning last) kept vain.0 stays time (recovers tells) (vain.2 tells (gates tells none)))
+  opens_in_vain fault.Unformatted vain = (vain.0, stays_to vain.1)
+  opens_in_vain (fault.Damaged area at) vain = (vain.0, stays_to vain.1)
+  opens_in_vain fault.Worn vain = (vain.0, stays_to vain.1)
+  opens_in_vain fault.Memory vain = (vain.0, stays_to vain.1)
 
 -- no call of the disk changes nothing
 pub stays_same : (m : Meaning) → CountsNow m → OnlyNow m → Stays m m

@@ -18,9 +18,9 @@ use Rattle.au_journal.specs.Seats.{IsFullAt, mended, needed_of}
 use Rattle.rec_codec.specs.declared.frame.Frame.{Frame}
 use Rattle.rec_codec.specs.Frames.{framed}
 use Rattle.au_store.specs.Recovery.{RecoversTo, RecoversToEither}
-use Rattle.au_store.specs.Doubts.{IsAfter}
+use Rattle.au_store.specs.Doubts.{EventWrites, HasFrame, IsAfter}
 use Rattle.au_store.specs.Stored.{IsKeptOn}
-use Rattle.au_store.specs.Steps.{EventWrites, Exceeds, EventCosts, FitsUnder, IsMoved, IsMovedTo, IsWithin, MakesBy, StepCosts, StepLeaves, StepMoves, StepsBy, append_cost, growth, step_cost, written_length}
+use Rattle.au_store.specs.Steps.{Exceeds, EventCosts, FitsUnder, HasFrameWithin, IsMoved, IsMovedTo, IsWithin, MakesBy, StepCosts, StepLeaves, StepMoves, StepsBy, append_cost, growth, step_cost, written_length}
 
 -- the state and the reply
 pub steps_by : (m n : State) (event : Event) (prepared : Prepared) (answer : Said) → Step m event prepared.reply (after prepared m) → MakesBy prepared m answer n → StepsBy m event answer n
@@ -39,9 +39,9 @@ growth_frame : (frame : Option Frame) → growth (framed_option frame) ≡ writt
 growth_frame None = refl
 growth_frame (Some f) = refl
 
-cost_frame : (frame : Option Frame) → append_cost (framed_option frame) + 1 ≤ step_cost frame
-cost_frame None = omega arith
-cost_frame (Some f) = omega arith
+cost_frame : (mend : ℕ) (frame : Option Frame) → append_cost (framed_option frame) + mend ≤ step_cost mend frame
+cost_frame mend None = omega arith
+cost_frame mend (Some f) = omega arith
 
 exceeds_frame : (m : State) (event : Event) (n : State) (seat : Seat) (needed limit : ℕ) (bytes : List ℕ) (frame : Option Frame) → Some bytes ≡ framed_option frame
     → EventWrites m event n frame → IsFullAt seat false (length bytes) needed limit → Exceeds m event seat needed limit
@@ -56,6 +56,15 @@ exceeds_frame m event n seat needed limit bytes (Some f) is writes full =
       bound = full.limit_is;
       exceeds = full.exceeds;
     }
+
+some_frame : (m : State) (event : Event) (n : State) (bytes : List ℕ) (frame : Option Frame) → Some bytes ≡ framed_option frame → EventWrites m event n frame → HasFrame m event
+some_frame m event n bytes None is writes = absurd (let none : Some bytes ≡ None = is in cc)
+some_frame m event n bytes (Some f) is writes = (n, f, writes)
+
+some_within : (m : State) (event : Event) (n : State) (seat : Seat) (bytes : List ℕ) (frame : Option Frame) → Some bytes ≡ framed_option frame → EventWrites m event n frame
+    → IsWithin seat (framed_option frame) → HasFrameWithin m seat event
+some_within m event n seat bytes None is writes within = absurd (let none : Some bytes ≡ None = is in cc)
+some_within m event n seat bytes (Some f) is writes within = (n, f, writes, within)
 
 module _ (m : State) (event : Event) (prepared : Prepared) (w : Writes m event.client event.ask (stamp_of m event.reading) (after prepared m) prepared.framed) where
   -- where the journal stands then
@@ -72,15 +81,24 @@ module _ (m : State) (event : Event) (prepared : Prepared) (w : Writes m event.c
   step_moves n said.Memory old new made within moved = absurd made
 
   -- what was written
-  pub event_costs : (before now : ℕ) → now ≤ before + 1 + append_cost prepared.framed → EventCosts m event before now
-  event_costs before now cost = (after prepared m, w.frame, w.of_step, omega (arith, cost_frame w.frame, ap append_cost w.bytes_are))
+  pub event_costs : (mend before now : ℕ) → now ≤ before + mend + append_cost prepared.framed → EventCosts m event mend before now
+  event_costs mend before now cost = (after prepared m, w.frame, w.of_step, omega (arith, cost, cost_frame mend w.frame, ap append_cost w.bytes_are))
 
-  pub step_costs : (n : State) (answer : Said) (before now : ℕ) → MakesBy prepared m answer n → now ≤ before + 1 + append_cost prepared.framed
-      → ((needed limit : ℕ) → answer ≡ said.Full needed limit → now ≤ before + 1) → StepCosts m event answer before now
-  step_costs n (said.Replied reply) before now made cost full = event_costs before now cost
-  step_costs n said.Disk before now made cost full = inr (event_costs before now cost)
-  step_costs n (said.Full needed limit) before now made cost full = full needed limit refl
-  step_costs n said.Memory before now made cost full = absurd made
+  pub step_costs : (mend : ℕ) (n : State) (answer : Said) (before now : ℕ) → MakesBy prepared m answer n → now ≤ before + mend + append_cost prepared.framed
+      → ((needed limit : ℕ) → answer ≡ said.Full needed limit → now ≤ before + mend) → StepCosts m event mend answer before now
+  step_costs mend n (said.Replied reply) before now made cost full = event_costs mend before now cost
+  step_costs mend n said.Disk before now made cost full = inr (event_costs mend before now cost)
+  step_costs mend n (said.Full needed limit) before now made cost full = full needed limit refl
+  step_costs mend n said.Memory before now made cost full = absurd made
+
+  -- where there is something to write
+  pub frame_there : (bytes : List ℕ) × (prepared.framed ≡ Some bytes) → HasFrame m event
+  frame_there some = some_frame m event (after prepared m) some.0 w.frame (sym some.1 ∙ w.bytes_are) w.of_step
+
+  -- and it fits
+  pub frame_within : (seat : Seat) → (bytes : List ℕ) × (prepared.framed ≡ Some bytes) → IsWithin seat prepared.framed → HasFrameWithin m seat event
+  frame_within seat some within =
+      some_within m event (after prepared m) seat some.0 w.frame (sym some.1 ∙ w.bytes_are) w.of_step (let P : Option (List ℕ) → Type 0 = λ x. IsWithin seat x in subst P w.bytes_are within)
 
   -- where it is too long
   pub exceeds_by : (seat : Seat) (needed limit : ℕ) → (bytes : List ℕ) × (prepared.framed ≡ Some bytes) × IsFullAt seat false (length bytes) needed limit → Exceeds m event seat needed limit

@@ -1,5 +1,6 @@
 pub mod Creating
 pub mod Doubts
+pub mod History
 pub mod Opened
 pub mod Recovery
 pub mod Standing

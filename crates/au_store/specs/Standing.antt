@@ -1,5 +1,5 @@
 -- What a journal stands on between two calls, for any property of the bodies that it holds.
-use Rattle.std.specs.Prelude.{◌≡◌, ◌⊎◌, ℕ, List}
+use Rattle.std.specs.Prelude.{◌≡◌, ◌≢◌, ◌⊎◌, ℕ, List}
 use Rattle.au_io.specs.declared.disk.Area.{Area}
 use Rattle.au_io.specs.Areas.{Areas}
 use Rattle.au_io.specs.Disk.{Meaning}
@@ -35,6 +35,7 @@ pub record IsInDoubt (P Q : List (List ℕ) → Type 0) (m : Meaning) (seat : Se
   pub doubted : IsDoubted m seat bodies others
   pub so : P bodies
   pub so_then : Q others
+  pub unsettled : seat.doubt ≢ Settled
   pub leaves : Leaves (HoldsEither P Q) m
 
 -- the journal stands for bodies of the first property; where a write is in doubt, the others have the second

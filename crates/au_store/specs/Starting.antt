@@ -1,10 +1,12 @@
 -- What opening a store does, by what it answers.
-use Rattle.std.specs.Prelude.{◌≡◌, ◌⊎◌, ◌≤◌, ◌<◌, ⊤, ℕ, ◌+◌, List, length, Result, Ok, Err}
+use Rattle.std.specs.Prelude.{◌≡◌, ◌⊎◌, ◌≤◌, ◌<◌, ⊤, ℕ, ◌+◌, List, length, Option, Result, Ok, Err}
 use Rattle.au_base.specs.Limits.{INSTANCES}
 use Rattle.au_entries.specs.declared.kept.Kept.{Kept}
 use Rattle.au_io.specs.Areas.{Areas}
-use Rattle.au_io.specs.Disk.{Meaning}
+use Rattle.au_io.specs.Disk.{Meaning, Stays}
 use Rattle.au_io.specs.Faults.{HasRisen}
+use Rattle.au_io.specs.Moments.{LeavesSince}
+use Rattle.au_io.specs.Time.{Reads, Ticking}
 use Rattle.au_journal.specs.declared.mount_fault.MountFault.{MountFault}
 use Rattle.au_journal.specs.declared.mount_fault.MountFault.TheVariants as mount
 use Rattle.au_journal.specs.declared.seat.Seat.{Seat}
@@ -67,6 +69,33 @@ NoneIsBare m = (c : Areas) → m.images c → IsBare c → ⊥
 -- at any moment a crash leaves an image from before, or one that recovers to what the disk reads as, or to the start over it
 abbrev pub OpenLeaves : Meaning → ℕ → Areas → Type 0
 OpenLeaves old reading all = old.images all ⊎ ((kept : Kept) × ReadsAs kept old.reads × RecoversToEither kept (start kept reading).kept all)
+
+-- the clock was read once, or not
+abbrev pub IsReadOnceAtMost : {C : Type 0} → (C → Option Ticking) → (clock clocked : C) → Type 0
+IsReadOnceAtMost ticking clock clocked = (clocked ≡ clock) ⊎ ((reading : ℕ) × Reads (ticking clock) (ticking clocked) reading)
+
+-- What is left where no store was opened. Where the bytes alone say why, nothing was done; where there was no memory, nothing
+-- was written; and the disk failed before the clock was read, or when it gave this reading, at which a crash leaves what an
+-- opening does
+abbrev pub OpensInVain : {D C : Type 0} (told : Type 0) (meaning : D → Meaning) (ticking : C → Option Ticking) (disk last : D) (clock clocked : C) → OpenFault → Type 0
+OpensInVain told meaning ticking disk last clock clocked fault.Unformatted = (clocked ≡ clock) × Stays (meaning disk) (meaning last)
+OpensInVain told meaning ticking disk last clock clocked (fault.Damaged area at) = (clocked ≡ clock) × Stays (meaning disk) (meaning last)
+OpensInVain told meaning ticking disk last clock clocked fault.Worn = (clocked ≡ clock) × Stays (meaning disk) (meaning last)
+OpensInVain told meaning ticking disk last clock clocked fault.Memory = IsReadOnceAtMost ticking clock clocked × Stays (meaning disk) (meaning last)
+OpensInVain told meaning ticking disk last clock clocked fault.Disk =
+    ((clocked ≡ clock) × Stays (meaning disk) (meaning last))
+    ⊎ ((reading : ℕ) × Reads (ticking clock) (ticking clocked) reading
+    × (told → NoneIsBare (meaning disk) → LeavesSince (OpenLeaves (meaning disk) reading) (meaning disk) (meaning last)))
+
+-- the same of an instance that can't begin over what was replayed, where a gate stands behind that
+abbrev pub BeginsInVain : {D C : Type 0} (told : Type 0) (meaning : D → Meaning) (ticking : C → Option Ticking) (kept : Kept) (gated : Type 0) (disk last : D) (clock clocked : C) → OpenFault → Type 0
+BeginsInVain told meaning ticking kept gated disk last clock clocked fault.Unformatted = (clocked ≡ clock) × (last ≡ disk)
+BeginsInVain told meaning ticking kept gated disk last clock clocked (fault.Damaged area at) = (clocked ≡ clock) × (last ≡ disk)
+BeginsInVain told meaning ticking kept gated disk last clock clocked fault.Worn = (clocked ≡ clock) × (last ≡ disk)
+BeginsInVain told meaning ticking kept gated disk last clock clocked fault.Memory = IsReadOnceAtMost ticking clock clocked × (last ≡ disk)
+BeginsInVain told meaning ticking kept gated disk last clock clocked fault.Disk =
+    (reading : ℕ) × Reads (ticking clock) (ticking clocked) reading
+    × (told → gated → LeavesSince (RecoversToEither kept (start kept reading).kept) (meaning disk) (meaning last))
 
 -- at most the frame with which an instance begins is written, and two gates
 abbrev pub OpenCosts : ℕ → ℕ → Type 0

@@ -10,20 +10,19 @@ use Rattle.au_io.specs.Areas.{Areas}
 use Rattle.au_io.specs.Disk.{Meaning}
 use Rattle.au_io.specs.Faults.{HasRisen}
 use Rattle.au_journal.specs.declared.seat.Seat.{Seat}
-use Rattle.au_journal.specs.Seats.{IsFramed, needed_of}
+use Rattle.au_journal.specs.Seats.{IsFramed, mend_bytes, needed_of}
 use Rattle.rec_codec.specs.declared.frame.Frame.{Frame}
 use Rattle.rec_codec.specs.Frames.{IsSpellable, framed}
-use Rattle.au_engine.specs.Framing.{IsFrameOf}
 use Rattle.au_engine.specs.Replaying.{IsReplayable, after_frame, IsImage}
 use Rattle.au_engine.specs.declared.prepared.Prepared.{Prepared}
 use Rattle.au_engine.specs.Prepared.{after}
-use Rattle.au_engine.specs.State.{State, stamp_of}
+use Rattle.au_engine.specs.State.{State}
 use Rattle.au_engine.specs.Step.{Event, Step}
 use Rattle.au_io.specs.Moments.{LeavesSince}
 use Rattle.au_io.specs.Time.{Reads, Ticking}
 use Rattle.au_journal.specs.declared.doubt.Doubt.TheVariants.{Settled}
 use Rattle.au_store.specs.Recovery.{RecoversTo, RecoversToEither}
-use Rattle.au_store.specs.Doubts.{IsAfter, IsStoodOn}
+use Rattle.au_store.specs.Doubts.{EventWrites, IsAfter, IsStoodOn}
 use Rattle.au_store.specs.Stored.{Stored}
 
 -- the frame goes on from what is kept, and that is kept after it
@@ -37,10 +36,6 @@ pub record Carries (kept : Kept) (frame : Frame) (after : Kept) : Type 0 where
 abbrev pub CarriesTo : Kept → Option (List ℕ) → Kept → Type 0
 CarriesTo kept None after = after ≡ kept
 CarriesTo kept (Some bytes) after = (frame : Frame) × (bytes ≡ framed frame) × Carries kept frame after
-
--- the event writes this frame, or none, and the state is this one after it
-abbrev pub EventWrites : State → Event → State → Option Frame → Type 0
-EventWrites m event n frame = IsFrameOf m event.client event.ask (stamp_of m event.reading) n frame
 
 -- how long the area grows by what is written
 abbrev pub written_length : Option Frame → ℕ
@@ -84,9 +79,15 @@ StepLeaves m event doubted all =
 abbrev pub StepDoubts : State → Event → Meaning → Seat → Type 0
 StepDoubts m event new seat = (kept : Kept) × IsAfter m event kept × IsStoodOn m.kept kept new seat
 
--- the step was tried: the clock was read, once nothing was in doubt; where the disk failed, this step is in doubt
+-- the event has a frame to write, which fits under the limit
+abbrev pub HasFrameWithin : State → Seat → Event → Type 0
+HasFrameWithin m seat event = (n : State) × (frame : Frame) × EventWrites m event n (Some frame) × FitsUnder seat (Some frame)
+
+-- the step was tried: the clock was read, once nothing was in doubt; where the disk failed, there was a frame to write that
+-- fits under the limit, and this step is in doubt
 pub record IsTried {D C : Type 0} (told : Type 0) (meaning : D → Meaning) (ticking : C → Option Ticking) (event : Event) (old new : Stored D C) (answer : Said) : Type 0 where
   pub read : Reads (ticking old.clock) (ticking new.clock) new.reading
+  pub wrote : answer ≡ said.Disk → HasFrameWithin old.state old.seat event
   pub doubts : told → answer ≡ said.Disk → StepDoubts old.state event (meaning new.disk) new.seat
 
 -- an earlier step is in doubt, and its mend failed: the clock wasn't read, nothing but that mend was written, the same step
@@ -94,28 +95,29 @@ pub record IsTried {D C : Type 0} (told : Type 0) (meaning : D → Meaning) (tic
 pub record IsUnmended {D C : Type 0} (told : Type 0) (meaning : D → Meaning) (old new : Stored D C) (answer : Said) : Type 0 where
   pub failed : answer ≡ said.Disk
   pub stood : old.seat.doubt ≢ Settled
+  pub seat : new.seat ≡ old.seat
   pub clock : new.clock ≡ old.clock
   pub reading : new.reading ≡ old.reading
-  pub cost : (meaning new.disk).written ≤ (meaning old.disk).written + 1
+  pub cost : (meaning new.disk).written ≤ (meaning old.disk).written + mend_bytes old.seat.doubt
   pub doubted : told → (doubted : Kept) → IsStoodOn old.state.kept doubted (meaning old.disk) old.seat → IsStoodOn old.state.kept doubted (meaning new.disk) new.seat
   pub any_moment : told → (doubted : Kept) → IsStoodOn old.state.kept doubted (meaning old.disk) old.seat
       → LeavesSince (RecoversToEither old.state.kept doubted) (meaning old.disk) (meaning new.disk)
 
--- the bytes that a step writes at most: those of a mend, of its frame and of a gate
-abbrev pub step_cost : Option Frame → ℕ
-step_cost None = 1
-step_cost (Some frame) = length (framed frame) + 2
+-- the bytes that a step writes at most, where its mend writes so many: its frame and a gate beside
+abbrev pub step_cost : ℕ → Option Frame → ℕ
+step_cost mend None = mend
+step_cost mend (Some frame) = mend + length (framed frame) + 1
 
 -- what the event writes at most, of the disk's bytes written before and after
-abbrev pub EventCosts : State → Event → ℕ → ℕ → Type 0
-EventCosts m event before now = (n : State) × (frame : Option Frame) × EventWrites m event n frame × (now ≤ before + step_cost frame)
+abbrev pub EventCosts : State → Event → (mend before now : ℕ) → Type 0
+EventCosts m event mend before now = (n : State) × (frame : Option Frame) × EventWrites m event n frame × (now ≤ before + step_cost mend frame)
 
--- what the step writes at most, by its answer
-abbrev pub StepCosts : State → Event → Said → ℕ → ℕ → Type 0
-StepCosts m event (said.Replied reply) before now = EventCosts m event before now
-StepCosts m event said.Disk before now = (now ≤ before + 1) ⊎ EventCosts m event before now
-StepCosts m event (said.Full needed limit) before now = now ≤ before + 1
-StepCosts m event said.Memory before now = now ≤ before + 1
+-- what the step writes at most, by its answer: without a reply or a failed write nothing but the mend
+abbrev pub StepCosts : State → Event → ℕ → Said → (before now : ℕ) → Type 0
+StepCosts m event mend (said.Replied reply) before now = EventCosts m event mend before now
+StepCosts m event mend said.Disk before now = (now ≤ before + mend) ⊎ EventCosts m event mend before now
+StepCosts m event mend (said.Full needed limit) before now = now ≤ before + mend
+StepCosts m event mend said.Memory before now = now ≤ before + mend
 
 -- the used length grows by n; the area and its limit stay
 pub record IsMovedTo (n : ℕ) (old new : Seat) : Type 0 where

@@ -29,8 +29,8 @@ IsKeptOn kept m seat = IsKept (ReplayedTo kept) m seat
 
 -- The journal was walked to its end, and a gate stands there. Where the disk tells what it holds, it stands for what is
 -- kept, and perhaps for what is kept after the one step that is in doubt. SYS is a user, and there is no more of anything than there may be.
-pub record IsSound (told : Type 0) (m : Meaning) (seat : Seat) (kept : Kept) : Type 0 where
+pub record IsSound (told : Type 0) (m : Meaning) (seat : Seat) (state : State) : Type 0 where
   pub ended : seat.ended ≡ true
   pub gated : seat.bare ≡ false
-  pub ends : EndsWell kept
-  pub stands : told → IsAtRest kept m seat
+  pub ends : EndsWell state.kept
+  pub stands : told → IsAtRest state m seat

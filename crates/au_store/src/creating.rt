@@ -4,15 +4,15 @@ ghost use Rattle.au_io.specs.Disk.{Stays};
 ghost use Rattle.au_io.specs.Moments.{Leaves, LeavesSince};
 ghost use Rattle.au_journal.specs.Creation.{IsSelectedFormatted, OthersAreBlank};
 ghost use Rattle.au_journal.specs.Frames.{IsLimit};
-ghost use Rattle.au_journal.specs.Walk.{IsUnformatted};
+ghost use Rattle.au_journal.specs.Walk.{IsStill, IsUnformatted};
 ghost use Rattle.au_engine.specs.Image.{image_of};
 ghost use Rattle.au_engine.specs.Opening.{opening};
-ghost use Rattle.rec_codec.specs.Frames.{framed};
+ghost use Rattle.rec_codec.specs.Frames.{IsSpellable, framed};
 ghost use Rattle.au_store.specs.Creating.{CreateCause, CreateLeaves, IsMade};
 
 use crate::{Created, Store};
 use au_base::Memory;
-use au_engine::Engine;
+use au_engine::{Engine, images_come_back};
 use au_io::{Clock, Disk};
 use au_journal::{Formatting, Journal};
 use std::alloc::Global;
@@ -27,6 +27,7 @@ impl<D: Disk, C: Clock> Store<D, C> {
         ensures formatted { D.told → result ≡ Created.Formatted → IsSelectedFormatted (D.meaning disk.old).reads }
         ensures unformatted { D.told → result ≡ Created.Done → IsUnformatted (D.meaning disk.old).reads }
         ensures untouched { result ≡ Created.Formatted → Stays (D.meaning disk.old) (D.meaning disk.new) }
+        ensures synced { result ≡ Created.Formatted → IsStill (D.meaning disk.new) }
         ensures uncalled { result ≡ Created.Memory → disk.new ≡ disk.old }
         ensures done { D.told → result ≡ Created.Done → Leaves (IsMade limit (opening sys_password.now)) (D.meaning disk.new) }
         ensures any_moment { D.told → Leaves OthersAreBlank (D.meaning disk.old)
@@ -34,6 +35,7 @@ impl<D: Disk, C: Clock> Store<D, C> {
         ensures again { D.told → Leaves OthersAreBlank (D.meaning disk.old) → LeavesSince OthersAreBlank (D.meaning disk.old) (D.meaning disk.new) }
         ensures cause { CreateCause result (D.faults disk.old) (D.faults disk.new) }
     {
+        images_come_back();
         match opening_image(alloc, sys_password) {
             Err(_) => Created::Memory,
             Ok(framed) => match Journal::format(disk, &framed, limit) {
@@ -47,7 +49,8 @@ impl<D: Disk, C: Clock> Store<D, C> {
 
 // The framed image of what a new store keeps.
 fn opening_image(alloc: Global, password: &[u8]) -> Result<Vec<u8>, Memory>
-    ensures { IfOk result (λ bytes. bytes.items ≡ framed (image_of (opening password.now))) }
+    ensures bytes { IfOk result (λ bytes. bytes.items ≡ framed (image_of (opening password.now))) }
+    ensures spellable { IfOk result (λ bytes. IsSpellable (image_of (opening password.now))) }
 {
     let engine = Engine::of_new_store(alloc, password)?;
     let framed = engine.image(alloc)?;

@@ -1,5 +1,5 @@
 //! What is asked of a store between two steps, and its end.
-ghost use Rattle.std.specs.Prelude.{◌≡◌, is_some};
+ghost use Rattle.std.specs.Prelude.{◌≡◌, ◌++◌, ◌∷◌, [], List, is_some};
 ghost use Rattle.au_engine.specs.Abandoning.{abandoned};
 ghost use Rattle.au_engine.specs.Step.{session_of};
 
@@ -8,7 +8,10 @@ use au_base::ClientNo;
 use au_io::{Clock, Disk};
 
 impl<D: Disk, C: Clock> Store<D, C> {
+    ghost use Rattle.au_store.specs.declared.entry.Entry.{Entry};
+    ghost use Rattle.au_store.specs.declared.entry.Entry.TheVariants.{Abandoned};
     ghost use Rattle.au_store.specs.Doubts.{IsAtRest};
+    ghost use Rattle.au_store.specs.History.{StandsFor};
 
     /// The last reading that the clock gave.
     pub fn reading(&self) -> u64
@@ -28,15 +31,16 @@ impl<D: Disk, C: Clock> Store<D, C> {
     /// nothing is written. It takes no memory and can't fail.
     pub fn abandon(&mut self, client: ClientNo)
         ensures state { self.new.state ≡ abandoned client self.old.state }
+        ensures history { (entries : List Entry) → StandsFor D.faults self.old entries → StandsFor D.faults self.new (entries ++ Abandoned client ∷ []) }
         ensures same { (self.new.disk ≡ self.old.disk) × (self.new.seat ≡ self.old.seat) × (self.new.clock ≡ self.old.clock) × (self.new.reading ≡ self.old.reading) }
     {
         self.engine.abandon(client);
     }
 
     /// What a crash may leave between two calls: what is kept, or, where a step is in doubt, what is
-    /// kept after the event of that step. It does nothing.
+    /// kept after the event of that step, in the state it came from. It does nothing.
     pub fn at_rest(&self)
-        ensures { D.told → IsAtRest self.now.state.kept (D.meaning self.now.disk) self.now.seat }
+        ensures { D.told → IsAtRest self.now.state (D.meaning self.now.disk) self.now.seat }
     {
         let _ = &self.reading;
     }

@@ -11,6 +11,7 @@ ghost use Rattle.au_store.specs.Opened.{IsBare};
 ghost use Rattle.au_store.specs.Recovery.{ReadsAs, RecoversTo};
 ghost use Rattle.au_store.specs.Starting.{IsOfBytes, IsOpened, OpenSays};
 
+use au_journal::{frames_stand_in_a_row, one_standing};
 use rec_codec::one_front;
 
 /// Areas read as one thing. Those that recover to what is kept read as it, and don't end where their
@@ -21,6 +22,7 @@ pub fn one_recovery()
     ensures gated { (all : Areas) (kept : Kept) → IsBounded all → RecoversTo kept all → IsBare all → ⊥ }
 {
     one_front();
+    one_standing();
 }
 
 /// Areas that read as what is kept, and areas of which the selected one isn't formatted, aren't damaged
@@ -30,7 +32,10 @@ pub fn never_damaged()
     ensures whole { (all : Areas) (kept : Kept) (area : Area) (at : ℕ) → IsBounded all → ReadsAs kept all → OpenSays all (fault.Damaged area at) → ⊥ }
     ensures blank { (all : Areas) (area : Area) (at : ℕ) → IsUnformatted all → OpenSays all (fault.Damaged area at) → ⊥ }
     ensures formatted { (all : Areas) (kept : Kept) → ReadsAs kept all → IsUnformatted all → ⊥ }
-{}
+{
+    frames_stand_in_a_row();
+    one_standing();
+}
 
 /// A store that is opened on areas which recover to what is kept is in the state of the next instance
 /// over that: what a store kept when it was shut is what the next one begins with.
@@ -47,5 +52,7 @@ pub fn one_cause()
     ensures one { (all : Areas) (why other : OpenFault) → IsBounded all → OpenSays all why → OpenSays all other → IsOfBytes why → IsOfBytes other → why ≡ other }
     ensures opened { (all : Areas) (why : OpenFault) (reading : ℕ) (m : State) → IsBounded all → IsOpened all reading m → OpenSays all why → IsOfBytes why → ⊥ }
 {
+    frames_stand_in_a_row();
+    one_standing();
     one_recovery();
 }

@@ -3,7 +3,10 @@
 
 mod created;
 mod creating;
+mod deed;
 mod ends;
+mod entry;
+mod held;
 mod laws;
 mod open_fault;
 mod preparing;
@@ -14,6 +17,8 @@ mod store;
 mod writing;
 
 pub use created::Created;
+pub use deed::Deed;
+pub use entry::{Entry, Whole};
 pub use laws::{never_damaged, one_cause, one_recovery, reopened};
 pub use open_fault::OpenFault;
 pub use store::Store;

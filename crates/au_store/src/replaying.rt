@@ -15,7 +15,7 @@ use crate::OpenFault;
 use au_base::Memory;
 use au_engine::Engine;
 use au_io::{Area, Disk};
-use au_journal::{Journal, MountFault};
+use au_journal::{Journal, MountFault, frames_stand_in_a_row};
 use rec_codec::{Frame, one_front, read};
 use std::alloc::Global;
 
@@ -58,6 +58,7 @@ pub(crate) fn recover<D: Disk>(alloc: Global, journal: &mut Journal<D>) -> Resul
     ensures stays { Stays (D.meaning (disk_of journal.old)) (D.meaning (disk_of journal.new)) }
     ensures cause { WalkMeets result (D.faults (disk_of journal.old)) (D.faults (disk_of journal.new)) }
 {
+    frames_stand_in_a_row();
     let area = journal.area();
     let Some(body) = next_body(alloc, journal)? else {
         // The area became shorter since it was mounted.
@@ -129,6 +130,7 @@ fn take_frame<D: Disk>(
     ensures cause { WalkMeets result (D.faults (disk_of journal.old)) (D.faults (disk_of journal.new)) }
 {
     one_front();
+    frames_stand_in_a_row();
     let area = journal.area();
     match next_body(alloc, journal)? {
         None => Ok(None),

@@ -26,7 +26,7 @@ use rec_codec::write_framed;
 use std::alloc::Global;
 
 impl<D: Disk, C: Clock> Store<D, C> {
-    ghost use Rattle.au_store.specs.Starting.{IsOpened, IsSeated, NoneIsBare, OpenCause, OpenCosts, OpenLeaves, OpenSays, StartSays};
+    ghost use Rattle.au_store.specs.Starting.{BeginsInVain, IsOpened, IsSeated, NoneIsBare, OpenCause, OpenCosts, OpenLeaves, OpenSays, OpensInVain, StartSays};
 
     /// Opens the store that the disk recovers to: syncs the three areas, replays what stands in the
     /// selected one, reads the clock once, and appends the event with which the next instance begins,
@@ -36,12 +36,11 @@ impl<D: Disk, C: Clock> Store<D, C> {
         ensures seated { D.told → IfOk result (λ store. IsSeated (D.meaning disk).reads store.reading store.seat) }
         ensures kept { D.told → IfOk result (λ store. IsKeptOn store.state.kept (D.meaning store.disk) store.seat) }
         ensures settled { IfOk result (λ store. store.seat.doubt ≡ Doubt.Settled) }
-        ensures clock { MatchResult result (λ store. Reads (C.ticking clock) (C.ticking store.clock) store.reading)
-            (λ failed. (failed.1 ≡ clock) ⊎ ((reading : ℕ) × Reads (C.ticking clock) (C.ticking failed.1) reading)) }
+        ensures read { IfOk result (λ store. Reads (C.ticking clock) (C.ticking store.clock) store.reading) }
+        ensures in_vain { IfErr result (λ failed. OpensInVain D.told D.meaning C.ticking disk failed.0 clock failed.1 failed.2) }
         ensures why { D.told → IfErr result (λ failed. OpenSays (D.meaning disk).reads failed.2) }
         ensures any_moment { D.told → NoneIsBare (D.meaning disk)
-            → MatchResult result (λ store. LeavesSince (OpenLeaves (D.meaning disk) store.reading) (D.meaning disk) (D.meaning store.disk))
-            (λ failed. (reading : ℕ) × LeavesSince (OpenLeaves (D.meaning disk) reading) (D.meaning disk) (D.meaning failed.0)) }
+            → IfOk result (λ store. LeavesSince (OpenLeaves (D.meaning disk) store.reading) (D.meaning disk) (D.meaning store.disk)) }
         ensures time { MatchResult result (λ store. Passes (D.meaning disk) (D.meaning store.disk)) (λ failed. Passes (D.meaning disk) (D.meaning failed.0)) }
         ensures cost { MatchResult result (λ store. OpenCosts (D.meaning disk).written (D.meaning store.disk).written) (λ failed. OpenCosts (D.meaning disk).written (D.meaning failed.0).written) }
         ensures cause { MatchResult result (λ store. D.faults store.disk ≡ D.faults disk) (λ failed. OpenCause failed.2 (D.faults disk) (D.faults failed.0)) }
@@ -72,12 +71,11 @@ impl<D: Disk, C: Clock> Store<D, C> {
         ensures moved { IfOk result (λ store. IsMovedTo (length (framed (start_frame engine.state.kept store.reading))) (seat_of journal) store.seat) }
         ensures kept { D.told → IfOk result (λ store. IsKeptOn store.state.kept (D.meaning store.disk) store.seat) }
         ensures settled { IfOk result (λ store. store.seat.doubt ≡ Doubt.Settled) }
-        ensures clock { MatchResult result (λ store. Reads (C.ticking clock) (C.ticking store.clock) store.reading)
-            (λ failed. (failed.1 ≡ clock) ⊎ ((reading : ℕ) × Reads (C.ticking clock) (C.ticking failed.1) reading)) }
+        ensures clock { IfOk result (λ store. Reads (C.ticking clock) (C.ticking store.clock) store.reading) }
+        ensures in_vain { IfErr result (λ failed. BeginsInVain D.told D.meaning C.ticking engine.state.kept ((seat_of journal).bare ≡ false) (disk_of journal) failed.0 clock failed.1 failed.2) }
         ensures why { IfErr result (λ failed. StartSays engine.state.kept failed.2) }
         ensures any_moment { D.told → (seat_of journal).bare ≡ false
-            → MatchResult result (λ store. LeavesSince (RecoversToEither engine.state.kept (start engine.state.kept store.reading).kept) (D.meaning (disk_of journal)) (D.meaning store.disk))
-            (λ failed. (reading : ℕ) × LeavesSince (RecoversToEither engine.state.kept (start engine.state.kept reading).kept) (D.meaning (disk_of journal)) (D.meaning failed.0)) }
+            → IfOk result (λ store. LeavesSince (RecoversToEither engine.state.kept (start engine.state.kept store.reading).kept) (D.meaning (disk_of journal)) (D.meaning store.disk)) }
         ensures time { MatchResult result (λ store. Passes (D.meaning (disk_of journal)) (D.meaning store.disk)) (λ failed. Passes (D.meaning (disk_of journal)) (D.meaning failed.0)) }
         ensures cost { MatchResult result (λ store. OpenCosts (D.meaning (disk_of journal)).written (D.meaning store.disk).written) (λ failed. OpenCosts (D.meaning (disk_of journal)).written (D.meaning failed.0).written) }
         ensures cause { MatchResult result (λ store. D.faults store.disk ≡ D.faults (disk_of journal)) (λ failed. OpenCause failed.2 (D.faults (disk_of journal)) (D.faults failed.0)) }

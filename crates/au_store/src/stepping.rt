@@ -6,7 +6,7 @@ ghost use Rattle.au_io.specs.Disk.{Passes};
 ghost use Rattle.au_io.specs.Moments.{LeavesSince};
 ghost use Rattle.au_io.specs.Time.{Reads};
 ghost use Rattle.au_journal.specs.Causes.{MendCause};
-ghost use Rattle.au_journal.specs.Seats.{IsFullAt, mended};
+ghost use Rattle.au_journal.specs.Seats.{IsFullAt, mend_bytes, mended};
 ghost use Rattle.au_engine.specs.Framing.{IsText, Writes};
 ghost use Rattle.au_engine.specs.Prepared.{Fits, after};
 ghost use Rattle.au_engine.specs.Replaying.{EndsWell};
@@ -23,6 +23,7 @@ use au_journal::{Appended, Doubt, Mended};
 use std::alloc::Global;
 
 impl<D: Disk, C: Clock> Store<D, C> {
+    ghost use Rattle.au_store.specs.History.{HistoryGoesOn};
     ghost use Rattle.au_store.specs.Recovery.{RecoversToEither};
     ghost use Rattle.au_store.specs.Steps.{CarriesTo, Exceeds, IsMoved, IsTried, IsUnmended, IsWithin, MakesBy, StepCause, StepCosts, StepLeaves, StepMoves, StepsBy, append_cost, event_at, growth};
     ghost use Rattle.au_store.specs.Doubts.{IsLeftBy, IsStoodOn};
@@ -39,13 +40,15 @@ impl<D: Disk, C: Clock> Store<D, C> {
         ensures step { StepsBy self.old.state (event_at client ask.now self.new.reading) result self.new.state }
         ensures moves { StepMoves self.old.state (event_at client ask.now self.new.reading) self.new.state result self.old.seat self.new.seat }
         ensures full { (needed limit : ℕ) → result ≡ Said.Full needed limit → Exceeds self.old.state (event_at client ask.now self.new.reading) self.old.seat needed limit }
+        ensures history { HistoryGoesOn D.faults client ask.now self.old self.new result }
         ensures tries { IsTried D.told D.meaning C.ticking (event_at client ask.now self.new.reading) self.old self.new result ⊎ IsUnmended D.told D.meaning self.old self.new result }
         ensures settled { result ≢ Said.Disk → self.new.seat.doubt ≡ Doubt.Settled }
+        ensures in_doubt { result ≡ Said.Disk → self.new.seat.doubt ≢ Doubt.Settled }
         ensures kept { D.told → result ≢ Said.Disk → IsKeptOn self.new.state.kept (D.meaning self.new.disk) self.new.seat }
         ensures any_moment { D.told → (doubted : Kept) → IsStoodOn self.old.state.kept doubted (D.meaning self.old.disk) self.old.seat
             → LeavesSince (StepLeaves self.old.state (event_at client ask.now self.new.reading) doubted) (D.meaning self.old.disk) (D.meaning self.new.disk) }
         ensures time { Passes (D.meaning self.old.disk) (D.meaning self.new.disk) }
-        ensures cost { StepCosts self.old.state (event_at client ask.now self.new.reading) result (D.meaning self.old.disk).written (D.meaning self.new.disk).written }
+        ensures cost { StepCosts self.old.state (event_at client ask.now self.new.reading) (mend_bytes self.old.seat.doubt) result (D.meaning self.old.disk).written (D.meaning self.new.disk).written }
         ensures cause { StepCause result (D.faults self.old.disk) (D.faults self.new.disk) }
     {
         match self.mend() {
@@ -69,7 +72,7 @@ impl<D: Disk, C: Clock> Store<D, C> {
             → LeavesSince (RecoversToEither self.old.state.kept doubted) (D.meaning self.old.disk) (D.meaning self.new.disk) }
         ensures same { (self.new.state ≡ self.old.state) × (self.new.room ≡ self.old.room) × (self.new.clock ≡ self.old.clock) × (self.new.reading ≡ self.old.reading) }
         ensures time { Passes (D.meaning self.old.disk) (D.meaning self.new.disk) }
-        ensures cost { (D.meaning self.new.disk).written ≤ (D.meaning self.old.disk).written + 1 }
+        ensures cost { (D.meaning self.new.disk).written ≤ (D.meaning self.old.disk).written + mend_bytes self.old.seat.doubt }
         ensures cause { MendCause result (D.faults self.old.disk) (D.faults self.new.disk) }
     {
         self.journal.mend()
@@ -101,7 +104,7 @@ impl<D: Disk, C: Clock> Store<D, C> {
         requires fits { Fits prepared (reserved_of self.old) }
         requires carries { CarriesTo self.old.state.kept prepared.framed (after prepared self.old.state).kept }
         requires ends { EndsWell (after prepared self.old.state).kept }
-        requires left { IsLeftBy self.old.state.kept (after prepared self.old.state).kept }
+        requires left { (bytes : List ℕ) → prepared.framed ≡ Some bytes → IsLeftBy self.old.state (after prepared self.old.state).kept }
         ensures made { MakesBy prepared self.old.state result self.new.state }
         ensures within { (reply : AnyReply) → result ≡ Said.Replied reply → IsWithin self.old.seat prepared.framed }
         ensures full { (needed limit : ℕ) → result ≡ Said.Full needed limit → (bytes : List ℕ) × (prepared.framed ≡ Some bytes) × IsFullAt self.old.seat false (length bytes) needed limit }
@@ -109,6 +112,9 @@ impl<D: Disk, C: Clock> Store<D, C> {
         ensures moved { IsMoved result (growth prepared.framed) self.old.seat self.new.seat }
         ensures kept { D.told → result ≢ Said.Disk → IsKeptOn self.new.state.kept (D.meaning self.new.disk) self.new.seat }
         ensures settled { result ≢ Said.Disk → self.new.seat.doubt ≡ Doubt.Settled }
+        ensures in_doubt { result ≡ Said.Disk → self.new.seat.doubt ≢ Doubt.Settled }
+        ensures fits { result ≡ Said.Disk → IsWithin self.old.seat prepared.framed }
+        ensures wrote { result ≡ Said.Disk → (bytes : List ℕ) × (prepared.framed ≡ Some bytes) }
         ensures doubted { D.told → result ≡ Said.Disk → IsStoodOn self.old.state.kept (after prepared self.old.state).kept (D.meaning self.new.disk) self.new.seat }
         ensures any_moment { D.told → LeavesSince (RecoversToEither self.old.state.kept (after prepared self.old.state).kept) (D.meaning self.old.disk) (D.meaning self.new.disk) }
         ensures same { (self.new.clock ≡ self.old.clock) × (self.new.reading ≡ self.old.reading) }

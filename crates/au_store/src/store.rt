@@ -32,5 +32,5 @@ impl<D: Disk, C: Clock> Model for Store<D, C> {
       reading = s.reading;
     } };
 
-    ghost invariant = { λ s. IsSound D.told (D.meaning s.journal.disk) s.journal.seat s.engine.state.kept };
+    ghost invariant = { λ s. IsSound D.told (D.meaning s.journal.disk) s.journal.seat s.engine.state };
 }

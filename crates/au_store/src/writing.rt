@@ -1,5 +1,5 @@
 //! Writing what a step leaves to be kept.
-ghost use Rattle.std.specs.Prelude.{◌≡◌, ◌≤◌, ◌+◌, ℕ, List, Some, true, false, length};
+ghost use Rattle.std.specs.Prelude.{◌≡◌, ◌≢◌, ◌≤◌, ◌+◌, ℕ, List, Some, true, false, length};
 ghost use Rattle.au_entries.specs.declared.kept.Kept.{Kept};
 ghost use Rattle.au_io.specs.Disk.{Passes};
 ghost use Rattle.au_io.specs.Moments.{LeavesSince};
@@ -37,6 +37,9 @@ pub(crate) fn write<D: Disk>(journal: &mut Journal<D>, prepared: &Prepared) -> A
     ensures rests { result ≡ Appended.Disk → IsMovedTo 0 (seat_of journal.old) (seat_of journal.new) }
     ensures ended { (seat_of journal.new).ended ≡ true }
     ensures gated { (seat_of journal.new).bare ≡ false }
+    ensures wrote { result ≡ Appended.Disk → (bytes : List ℕ) × (prepared.now.framed ≡ Some bytes) }
+    ensures fits { result ≡ Appended.Disk → IsWithin (seat_of journal.old) prepared.now.framed }
+    ensures in_doubt { result ≡ Appended.Disk → (seat_of journal.new).doubt ≢ Doubt.Settled }
     ensures settled { result ≡ Appended.Done → (seat_of journal.new).doubt ≡ Doubt.Settled }
     ensures time { Passes (D.meaning (disk_of journal.old)) (D.meaning (disk_of journal.new)) }
     ensures cost { (D.meaning (disk_of journal.new)).written ≤ (D.meaning (disk_of journal.old)).written + append_cost prepared.now.framed }

@@ -4,7 +4,7 @@ use Rattle.au_journal.specs.declared.seat.Seat.{Seat}
 use Rattle.au_journal.specs.Images.{IsSafe, MayStandFor}
 use Rattle.au_journal.specs.Seats.{with_frame}
 use Rattle.au_journal.proofs.Leaving.{on_ok}
-use Rattle.au_journal.proofs.Steps.{bare_within, frame_still, gate_then_frame, true_since}
+use Rattle.au_journal.proofs.Steps.{bare_within, gate_then_frame, true_since}
 use Rattle.au_journal.proofs.writing.append_at.Goals as goal
 
 pub returns-in-Ok-clause-any_moment : goal.returns-in-Ok-clause-any_moment
@@ -31,7 +31,7 @@ returns-in-Ok-clause-reads g c = λ told.
     let was = c.requires.stands told in
     let Q : Seat → Type 0 = λ s. OnOk c.add_frame.result (new.reads ≡ with_frame s c.args.framed.now mid.reads) in
     on_ok c.add_frame.result _ _ (λ reads.
-    gate_then_frame seat.area seat.used c.args.framed.now old.reads mid.reads new.reads (bare_within seat was.0 old (laws.reads_is_image c.args.disk.now told) c.if-seat.true was.1) (c.in-Ok.ensures.reads told) (reads ∙ frame_still seat c.args.framed.now mid.reads))
+    gate_then_frame seat.area seat.used c.args.framed.now old.reads mid.reads new.reads (bare_within seat was.0 old (laws.reads_is_image c.args.disk.now told) c.if-seat.true was.1) (c.in-Ok.ensures.reads told) reads)
     (subst Q c.in-Ok.ensures.advances (c.add_frame.ensures.reads told))
 
 pub returns-in-Ok-clause-safe : goal.returns-in-Ok-clause-safe

@@ -8,14 +8,14 @@ pub returns-in_default-clause-ran : goal.returns-in_default-clause-ran
 returns-in_default-clause-ran g c =
     let means = means_of g.D.Disk.told g.D.Disk.meaning g.D.Disk.faults g.C.Clock.ticking in
     let laws = g.met.D.Disk g.world.𝓛 g.world.𝓜 g.world.𝓡 ((λ s x. x), (λ x. x), (λ x. x), λ x. x) in
-    RanToFront-opened means _ _ _ (laws.counts_now c.args.store.now.disk) (laws.only_now c.args.store.now.disk) (λ told. c.requires.settled) c.requires.kept
+    RanToFront-opened means _ _ _ (laws.counts_now c.args.store.now.disk) (laws.only_now c.args.store.now.disk) c.requires.settled c.requires.kept
 
 pub loop-line-init : goal.loop-line-init
 loop-line-init g c =
     let means = means_of g.D.Disk.told g.D.Disk.meaning g.D.Disk.faults g.C.Clock.ticking in
     let laws = g.met.D.Disk g.world.𝓛 g.world.𝓜 g.world.𝓡 ((λ s x. x), (λ x. x), (λ x. x), λ x. x) in
     record {
-      ran = RanSoFar-none means _ _ _ _ (laws.counts_now c.args.store.now.disk) (laws.only_now c.args.store.now.disk) (λ told. c.requires.settled) c.requires.kept c.in-Ok.ensures.bytes c.in-Ok.ensures.taken;
+      ran = RanSoFar-none means _ _ _ _ (laws.counts_now c.args.store.now.disk) (laws.only_now c.args.store.now.disk) c.requires.settled c.requires.kept c.in-Ok.ensures.bytes c.in-Ok.ensures.taken;
       counts = some_next 0;
       within = none_taken _ c.in-Ok.ensures.taken;
       read = refl;

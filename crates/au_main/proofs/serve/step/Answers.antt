@@ -8,4 +8,4 @@ returns g c =
     let means = means_of g.D.Disk.told g.D.Disk.meaning g.D.Disk.faults g.C.Clock.ticking in
     let done = c.step.ensures in
     answers_by means c.args.store.now c.step.new.self (record { 0 = 1 }) c.args.ask.now c.step.result refl
-    done.step done.moves done.full done.tries done.settled done.kept done.any_moment done.time done.cause
+    done.step done.history done.tries done.settled done.kept done.any_moment done.time

@@ -54,7 +54,7 @@ returns-in-None-clause-why g c = λ told mounted.
     let is : c.deref.result.now ≡ body = cc in
     let walked = rw c.in-Some.is at (c.in_ok-body.ensures.next told [] mounted.walked) in
     let never = rw c.in-None.is at c.in_ok-begin_by.ensures.begins in
-    rw c.area-area.ensures (inr (body_damage (meaning (disk_of old)) (meaning (disk_of new)) (seat_of old) (seat_of new) [] body c.next_body.ensures.stays.reads c.next_body.ensures.same.0 c.next_body.ensures.same.1
+    rw c.area-area.ensures (inr (body_damage c.frames_stand_in_a_row.ensures.pushed c.frames_stand_in_a_row.ensures.length (meaning (disk_of old)) (meaning (disk_of new)) (seat_of old) (seat_of new) [] body c.next_body.ensures.stays.reads c.next_body.ensures.same.0 c.next_body.ensures.same.1
     mounted.walked walked 13 (first_place (meaning (disk_of old)) (seat_of old) mounted.walked) tt (λ kept by. never kept (subst (λ (b : List ℕ). BeginsBy b kept) (sym is) by))))
 
 pub returns-in-None-clause-cause : goal.returns-in-None-clause-cause
@@ -83,7 +83,7 @@ returns-clause-read g c = λ told mounted.
       walked = walked;
       so = (first, begins, refl);
       place =
-          next_place (meaning (disk_of old)) (meaning (disk_of new)) (seat_of old) (seat_of new) [] body c.next_body.ensures.stays.reads c.next_body.ensures.same.0 c.next_body.ensures.same.1
+          next_place c.frames_stand_in_a_row.ensures.pushed c.frames_stand_in_a_row.ensures.length (meaning (disk_of old)) (meaning (disk_of new)) (seat_of old) (seat_of new) [] body c.next_body.ensures.stays.reads c.next_body.ensures.same.0 c.next_body.ensures.same.1
           mounted.walked walked 13 c.behind.result (first_place (meaning (disk_of old)) (seat_of old) mounted.walked)
           (laws.bounded (disk_of new) (meaning (disk_of new)).reads (laws.reads_is_image (disk_of new) told))
           (subst (λ (b : List ℕ). 13 + 9 + length b ≤ 2 ^ 62 → c.behind.result ≡ 13 + 9 + length b) there c.behind.ensures);
@@ -107,7 +107,7 @@ returns-clause-why g c = λ told mounted.
       walked = walked;
       so = (first, begins, refl);
       place =
-          next_place (meaning (disk_of old)) (meaning (disk_of new)) (seat_of old) (seat_of new) [] body c.next_body.ensures.stays.reads c.next_body.ensures.same.0 c.next_body.ensures.same.1
+          next_place c.frames_stand_in_a_row.ensures.pushed c.frames_stand_in_a_row.ensures.length (meaning (disk_of old)) (meaning (disk_of new)) (seat_of old) (seat_of new) [] body c.next_body.ensures.stays.reads c.next_body.ensures.same.0 c.next_body.ensures.same.1
           mounted.walked walked 13 c.behind.result (first_place (meaning (disk_of old)) (seat_of old) mounted.walked)
           (laws.bounded (disk_of new) (meaning (disk_of new)).reads (laws.reads_is_image (disk_of new) told))
           (subst (λ (b : List ℕ). 13 + 9 + length b ≤ 2 ^ 62 → c.behind.result ≡ 13 + 9 + length b) there c.behind.ensures);

@@ -56,7 +56,7 @@ returns-then-branch-clause-taken g c = λ told taken.
       walked = walked;
       so = replayed_push taken.bodies kept next body taken.so by;
       place =
-          next_place (meaning (disk_of old)) (meaning (disk_of new)) (seat_of old) (seat_of new) taken.bodies body c.next_body.ensures.stays.reads c.next_body.ensures.same.0 c.next_body.ensures.same.1
+          next_place c.frames_stand_in_a_row.ensures.pushed c.frames_stand_in_a_row.ensures.length (meaning (disk_of old)) (meaning (disk_of new)) (seat_of old) (seat_of new) taken.bodies body c.next_body.ensures.stays.reads c.next_body.ensures.same.0 c.next_body.ensures.same.1
           taken.walked walked at c.behind.result taken.place (laws.bounded (disk_of new) (meaning (disk_of new)).reads (laws.reads_is_image (disk_of new) told))
           (subst (λ (b : List ℕ). at + 9 + length b ≤ 2 ^ 62 → c.behind.result ≡ at + 9 + length b) there c.behind.ensures);
     }
@@ -71,6 +71,6 @@ returns-clause-why g c = λ told taken.
     let is : c.deref.result.now ≡ body = cc in
     let walked = rw c.in-Some.is at (c.in_ok-next_body.ensures.next told taken.bodies taken.walked) in
     let never = rw c.if-branch.false at c.in_ok-go_on_by-in-Some.ensures.goes in
-    rw c.area-area.ensures (inr (body_damage (meaning (disk_of old)) (meaning (disk_of new)) (seat_of old) (seat_of new) taken.bodies body c.next_body.ensures.stays.reads c.next_body.ensures.same.0 c.next_body.ensures.same.1
+    rw c.area-area.ensures (inr (body_damage c.frames_stand_in_a_row.ensures.pushed c.frames_stand_in_a_row.ensures.length (meaning (disk_of old)) (meaning (disk_of new)) (seat_of old) (seat_of new) taken.bodies body c.next_body.ensures.stays.reads c.next_body.ensures.same.0 c.next_body.ensures.same.1
     taken.walked walked c.args.at taken.place (replayable taken.bodies kept taken.so)
     (cannot_follow c.one_front.ensures taken.bodies kept body taken.so (λ next by. never next (subst (λ (b : List ℕ). GoesOnBy kept b next) (sym is) by)))))

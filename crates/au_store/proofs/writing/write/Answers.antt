@@ -5,7 +5,7 @@ use Rattle.au_journal.specs.Seats.{needed_of}
 use Rattle.rec_codec.specs.Frames.{spelled}
 use Rattle.au_store.specs.Recovery.{ReplayedTo}
 use Rattle.au_store.proofs.Frames.{carried, carried_by, is_framed, replayed_push, within_limit}
-use Rattle.au_store.proofs.Keeping.{appended_kept, either_since, left_in_doubt}
+use Rattle.au_store.proofs.Keeping.{append_unsettled, appended_kept, either_since, left_in_doubt}
 use Rattle.au_store.proofs.writing.write.Goals as goal
 
 pub returns-in-Some-clause-kept : goal.returns-in-Some-clause-kept
@@ -31,7 +31,7 @@ returns-in-Some-clause-doubted g c = λ told kept next was carries failed.
     let n = g.D.Disk.meaning (disk_of new) in
     let then = replayed_push was.bodies kept next body was.so (carried_by kept next k.0 k.2) in
     inr (left_in_doubt (ReplayedTo kept) (ReplayedTo next) m n (seat_of new) was.bodies (was.bodies ++ body ∷ []) (laws.counts_now (disk_of new)) c.append.ensures.time
-    (c.append.ensures.doubted told was.bodies body (is_framed bytes k.0 k.1) was.settled failed) was.so then
+    (c.append.ensures.doubted told was.bodies body (is_framed bytes k.0 k.1) was.settled failed) was.so then (append_unsettled (seat_of new).doubt (c.append.ensures.in_doubt failed))
     (either_since (ReplayedTo kept) (ReplayedTo next) (seat_of old) was.bodies (seat_of old).area (was.bodies ++ body ∷ []) m n c.requires.gated was.so then
     (c.append.ensures.any_moment told was.bodies body (is_framed bytes k.0 k.1) was.settled)))
 
@@ -57,3 +57,17 @@ returns-in-Some-clause-within g c = λ done.
 pub returns-in-Some-clause-full : goal.returns-in-Some-clause-full
 returns-in-Some-clause-full g c = λ needed limit is.
     (c.in-Some.framed.now, sym c.in-Some.ensures, (c.append.ensures.full needed limit).0 is)
+
+pub returns-in-Some-clause-wrote : goal.returns-in-Some-clause-wrote
+returns-in-Some-clause-wrote g c = λ failed. (c.in-Some.framed.now, sym c.in-Some.ensures)
+
+pub returns-in-Some-clause-in_doubt : goal.returns-in-Some-clause-in_doubt
+returns-in-Some-clause-in_doubt g c = λ failed. append_unsettled (seat_of c.append.new.self).doubt (c.append.ensures.in_doubt failed)
+
+pub returns-in-Some-clause-fits : goal.returns-in-Some-clause-fits
+returns-in-Some-clause-fits g c = λ failed.
+    let old = seat_of c.args.journal.now in
+    let bytes = c.in-Some.framed.now in
+    within_limit old c.args.prepared.now.framed bytes c.in-Some.ensures (λ over.
+    let is = (c.append.ensures.full (needed_of old (length bytes)) old.limit).1 (record { bound = refl; needed_is = refl; limit_is = refl; exceeds = over }) in
+    let no : answer.Disk ≡ answer.Full (needed_of old (length bytes)) old.limit = sym failed ∙ is in cc)

@@ -1,6 +1,6 @@
 use Rattle.std.proofs.Common.{inl, inr, ◌∙◌}
 use Rattle.au_io.specs.Moments.{both_calls}
-use Rattle.au_journal.specs.Creation.{IsOnly, OthersAreBlank, FormatLeaves}
+use Rattle.au_journal.specs.Creation.{IsOnly, OthersAreBlank, FormatLeaves, FormatPasses}
 use Rattle.au_journal.proofs.Created.{laid_new, format_since, others_since}
 use Rattle.au_journal.proofs.journal.Journal.format.Goals as goal
 
@@ -79,3 +79,23 @@ returns-in-Err-lay_down-clause-again g c = λ told others.
     let way = c.lay_down.ensures.any_moment told old.reads only in
     both_calls OthersAreBlank old mid new stays.time c.lay_down.ensures.time (λ image since. others image (stays.images image since))
     (others_since c.args.limit c.args.framed.now old mid new old.reads here unformed way)
+
+pub returns-in-Ok-clause-on_the_way : goal.returns-in-Ok-clause-on_the_way
+returns-in-Ok-clause-on_the_way g c = λ told.
+    let old = g.D.Disk.meaning c.args.disk.now in
+    let mid = g.D.Disk.meaning c.is_formatted.new.disk in
+    let new = g.D.Disk.meaning c.lay_down.new.disk in
+    let stays = c.in-Ok-false.ensures.stays in
+    let only : IsOnly old.reads mid = λ image is. c.in-Ok-false.ensures.still image is ∙ stays.reads in
+    both_calls (FormatPasses old c.args.limit c.args.framed.now) old mid new stays.time c.lay_down.ensures.time (λ image since. inl (stays.images image since))
+    (λ image since. inr (c.lay_down.ensures.any_moment told old.reads only image since))
+
+pub returns-in-Err-lay_down-clause-on_the_way : goal.returns-in-Err-lay_down-clause-on_the_way
+returns-in-Err-lay_down-clause-on_the_way g c = λ told.
+    let old = g.D.Disk.meaning c.args.disk.now in
+    let mid = g.D.Disk.meaning c.is_formatted.new.disk in
+    let new = g.D.Disk.meaning c.lay_down.new.disk in
+    let stays = c.in-Ok-false.ensures.stays in
+    let only : IsOnly old.reads mid = λ image is. c.in-Ok-false.ensures.still image is ∙ stays.reads in
+    both_calls (FormatPasses old c.args.limit c.args.framed.now) old mid new stays.time c.lay_down.ensures.time (λ image since. inl (stays.images image since))
+    (λ image since. inr (c.lay_down.ensures.any_moment told old.reads only image since))

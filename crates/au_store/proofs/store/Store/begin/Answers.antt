@@ -9,19 +9,8 @@ use Rattle.au_store.proofs.Begun.{no_cost, no_time, start_cost, unstarted}
 use Rattle.au_store.proofs.Sound.{settled_sound}
 use Rattle.au_store.proofs.store.Store.begin.Goals as goal
 
-pub returns-then-instance-ge-INSTANCES-clause-clock : goal.returns-then-instance-ge-INSTANCES-clause-clock
-returns-then-instance-ge-INSTANCES-clause-clock g c = inl refl
-
 pub returns-then-instance-ge-INSTANCES-clause-why : goal.returns-then-instance-ge-INSTANCES-clause-why
 returns-then-instance-ge-INSTANCES-clause-why g c = omega (arith, c.if-instance-ge-INSTANCES.true, c.instance.ensures, c.lawful.ensures.kept.instance)
-
-pub returns-then-instance-ge-INSTANCES-clause-any_moment : goal.returns-then-instance-ge-INSTANCES-clause-any_moment
-returns-then-instance-ge-INSTANCES-clause-any_moment g c = λ told gated.
-    let laws = g.met.D.Disk g.world.𝓛 g.world.𝓜 g.world.𝓡 ((λ s x. x), (λ x. x), (λ x. x), λ x. x) in
-    let meaning = g.D.Disk.meaning in
-    let j = c.args.journal in
-    let kept = c.args.engine.state.kept in
-    (0, rw c.shut.ensures (unstarted (meaning (disk_of j)) (seat_of j) kept (start kept 0).kept (laws.only_now (disk_of j)) gated (c.requires.read told)))
 
 pub returns-then-instance-ge-INSTANCES-clause-time : goal.returns-then-instance-ge-INSTANCES-clause-time
 returns-then-instance-ge-INSTANCES-clause-time g c =
@@ -41,17 +30,6 @@ returns-then-instance-ge-INSTANCES-clause-cause g c = ap g.D.Disk.faults c.shut.
 
 pub next_instance-requires-clause-fresh : goal.next_instance-requires-clause-fresh
 next_instance-requires-clause-fresh g c = omega (arith, c.if-instance-ge-INSTANCES.false, c.instance.ensures)
-
-pub returns-in-Err-clause-clock : goal.returns-in-Err-clause-clock
-returns-in-Err-clause-clock g c = inr (c.now-reading.result, c.now-reading.ensures)
-
-pub returns-in-Err-clause-any_moment : goal.returns-in-Err-clause-any_moment
-returns-in-Err-clause-any_moment g c = λ told gated.
-    let laws = g.met.D.Disk g.world.𝓛 g.world.𝓜 g.world.𝓡 ((λ s x. x), (λ x. x), (λ x. x), λ x. x) in
-    let meaning = g.D.Disk.meaning in
-    let j = c.args.journal in
-    let kept = c.args.engine.state.kept in
-    (c.now-reading.result, rw c.shut-in-Err.ensures (unstarted (meaning (disk_of j)) (seat_of j) kept (start kept c.now-reading.result).kept (laws.only_now (disk_of j)) gated (c.requires.read told)))
 
 pub returns-in-Err-clause-time : goal.returns-in-Err-clause-time
 returns-in-Err-clause-time g c =
@@ -91,8 +69,8 @@ invariant_of-result g c =
     let carries = subst (λ (b : List ℕ). CarriesTo kept (Some b) next) is c.in-Ok.ensures.carries in
     let n = c.write_start.new.journal in
     let wrote = c.in-Ok-write_start.ensures in
-    subst (λ (s : State). IsSound g.D.Disk.told (meaning (disk_of n)) (seat_of n) s.kept) (sym c.in-Ok.ensures.state)
-    (settled_sound g.D.Disk.told (meaning (disk_of n)) (seat_of n) next wrote.ended wrote.gated wrote.settled c.requires.ends
+    subst (λ (s : State). IsSound g.D.Disk.told (meaning (disk_of n)) (seat_of n) s) (sym c.in-Ok.ensures.state)
+    (settled_sound g.D.Disk.told (meaning (disk_of n)) (seat_of n) (start kept c.now-reading.result) wrote.ended wrote.gated wrote.settled c.requires.ends
     (λ told. wrote.kept told kept next (c.requires.read told) carries))
 
 pub returns-in-Ok-write_start-clause-begun : goal.returns-in-Ok-write_start-clause-begun
@@ -137,18 +115,6 @@ returns-in-Ok-write_start-clause-cost g c =
 pub returns-in-Ok-write_start-clause-cause : goal.returns-in-Ok-write_start-clause-cause
 returns-in-Ok-write_start-clause-cause g c = c.in-Ok-write_start.ensures.cause.done
 
-pub returns-in-Err-write_start-clause-clock : goal.returns-in-Err-write_start-clause-clock
-returns-in-Err-write_start-clause-clock g c = inr (c.now-reading.result, c.now-reading.ensures)
-
-pub returns-in-Err-write_start-clause-any_moment : goal.returns-in-Err-write_start-clause-any_moment
-returns-in-Err-write_start-clause-any_moment g c = λ told gated.
-    let j = c.args.journal in
-    let kept = c.args.engine.state.kept in
-    let next = (start kept c.now-reading.result).kept in
-    let is : c.in-Ok.framed.items ≡ c.deref.result.now = cc in
-    let carries = subst (λ (b : List ℕ). CarriesTo kept (Some b) next) is c.in-Ok.ensures.carries in
-    (c.now-reading.result, rw c.shut-in-Err-write_start.ensures (c.write_start.ensures.any_moment told kept next (c.requires.read told) carries gated))
-
 pub returns-in-Err-write_start-clause-time : goal.returns-in-Err-write_start-clause-time
 returns-in-Err-write_start-clause-time g c = rw c.shut-in-Err-write_start.ensures c.write_start.ensures.time
 
@@ -165,3 +131,22 @@ pub returns-in-Err-write_start-clause-cause : goal.returns-in-Err-write_start-cl
 returns-in-Err-write_start-clause-cause g c =
     let cause = c.in-Err-write_start.ensures.cause in
     rw c.shut-in-Err-write_start.ensures (cause.never_falls, cause.failed refl)
+
+pub returns-then-instance-ge-INSTANCES-clause-in_vain : goal.returns-then-instance-ge-INSTANCES-clause-in_vain
+returns-then-instance-ge-INSTANCES-clause-in_vain g c = (refl, c.shut.ensures)
+
+pub returns-in-Err-clause-in_vain : goal.returns-in-Err-clause-in_vain
+returns-in-Err-clause-in_vain g c = (inr (c.now-reading.result, c.now-reading.ensures), c.shut-in-Err.ensures)
+
+pub returns-in-Err-write_start-clause-in_vain : goal.returns-in-Err-write_start-clause-in_vain
+returns-in-Err-write_start-clause-in_vain g c = (
+  c.now-reading.result,
+  c.now-reading.ensures,
+  λ told gated.
+      let j = c.args.journal in
+      let kept = c.args.engine.state.kept in
+      let next = (start kept c.now-reading.result).kept in
+      let is : c.in-Ok.framed.items ≡ c.deref.result.now = cc in
+      let carries = subst (λ (b : List ℕ). CarriesTo kept (Some b) next) is c.in-Ok.ensures.carries in
+      rw c.shut-in-Err-write_start.ensures (c.write_start.ensures.any_moment told kept next (c.requires.read told) carries gated),
+)

@@ -35,8 +35,8 @@ invariant_of-self g c =
     let settled = rw (← c.self.view_is) at c.requires.settled in
     let carries = rw (← c.self.view_is) at c.requires.carries in
     let next = (after c.args.prepared m).kept in
-    subst (λ (s : State). IsSound g.D.Disk.told (g.D.Disk.meaning c.write.new.journal.disk) c.write.new.journal.seat s.kept) (sym c.apply.ensures.next)
-    (settled_sound g.D.Disk.told (g.D.Disk.meaning c.write.new.journal.disk) c.write.new.journal.seat next c.write.ensures.ended c.write.ensures.gated (c.write.ensures.settled c.in-Done.is) (rw (← c.self.view_is) at c.requires.ends)
+    subst (λ (s : State). IsSound g.D.Disk.told (g.D.Disk.meaning c.write.new.journal.disk) c.write.new.journal.seat s) (sym c.apply.ensures.next)
+    (settled_sound g.D.Disk.told (g.D.Disk.meaning c.write.new.journal.disk) c.write.new.journal.seat (after c.args.prepared m) c.write.ensures.ended c.write.ensures.gated (c.write.ensures.settled c.in-Done.is) (rw (← c.self.view_is) at c.requires.ends)
     (λ told. c.write.ensures.kept told m.kept next (settled_stands (ReplayedTo m.kept) (ReplayedTo (sound.stands told).doubted) j.seat j.seat sound.gated (g.D.Disk.meaning j.disk) settled (sound.stands told).stood) carries c.in-Done.is))
 
 pub invariant_of-self-in-Disk : goal.invariant_of-self-in-Disk
@@ -48,7 +48,7 @@ invariant_of-self-in-Disk g c =
     let carries = rw (← c.self.view_is) at c.requires.carries in
     let next = (after c.args.prepared m).kept in
     let left = rw (← c.self.view_is) at c.requires.left in
-    record { ended = c.write.ensures.ended; gated = c.write.ensures.gated; ends = sound.ends; stands = λ told. record { doubted = next; left = λ unsettled. left; stood = c.write.ensures.doubted told m.kept next (settled_stands (ReplayedTo m.kept) (ReplayedTo (sound.stands told).doubted) j.seat j.seat sound.gated (g.D.Disk.meaning j.disk) settled (sound.stands told).stood) carries c.in-Disk.is } }
+    record { ended = c.write.ensures.ended; gated = c.write.ensures.gated; ends = sound.ends; stands = λ told. record { doubted = next; left = λ unsettled. let some = c.write.ensures.wrote c.in-Disk.is in left some.0 some.1; stood = c.write.ensures.doubted told m.kept next (settled_stands (ReplayedTo m.kept) (ReplayedTo (sound.stands told).doubted) j.seat j.seat sound.gated (g.D.Disk.meaning j.disk) settled (sound.stands told).stood) carries c.in-Disk.is } }
 
 pub returns-in-Done-clause-within : goal.returns-in-Done-clause-within
 returns-in-Done-clause-within g c =
@@ -124,3 +124,12 @@ returns-in-Full-clause-kept g c =
     let sound = c.self.invariant in
     let settled = rw (← c.self.view_is) at c.requires.settled in
     λ told no_fault. rw (c.write.ensures.untouched c.in-Full.needed c.in-Full.limit c.in-Full.is) (settled_stands (ReplayedTo m.kept) (ReplayedTo (sound.stands told).doubted) j.seat j.seat sound.gated (g.D.Disk.meaning j.disk) settled (sound.stands told).stood)
+
+pub returns-in-Disk-clause-in_doubt : goal.returns-in-Disk-clause-in_doubt
+returns-in-Disk-clause-in_doubt g c = λ is. c.write.ensures.in_doubt c.in-Disk.is
+
+pub returns-in-Disk-clause-wrote : goal.returns-in-Disk-clause-wrote
+returns-in-Disk-clause-wrote g c = λ is. c.write.ensures.wrote c.in-Disk.is
+
+pub returns-in-Disk-clause-fits : goal.returns-in-Disk-clause-fits
+returns-in-Disk-clause-fits g c = rw (← c.self.view_is) (λ is. c.write.ensures.fits c.in-Disk.is)

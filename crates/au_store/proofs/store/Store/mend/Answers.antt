@@ -1,6 +1,5 @@
-use Rattle.std.proofs.Common.{arith}
 use Rattle.au_store.specs.Recovery.{ReplayedTo}
-use Rattle.au_store.proofs.Keeping.{mend_writes, mended_kept, mending_since, still_stands}
+use Rattle.au_store.proofs.Keeping.{mended_kept, mending_since, still_stands}
 use Rattle.au_store.proofs.Sound.{mend_sound}
 use Rattle.au_store.proofs.store.Store.mend.Goals as goal
 
@@ -11,7 +10,7 @@ invariant_of-self g c =
     let new = c.mend.new.self in
     let kept = c.self.inside.engine.state.kept in
     let sound = c.self.invariant in
-    mend_sound g.D.Disk.told (g.D.Disk.meaning j.disk) (g.D.Disk.meaning new.disk) j.seat new.seat kept c.mend.result sound c.mend.ensures.mends c.mend.ensures.rests
+    mend_sound g.D.Disk.told (g.D.Disk.meaning j.disk) (g.D.Disk.meaning new.disk) j.seat new.seat c.self.inside.engine.state c.mend.result sound c.mend.ensures.mends c.mend.ensures.rests
     (λ told done. mended_kept (ReplayedTo kept) (ReplayedTo (sound.stands told).doubted) j.seat new.seat sound.gated (g.D.Disk.meaning j.disk) (g.D.Disk.meaning new.disk)
     (c.mend.ensures.mends done) (sound.stands told).stood (λ bodies others doubted. c.mend.ensures.mended told bodies others doubted done))
     (λ told doubted stands failed. still_stands (ReplayedTo kept) (ReplayedTo doubted) j.seat new.seat sound.gated g.D.Disk.meaning j.disk new.disk c.mend.ensures.still
@@ -53,7 +52,7 @@ returns-clause-any_moment g c =
     (λ bodies others was. c.mend.ensures.any_moment bodies others was))
 
 pub returns-clause-cost : goal.returns-clause-cost
-returns-clause-cost g c = rw (← c.self.view_is) (let most = mend_writes c.self.inside.journal.seat.doubt in omega (arith, most, c.mend.ensures.cost))
+returns-clause-cost g c = rw (← c.self.view_is) c.mend.ensures.cost
 
 pub returns-clause-stood : goal.returns-clause-stood
 returns-clause-stood g c = rw (← c.self.view_is) c.mend.ensures.stood

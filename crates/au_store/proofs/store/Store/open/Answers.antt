@@ -1,21 +1,15 @@
-use Rattle.std.proofs.Common.{◌∙◌, inl, refl, sym}
+use Rattle.std.proofs.Common.{◌≡◌, ◌∙◌, false, refl, sym}
 use Rattle.au_io.specs.Moments.{both_pass, both_stay}
 use Rattle.au_journal.specs.Journals.{disk_of, seat_of}
 use Rattle.au_engine.specs.Image.{nothing}
 use Rattle.au_store.proofs.Begun.{cause_after, match_both, no_cost, says_of}
-use Rattle.au_store.proofs.Reading.{gated_by, mount_cause, mount_says, open_leaves, opened_by, recovered, seated_by, start_says}
+use Rattle.au_store.proofs.Reading.{gated_by, mount_cause, mount_says, open_leaves, opened_by, opens_in_vain, recovered, seated_by, start_says, unread_in_vain}
 use Rattle.au_store.proofs.store.Store.open.Goals as goal
-
-pub returns-in-Err-clause-clock : goal.returns-in-Err-clause-clock
-returns-in-Err-clause-clock g c = inl refl
 
 pub returns-in-Err-clause-why : goal.returns-in-Err-clause-why
 returns-in-Err-clause-why g c = λ told.
     let meaning = g.D.Disk.meaning in
     rw c.from.ensures (mount_says (meaning c.args.disk).reads c.in-Err.why (c.in-Err.ensures.why told))
-
-pub returns-in-Err-clause-any_moment : goal.returns-in-Err-clause-any_moment
-returns-in-Err-clause-any_moment g c = λ told none. (0, λ all since. inl (c.in-Err.ensures.stays.images all since))
 
 pub returns-in-Err-clause-time : goal.returns-in-Err-clause-time
 returns-in-Err-clause-time g c = c.in-Err.ensures.stays.time
@@ -99,8 +93,7 @@ returns-in-Ok-recover-clause-any_moment g c = λ told none.
     let recovers = recovered old new seat kept stays.reads image read in
     let gated = gated_by old new seat kept stays.reads image read (laws.reads_is_image c.args.disk told) none in
     match_both c.begin.result _ _ _ _ _ _ (c.begin.ensures.any_moment told gated) c.begin.ensures.time
-    (λ store leaves time. open_leaves old new (meaning store.disk) kept store.reading stays time recovers leaves)
-    (λ failed leaves time. (leaves.0, open_leaves old new (meaning failed.0) kept leaves.0 stays time recovers leaves.1))
+    (λ store leaves time. open_leaves old new (meaning store.disk) kept store.reading stays time recovers leaves) (λ failed none _. none)
 
 pub returns-in-Ok-recover-clause-time : goal.returns-in-Ok-recover-clause-time
 returns-in-Ok-recover-clause-time g c =
@@ -127,23 +120,10 @@ pub returns-in-Ok-recover-clause-cause : goal.returns-in-Ok-recover-clause-cause
 returns-in-Ok-recover-clause-cause g c =
     rw (sym (c.in-Ok-recover.ensures.cause ∙ c.in-Ok.ensures.cause)) c.begin.ensures.cause
 
-pub returns-in-Err-recover-clause-clock : goal.returns-in-Err-recover-clause-clock
-returns-in-Err-recover-clause-clock g c = inl refl
-
 pub returns-in-Err-recover-clause-why : goal.returns-in-Err-recover-clause-why
 returns-in-Err-recover-clause-why g c = λ told.
     let meaning = g.D.Disk.meaning in
     says_of c.in-Err-recover.why (meaning c.args.disk).reads (meaning (disk_of c.in-Ok.journal)).reads c.in-Ok.ensures.stays.reads (c.in-Err-recover.ensures.why told (c.in-Ok.ensures.mounted told))
-
-pub returns-in-Err-recover-clause-any_moment : goal.returns-in-Err-recover-clause-any_moment
-returns-in-Err-recover-clause-any_moment g c = λ told none.
-    let laws = g.met.D.Disk g.world.𝓛 g.world.𝓜 g.world.𝓡 ((λ s x. x), (λ x. x), (λ x. x), λ x. x) in
-    let meaning = g.D.Disk.meaning in
-    let old = meaning c.args.disk in
-    let mid = meaning (disk_of c.in-Ok.journal) in
-    let new = meaning (disk_of c.recover.new.journal) in
-    let stays = both_stay old mid new (laws.counts_now (disk_of c.in-Ok.journal)) c.in-Ok.ensures.stays c.recover.ensures.stays in
-    (0, rw c.shut.ensures (λ all since. inl (stays.images all since)))
 
 pub returns-in-Err-recover-clause-time : goal.returns-in-Err-recover-clause-time
 returns-in-Err-recover-clause-time g c =
@@ -169,3 +149,36 @@ pub returns-in-Err-recover-clause-cause : goal.returns-in-Err-recover-clause-cau
 returns-in-Err-recover-clause-cause g c =
     let faults = g.D.Disk.faults in
     rw c.shut.ensures (cause_after c.in-Err-recover.why (faults c.args.disk) (faults (disk_of c.in-Ok.journal)) (faults (disk_of c.recover.new.journal)) c.in-Ok.ensures.cause c.in-Err-recover.ensures.cause)
+
+pub returns-in-Err-clause-in_vain : goal.returns-in-Err-clause-in_vain
+returns-in-Err-clause-in_vain g c =
+    unread_in_vain g.D.Disk.told g.D.Disk.meaning g.C.Clock.ticking c.args.disk c.in-Err.disk c.args.clock c.args.clock c.from.result refl c.in-Err.ensures.stays
+
+pub returns-in-Err-recover-clause-in_vain : goal.returns-in-Err-recover-clause-in_vain
+returns-in-Err-recover-clause-in_vain g c =
+    let laws = g.met.D.Disk g.world.𝓛 g.world.𝓜 g.world.𝓡 ((λ s x. x), (λ x. x), (λ x. x), λ x. x) in
+    let meaning = g.D.Disk.meaning in
+    let old = meaning c.args.disk in
+    let mid = meaning (disk_of c.in-Ok.journal) in
+    let new = meaning (disk_of c.recover.new.journal) in
+    let stays = both_stay old mid new (laws.counts_now (disk_of c.in-Ok.journal)) c.in-Ok.ensures.stays c.recover.ensures.stays in
+    rw c.shut.ensures
+    (unread_in_vain g.D.Disk.told meaning g.C.Clock.ticking c.args.disk (disk_of c.recover.new.journal) c.args.clock c.args.clock c.in-Err-recover.why refl stays)
+
+pub returns-in-Ok-recover-clause-in_vain : goal.returns-in-Ok-recover-clause-in_vain
+returns-in-Ok-recover-clause-in_vain g c =
+    let laws = g.met.D.Disk g.world.𝓛 g.world.𝓜 g.world.𝓡 ((λ s x. x), (λ x. x), (λ x. x), λ x. x) in
+    let meaning = g.D.Disk.meaning in
+    let d = c.args.disk in
+    let n = disk_of c.recover.new.journal in
+    let old = meaning d in
+    let mid = meaning (disk_of c.in-Ok.journal) in
+    let new = meaning n in
+    let stays = both_stay old mid new (laws.counts_now (disk_of c.in-Ok.journal)) c.in-Ok.ensures.stays c.recover.ensures.stays in
+    let kept = c.in-Ok-recover.engine.state.kept in
+    let seat = seat_of c.recover.new.journal in
+    match_both c.begin.result _ _ _ _ _ _ c.begin.ensures.in_vain c.begin.ensures.time (λ store none _. none)
+    (λ failed vain time. opens_in_vain g.D.Disk.told meaning g.C.Clock.ticking d n failed.0 c.args.clock failed.1 kept (seat.bare ≡ false) stays time
+    (λ told. recovered old new seat kept stays.reads (laws.reads_is_image n told) (c.in-Ok-recover.ensures.read told (c.in-Ok.ensures.mounted told)))
+    (λ told none. gated_by old new seat kept stays.reads (laws.reads_is_image n told) (c.in-Ok-recover.ensures.read told (c.in-Ok.ensures.mounted told)) (laws.reads_is_image d told) none)
+    failed.2 vain)

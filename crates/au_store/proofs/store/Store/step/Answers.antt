@@ -1,13 +1,15 @@
-use Rattle.std.proofs.Common.{◌≡◌, inl, inr, ℕ, refl, sym, ◌∙◌, ap, subst, arith}
+use Rattle.std.proofs.Common.{◌≡◌, ◌≢◌, [], inl, inr, ℕ, refl, sym, ◌∙◌, ap, subst, arith}
 use Rattle.au_io.specs.Moments.{LeavesSince, both_pass}
 use Rattle.au_journal.specs.declared.seat.Seat.{Seat}
-use Rattle.au_journal.specs.Seats.{mended}
+use Rattle.au_journal.specs.declared.doubt.Doubt.TheVariants.{Settled}
+use Rattle.au_journal.specs.Seats.{mend_bytes, mended}
 use Rattle.au_base.specs.declared.reply.Said.TheVariants as said
 use Rattle.au_engine.specs.Prepared.{after}
 use Rattle.au_engine.specs.State.{State}
 use Rattle.au_store.specs.Recovery.{RecoversToEither}
-use Rattle.au_store.specs.Steps.{Exceeds, StepCause, StepCosts, StepDoubts, StepLeaves, StepMoves, StepsBy, event_at}
-use Rattle.au_store.proofs.Stepped.{exceeds_by, exceeds_from, kept_from, made_after, mend_leaves, moves_from, since_from, since_to, step_costs, step_leaves, step_moves, steps_by, time_from, tried_read, written_from}
+use Rattle.au_store.specs.Steps.{Exceeds, HasFrameWithin, StepCause, StepCosts, StepDoubts, StepLeaves, StepMoves, StepsBy, event_at}
+use Rattle.au_store.proofs.Going.{faulted_on, goes_on, mended_moved, same_moved, still_on}
+use Rattle.au_store.proofs.Stepped.{exceeds_by, exceeds_from, frame_there, frame_within, kept_from, made_after, mend_leaves, moves_from, since_from, since_to, step_costs, step_leaves, step_moves, steps_by, time_from, tried_read, written_from}
 use Rattle.au_store.proofs.store.Store.step.Goals as goal
 
 pub returns-in-Disk-clause-any_moment : goal.returns-in-Disk-clause-any_moment
@@ -139,10 +141,10 @@ returns-in-Ok-clause-cost g c =
     let at = event_at c.args.client c.args.ask.now in
     let event = at s2.reading in
     let seat : s2.seat ≡ mended s0.seat = c.prepare.ensures.same.1 ∙ c.mend.ensures.mended c.in-Done.is in
-    subst (λ (r : ℕ). StepCosts s0.state (at r) c.make.result (meaning s0.disk).written (meaning s3.disk).written) (sym c.make.ensures.same.1)
-    (subst (λ (s : State). StepCosts s event c.make.result (meaning s0.disk).written (meaning s3.disk).written) same
+    subst (λ (r : ℕ). StepCosts s0.state (at r) (mend_bytes s0.seat.doubt) c.make.result (meaning s0.disk).written (meaning s3.disk).written) (sym c.make.ensures.same.1)
+    (subst (λ (s : State). StepCosts s event (mend_bytes s0.seat.doubt) c.make.result (meaning s0.disk).written (meaning s3.disk).written) same
     (let mid = written_from meaning s1.disk s2.disk disk in
-    step_costs s2.state event prepared c.in-Ok.ensures.writes s3.state c.make.result (meaning s0.disk).written (meaning s3.disk).written c.make.ensures.made
+    step_costs s2.state event prepared c.in-Ok.ensures.writes (mend_bytes s0.seat.doubt) s3.state c.make.result (meaning s0.disk).written (meaning s3.disk).written c.make.ensures.made
     (omega (arith, mid, c.mend.ensures.cost, c.make.ensures.cost))
     (λ needed limit is. let still = written_from meaning s2.disk s3.disk (c.make.ensures.untouched needed limit is) in omega (arith, mid, still, c.mend.ensures.cost))))
 
@@ -168,6 +170,7 @@ pub returns-in-Disk-clause-tries : goal.returns-in-Disk-clause-tries
 returns-in-Disk-clause-tries g c = inr (record {
   failed = refl;
   stood = c.mend.ensures.stood c.in-Disk.is;
+  seat = c.mend.ensures.rests c.in-Disk.is;
   clock = c.mend.ensures.same.2;
   reading = c.mend.ensures.same.3;
   cost = c.mend.ensures.cost;
@@ -179,6 +182,7 @@ pub returns-in-Err-clause-tries : goal.returns-in-Err-clause-tries
 returns-in-Err-clause-tries g c = inl (record {
   read = tried_read g.C.Clock.ticking c.args.self.now.clock c.mend.new.self.clock c.prepare.new.self.clock c.prepare.new.self.clock c.prepare.new.self.reading c.prepare.new.self.reading
       c.mend.ensures.same.2 refl refl c.prepare.ensures.reading;
+  wrote = λ is. absurd (let no : said.Memory ≡ said.Disk = is in cc);
   doubts = λ told is. absurd (let no : said.Memory ≡ said.Disk = is in cc);
 })
 
@@ -195,6 +199,10 @@ returns-in-Ok-clause-tries g c =
     let next = (after prepared s2.state).kept in
     inl (record {
       read = tried_read g.C.Clock.ticking s0.clock s1.clock s2.clock s3.clock s2.reading s3.reading c.mend.ensures.same.2 c.make.ensures.same.0 c.make.ensures.same.1 c.prepare.ensures.reading;
+      wrote = λ is. subst (λ (r : ℕ). HasFrameWithin s0.state s0.seat (at r)) (sym c.make.ensures.same.1)
+          (subst (λ (s : State). HasFrameWithin s s0.seat (at s2.reading)) same
+          (subst (λ (x : Seat). HasFrameWithin s2.state x (at s2.reading)) (c.prepare.ensures.same.1 ∙ c.mend.ensures.mended c.in-Done.is)
+          (frame_within s2.state (at s2.reading) prepared c.in-Ok.ensures.writes s2.seat (c.make.ensures.wrote is) (c.make.ensures.fits is))));
       doubts = λ told is. subst (λ (r : ℕ). StepDoubts s0.state (at r) (meaning s3.disk) s3.seat) (sym c.make.ensures.same.1)
           (subst (λ (s : State). StepDoubts s (at s2.reading) (meaning s3.disk) s3.seat) same
           (next, made_after s2.state (at s2.reading) prepared c.in-Ok.ensures.step, c.make.ensures.doubted told is));
@@ -204,4 +212,35 @@ pub make-requires-clause-left : goal.make-requires-clause-left
 make-requires-clause-left g c =
     let s2 = c.prepare.new.self in
     let event = event_at c.args.client c.args.ask.now s2.reading in
-    λ _ _. record { from = s2.state; event = event; same = refl; is_after = made_after s2.state event c.in-Ok.prepared c.in-Ok.ensures.step }
+    λ _ _ bytes is. record {
+      from = s2.state;
+      event = event;
+      gone = [];
+      since = refl;
+      has_frame = frame_there s2.state event c.in-Ok.prepared c.in-Ok.ensures.writes (bytes, is);
+      is_after = made_after s2.state event c.in-Ok.prepared c.in-Ok.ensures.step;
+    }
+
+pub returns-in-Disk-clause-in_doubt : goal.returns-in-Disk-clause-in_doubt
+returns-in-Disk-clause-in_doubt g c = λ is. subst (λ (s : Seat). s.doubt ≢ Settled) (sym (c.mend.ensures.rests c.in-Disk.is)) (c.mend.ensures.stood c.in-Disk.is)
+
+pub returns-in-Ok-clause-in_doubt : goal.returns-in-Ok-clause-in_doubt
+returns-in-Ok-clause-in_doubt g c = λ is. c.make.ensures.in_doubt is
+
+pub returns-in-Disk-clause-history : goal.returns-in-Disk-clause-history
+returns-in-Disk-clause-history g c =
+    let s0 = c.args.self.now in
+    let s1 = c.mend.new.self in
+    faulted_on g.D.Disk.faults s0 s1 c.args.client c.args.ask.now c.mend.ensures.same.0 (same_moved s0.seat s1.seat (c.mend.ensures.rests c.in-Disk.is)) c.in-Disk.ensures.cause.1
+
+pub returns-in-Err-clause-history : goal.returns-in-Err-clause-history
+returns-in-Err-clause-history g c =
+    let s0 = c.args.self.now in
+    let s2 = c.prepare.new.self in
+    still_on g.D.Disk.faults s0 s2 c.args.client c.args.ask.now (c.prepare.ensures.state ∙ c.mend.ensures.same.0)
+    (mended_moved s0.seat s2.seat (c.prepare.ensures.same.1 ∙ c.mend.ensures.mended c.in-Done.is)) (ap g.D.Disk.faults c.prepare.ensures.same.0 ∙ c.in-Done.ensures.cause)
+
+pub returns-in-Ok-clause-history : goal.returns-in-Ok-clause-history
+returns-in-Ok-clause-history g c =
+    goes_on g.D.Disk.faults c.args.self.now c.make.new.self c.args.client c.args.ask.now c.make.result
+    (returns-in-Ok-clause-step g c) (returns-in-Ok-clause-moves g c) (returns-in-Ok-clause-full g c) (returns-in-Ok-clause-cause g c)
