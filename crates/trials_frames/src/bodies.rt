@@ -4,7 +4,7 @@ use au_base::{
     TableName, Text,
 };
 use au_catalog::{Change, Enabled, Outcomes, Record, RecordKind};
-use rec_codec::{Frame, read, write, write_framed};
+use rec_codec::{Frame, ImageWriter, read, write, write_framed};
 use std::alloc::Global;
 use std::test::Fail;
 
@@ -310,26 +310,62 @@ const TABLED: [(&str, &str, bool); 29] = [
     ("a table without columns", "0b0001410001540000", true),
     ("column kind 0", "0b0001410001540100014b000012010100", false),
     ("column kind 4", "0b0001410001540100014b040012010100", false),
-    ("not-null byte 2", "0b0001410001540100014b010012020100", false),
+    (
+        "not-null byte 2",
+        "0b0001410001540100014b010012020100",
+        false,
+    ),
     ("no key count", "0b0001410001540100014b01001201", false),
-    ("a key past the end", "0b0001410001540100014b0100120102", false),
-    ("a key of place 255", "0b0001410001540100014b0100120101ff", true),
+    (
+        "a key past the end",
+        "0b0001410001540100014b0100120102",
+        false,
+    ),
+    (
+        "a key of place 255",
+        "0b0001410001540100014b0100120101ff",
+        true,
+    ),
     ("a table gone", "0c000141000154", true),
     ("a table gone without its owner", "0c000154", false),
     ("a row of NULL", "0d000141000154000000010100", true),
     ("a row without cells", "0d0001410001540000000100", true),
-    ("a row of one", "0d0001410001540000000101010000000000000001", true),
-    ("a row of -1", "0d000141000154000000010101ffffffffffffffff", true),
+    (
+        "a row of one",
+        "0d0001410001540000000101010000000000000001",
+        true,
+    ),
+    (
+        "a row of -1",
+        "0d000141000154000000010101ffffffffffffffff",
+        true,
+    ),
     (
         "the least number of eight bytes",
         "0d0001410001540000000101018000000000000000",
         true,
     ),
-    ("a number past the end", "0d00014100015400000001010100000000000001", false),
+    (
+        "a number past the end",
+        "0d00014100015400000001010100000000000001",
+        false,
+    ),
     ("a text", "0d000141000154000000010102000141", true),
-    ("a text of no bytes", "0d0001410001540000000101020000", false),
-    ("a text that is no UTF-8", "0d0001410001540000000101020001ff", false),
-    ("a text past the end", "0d000141000154000000010102000241", false),
+    (
+        "a text of no bytes",
+        "0d0001410001540000000101020000",
+        false,
+    ),
+    (
+        "a text that is no UTF-8",
+        "0d0001410001540000000101020001ff",
+        false,
+    ),
+    (
+        "a text past the end",
+        "0d000141000154000000010102000241",
+        false,
+    ),
     (
         "the last moment",
         "0d0001410001540000000101030384440ccc735fff",
@@ -342,7 +378,11 @@ const TABLED: [(&str, &str, bool); 29] = [
     ),
     ("cell sign 4", "0d00014100015400000001010400", false),
     ("two cells in one", "0d000141000154000000010200", false),
-    ("255 cells past the end", "0d00014100015400000001ff00", false),
+    (
+        "255 cells past the end",
+        "0d00014100015400000001ff00",
+        false,
+    ),
     ("a row gone", "0e000141000154ffffffff", true),
     ("a row gone past the end", "0e000141000154ffffff", false),
     ("a row gone with cells", "0e0001410001540000000100", false),
@@ -351,7 +391,11 @@ const TABLED: [(&str, &str, bool); 29] = [
 // a change of fine-grained policies, of the archive timestamp or of a dropped policy, its bytes, and
 // whether they are some change's
 const FINE_GRAINED: [(&str, &str, bool); 20] = [
-    ("no condition and no columns", "12000141000154000146000000000101", true),
+    (
+        "no condition and no columns",
+        "12000141000154000146000000000101",
+        true,
+    ),
     (
         "a condition, a column and all types",
         "1200014100015400014601000000054b203d2031000100014b010f00",
@@ -367,7 +411,11 @@ const FINE_GRAINED: [(&str, &str, bool); 20] = [
         "1200014100015400014600000200014b00014b000101",
         false,
     ),
-    ("option byte 2 of the condition", "12000141000154000146020000000101", false),
+    (
+        "option byte 2 of the condition",
+        "12000141000154000146020000000101",
+        false,
+    ),
     (
         "a condition past the end",
         "1200014100015400014601ffffffff4b203d2031000100014b010f00",
@@ -386,19 +434,35 @@ const FINE_GRAINED: [(&str, &str, bool); 20] = [
     ("no archive timestamp", "1400", true),
     ("an archive timestamp", "140100000000000f4240", true),
     ("one past the last moment", "14010384440ccc736000", false),
-    ("option byte 2 of the timestamp", "140200000000000f4240", false),
+    (
+        "option byte 2 of the timestamp",
+        "140200000000000f4240",
+        false,
+    ),
 ];
 
 // a purge, its body, and whether it is some frame's
 const PURGES: [(&str, &str, bool); 8] = [
-    ("of all records", "030000000000000000000000000000000000", true),
+    (
+        "of all records",
+        "030000000000000000000000000000000000",
+        true,
+    ),
     (
         "up to a moment",
         "0300000000000f42400100000000000f42000000000000000000",
         true,
     ),
-    ("without its moment", "0300000000000000000000000000000000", false),
-    ("option byte 2", "030000000000000000020000000000000000", false),
+    (
+        "without its moment",
+        "0300000000000000000000000000000000",
+        false,
+    ),
+    (
+        "option byte 2",
+        "030000000000000000020000000000000000",
+        false,
+    ),
     (
         "up to the last moment",
         "030000000000000000010384440ccc735fff0000000000000000",
@@ -875,5 +939,27 @@ fn a_purge_has_its_moment(rt: HostRuntime) -> Result<(), Fail> {
         records: List::new(alloc),
     };
     assert!(rt; read(alloc, &moment)? == Some(purge));
+    Ok(())
+}
+
+#[test]
+fn an_image_in_pieces_is_the_framed_image(rt: HostRuntime) -> Result<(), Fail> {
+    let alloc = rt.alloc();
+    let mut writer = ImageWriter::new(alloc, Stamp(5), 1)?;
+    writer.push_change(&Change::Start(7))?;
+    let framed = writer.finish()?;
+    let wanted = join(
+        alloc,
+        &[
+            "0000000000000016",
+            "01",
+            "0000000000000005",
+            "00000001",
+            "1500000007",
+            "00000000",
+            "00",
+        ],
+    )?;
+    assert_eq!(rt; framed.as_slice(), wanted.as_slice());
     Ok(())
 }
