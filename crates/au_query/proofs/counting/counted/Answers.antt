@@ -1,4 +1,4 @@
-use Rattle.std.proofs.Common.{◌∙◌, ap, arith, length}
+use Rattle.std.proofs.Common.{ap, arith, length}
 use Rattle.au_query.proofs.Tallies.{no_more}
 use Rattle.au_query.proofs.counting.counted.Goals as goal
 
