@@ -1,8 +1,8 @@
 -- A search that takes one row of each table that isn't named finds what the whole product has.
-use Rattle.std.proofs.Common.{◌≡◌, ◌≢◌, ◌∙◌, refl, sym, ap, Bool, true, false, ◌||◌, ℕ, zero, suc, ◌+◌, ◌<◌, List, [], ◌∷◌, ◌++◌, map, length, take, append_assoc, arith}
+use Rattle.std.proofs.Common.{◌≡◌, ◌≢◌, ◌∙◌, refl, sym, ap, Bool, true, false, ◌||◌, ℕ, zero, suc, List, [], ◌∷◌, ◌++◌, map, length, take, append_assoc, arith}
 use Rattle.std.specs.Prelude.{if◌then◌else◌}
-use Rattle.std.specs.List.{AllByRecursion, list_any, slice_get, flat_map}
-use Rattle.std.proofs.lemmas.List.{append-nil, length_push}
+use Rattle.std.specs.List.{list_any, slice_get}
+use Rattle.std.proofs.lemmas.List.{append-nil}
 use Rattle.au_base.specs.declared.cell.Cell.{Cell}
 use Rattle.au_expr.specs.Rows.{AreSound}
 use Rattle.au_base.specs.declared.numbers.RowNo.{RowNo}

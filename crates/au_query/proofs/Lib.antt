@@ -3,4 +3,5 @@ pub mod Columns
 pub mod Fronts
 pub mod Numbers
 pub mod Scans
+pub mod Tallies
 pub mod Totals

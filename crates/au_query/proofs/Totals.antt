@@ -1,12 +1,11 @@
 -- The order of combinations by keys is total.
-use Rattle.std.proofs.Common.{◌≡◌, refl, Bool, true, false, List, [], ◌∷◌}
+use Rattle.std.proofs.Common.{refl, Bool, true, false, List, [], ◌∷◌}
 use Rattle.std.specs.Cmp.{IsTotalOrder, IsStrictWeakOrder}
-use Rattle.std.specs.Ordering.{is_lt}
 use Rattle.std.proofs.lemmas.Cmp.{on_total, then_total, back_total, nat_cmp_total, int_cmp_total, nat_list_cmp_total}
 use Rattle.std.proofs.lemmas.List.Sorted.{ranks_by}
 use Rattle.au_expr.specs.declared.placed.Place.{Place}
 use Rattle.au_expr.specs.Placing.{cell_at}
-use Rattle.au_query.specs.Combos.{Line, cells_of}
+use Rattle.au_query.specs.Combos.{cells_of}
 use Rattle.au_query.specs.Ordering.{cell_cmp, comes_before, key_cmp, kind_of_cell, moment_in, number_in, order_cmp, text_in}
 
 cell_total : IsTotalOrder cell_cmp

@@ -1,8 +1,7 @@
 -- What a query answers, which rows take part in it, and which columns it names (SQL Language Reference, "SELECT";
 -- PL/SQL Packages and Types Reference, "DBMS_FGA", of the rows and columns that are asked for).
-use Rattle.std.specs.Prelude.{◌≡◌, ℕ, ◌==◌, Bool, true, false, List, [], ◌∷◌, ◌++◌, map, length, filter, Option, None, Some}
+use Rattle.std.specs.Prelude.{◌≡◌, ℕ, ◌==◌, Bool, false, List, [], ◌++◌, map, length, filter, Option, None, Some}
 use Rattle.std.specs.List.{enumerate_from, list_any, slice_get}
-use Rattle.au_base.specs.declared.cell.Cell.{Cell}
 use Rattle.au_base.specs.declared.code.Code.{Code}
 use Rattle.au_base.specs.declared.numbers.RowNo.{RowNo}
 use Rattle.au_base.specs.declared.reply.Reply.{Reply}

@@ -1,10 +1,9 @@
 -- Combinations of rows of several tables (SQL Language Reference, "Joins").
-use Rattle.std.specs.Prelude.{ℕ, ◌*◌, Bool, List, [], ◌∷◌, ◌++◌, map, length, filter}
+use Rattle.std.specs.Prelude.{ℕ, ◌*◌, Bool, List, [], ◌∷◌, map, length, filter}
 use Rattle.std.specs.List.{AllByRecursion, flat_map, list_all, list_any}
 use Rattle.std.specs.Borrow.{Bor}
 use Rattle.au_base.specs.declared.cell.Cell.{Cell}
 use Rattle.au_base.specs.declared.numbers.RowNo.{RowNo}
-use Rattle.au_base.specs.declared.table.TableName.{TableName}
 use Rattle.au_base.specs.Cells.{IsSoundCell}
 use Rattle.au_expr.specs.declared.placed.Placed.{Placed}
 use Rattle.au_expr.specs.Placing.{value_at}

@@ -1,5 +1,6 @@
 pub mod Answers
 pub mod Combos
+pub mod Counts
 pub mod Inside
 pub mod Ordering
 pub mod Outputs

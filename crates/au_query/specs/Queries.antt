@@ -1,5 +1,5 @@
 -- A query with the places of its columns (SQL Language Reference, "SELECT").
-use Rattle.std.specs.Prelude.{ℕ, ◌+◌, Bool, List, [], ◌∷◌, ◌++◌, map, take, codes, Option, None, Some}
+use Rattle.std.specs.Prelude.{ℕ, Bool, List, [], ◌++◌, map, take, codes, Option, None, Some}
 use Rattle.std.specs.List.{enumerate_from, flat_map}
 use Rattle.std.specs.Option.{option_to_list}
 use Rattle.std.specs.Fmt.{decimal}

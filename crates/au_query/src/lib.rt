@@ -2,6 +2,7 @@
 #![tactic(auto)]
 
 mod combo;
+mod counting;
 mod naming;
 mod output;
 mod overflow;
@@ -16,6 +17,7 @@ mod size;
 mod source;
 mod touching;
 
+pub use counting::count;
 pub use query::select;
 pub use selected::Selected;
 pub use source::{Source, are_sound};

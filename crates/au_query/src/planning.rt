@@ -207,7 +207,8 @@ fn add_condition(
     }
 }
 
-fn with_where(
+/// The conditions and WHERE, where there is one, or its 932.
+pub fn with_where(
     alloc: Global,
     conditions: Vec<Resolved>,
     last: &Option<Expr>,

@@ -91,7 +91,8 @@ fn overflows(plan: &Plan, session: &SessionFacts, sources: &[Source<'_>]) -> boo
         || outputs_overflow(plan.outputs.as_slice(), session, sources)
 }
 
-fn conditions_overflow(
+/// Whether one of the conditions overflows over some combination.
+pub fn conditions_overflow(
     conditions: &[Resolved],
     session: &SessionFacts,
     sources: &[Source<'_>],

@@ -68,7 +68,8 @@ pub fn front(ranges: &[(Name, List<Column>)], number: usize) -> &[(Name, List<Co
     }
 }
 
-fn condition_code(condition: &Option<Expr>, ranges: &[(Name, List<Column>)]) -> Option<Code>
+/// The first 904 or 918 of a condition, where there is one.
+pub fn condition_code(condition: &Option<Expr>, ranges: &[(Name, List<Column>)]) -> Option<Code>
     ensures { result ≡ code_if_there (names.name_code ranges.now) condition.now }
 {
     match condition {

@@ -98,7 +98,8 @@ fn keep<'a>(
     Ok(true)
 }
 
-fn are_met(conditions: &[Resolved], session: &SessionFacts, row: &Row<'_>) -> bool
+/// Whether each condition is Yes over a row.
+pub fn are_met(conditions: &[Resolved], session: &SessionFacts, row: &Row<'_>) -> bool
     ensures { result ≡ list_all (λ (tree : Placed). values.is_met (value_at row.now session.now tree)) conditions.now }
 {
     for condition in conditions {

@@ -1,4 +1,4 @@
-use Rattle.std.proofs.Common.{◌≡◌, ◌≤◌, ◌+◌, ◌++◌, ◌||◌, ◌∷◌, [], drop, map, length, filter}
+use Rattle.std.proofs.Common.{◌≡◌, ◌++◌, drop, length}
 use Rattle.au_query.specs.Combos.{cells_of, lines}
 use Rattle.au_query.proofs.combo.row_of.Given as goal
 

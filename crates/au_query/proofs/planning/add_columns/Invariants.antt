@@ -1,4 +1,4 @@
-use Rattle.std.proofs.Common.{◌≡◌, ◌≤◌, ◌+◌, ◌++◌, ◌||◌, ◌∷◌, [], drop, map, length, filter}
+use Rattle.std.proofs.Common.{◌≡◌, ◌++◌, drop, map}
 use Rattle.std.specs.List.{enumerate_from}
 use Rattle.au_expr.specs.Names.{place_of}
 use Rattle.au_query.specs.declared.output.Output.TheVariants as output

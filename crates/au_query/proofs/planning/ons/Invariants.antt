@@ -1,4 +1,4 @@
-use Rattle.std.proofs.Common.{◌≡◌, ◌≤◌, ◌+◌, ◌++◌, ◌||◌, ◌∷◌, [], drop, map, length, filter}
+use Rattle.std.proofs.Common.{◌≡◌, ◌+◌, ◌++◌, drop, map}
 use Rattle.std.specs.List.{enumerate_from, flat_map}
 use Rattle.au_expr.specs.Names.{first}
 use Rattle.au_expr.specs.Resolving.{condition_code}

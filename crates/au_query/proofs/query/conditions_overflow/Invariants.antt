@@ -1,5 +1,4 @@
 use Rattle.std.proofs.Common.{◌≡◌, drop}
-use Rattle.std.specs.List.{list_any}
 use Rattle.au_query.specs.Combos.{overflows, views}
 use Rattle.au_query.proofs.query.conditions_overflow.Given as goal
 

@@ -1,5 +1,4 @@
 use Rattle.std.proofs.Common.{◌≡◌, drop}
-use Rattle.std.specs.List.{list_any}
 use Rattle.au_query.specs.Combos.{overflows, views}
 use Rattle.au_query.specs.Outputs.{trees_in}
 use Rattle.au_query.proofs.query.outputs_overflow.Given as goal

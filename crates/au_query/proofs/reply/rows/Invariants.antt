@@ -1,4 +1,4 @@
-use Rattle.std.proofs.Common.{◌≡◌, ◌≤◌, ◌+◌, ◌++◌, ◌||◌, ◌∷◌, [], drop, map, length, filter}
+use Rattle.std.proofs.Common.{◌≡◌, ◌++◌, drop, map}
 use Rattle.au_query.specs.Combos.{cells_at}
 use Rattle.au_query.specs.Outputs.{trees_in}
 use Rattle.au_query.proofs.reply.rows.Given as goal

@@ -1,4 +1,3 @@
-use Rattle.std.proofs.Common.{◌∙◌, false, true}
 use Rattle.au_query.specs.Combos.{passes, views}
 use Rattle.au_query.proofs.Scans.{all_kept, too_many}
 use Rattle.au_query.proofs.scan.combos.Goals as goal

@@ -1,4 +1,4 @@
-use Rattle.std.proofs.Common.{◌∙◌, arith, false, true}
+use Rattle.std.proofs.Common.{arith, false, true}
 use Rattle.au_query.proofs.Scans.{is_added, is_full, left_out, over_front}
 use Rattle.au_query.proofs.scan.keep.Goals as goal
 

@@ -1,6 +1,5 @@
 use Rattle.std.proofs.Common.{drop}
 use Rattle.std.specs.Prelude.{◌↔◌}
-use Rattle.std.specs.List.{AllByRecursion}
 use Rattle.au_query.specs.Combos.{AreSoundRows, views}
 use Rattle.au_query.proofs.source.are_sound.Given as goal
 

@@ -1,4 +1,3 @@
-use Rattle.std.proofs.Common.{◌∙◌, ◌≡◌, sym, ap}
 use Rattle.au_query.proofs.Numbers.{added}
 use Rattle.au_query.proofs.touching.add.Goals as goal
 

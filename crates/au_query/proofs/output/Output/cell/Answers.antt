@@ -1,4 +1,3 @@
-use Rattle.std.proofs.Common.{◌∙◌, ◌≡◌}
 use Rattle.au_query.proofs.Columns.{column_value}
 use Rattle.au_query.proofs.output.Output.cell.Goals as goal
 
