@@ -907,16 +907,28 @@ fn each_tag_stands_before_its_parts(rt: HostRuntime) -> Result<(), Fail> {
 }
 
 #[test]
-fn changes_of_each_group_are_read_up_to_their_edges(rt: HostRuntime) -> Result<(), Fail> {
+fn changes_of_grants_are_read_up_to_their_edges(rt: HostRuntime) -> Result<(), Fail> {
     let alloc = rt.alloc();
     for (what, change, wanted) in GRANTED {
         let bytes = event_of(alloc, &bytes_of(alloc, change)?)?;
         assert_eq!(rt; is_frame(alloc, &bytes)?, wanted, "{what}");
     }
+    Ok(())
+}
+
+#[test]
+fn changes_of_tables_are_read_up_to_their_edges(rt: HostRuntime) -> Result<(), Fail> {
+    let alloc = rt.alloc();
     for (what, change, wanted) in TABLED {
         let bytes = event_of(alloc, &bytes_of(alloc, change)?)?;
         assert_eq!(rt; is_frame(alloc, &bytes)?, wanted, "{what}");
     }
+    Ok(())
+}
+
+#[test]
+fn fine_grained_policies_are_read_up_to_their_edges(rt: HostRuntime) -> Result<(), Fail> {
+    let alloc = rt.alloc();
     for (what, change, wanted) in FINE_GRAINED {
         let bytes = event_of(alloc, &bytes_of(alloc, change)?)?;
         assert_eq!(rt; is_frame(alloc, &bytes)?, wanted, "{what}");
