@@ -1,7 +1,6 @@
 //! Commands on an outside in memory.
 
 mod disks;
-mod making;
 
 use au_base::Text;
 use au_io::{Area, MemClock, MemDisk, MemSink, MemSource, NoLobby};

@@ -4,19 +4,19 @@ use super::*;
 use au_io::{Disk, Failed};
 
 // the calls of the disk that making a store takes
-pub(super) const MAKING: u64 = 16;
+const MAKING: u64 = 16;
 
 // the calls of the disk, from the first of `init`, that append the first frame behind the start of a
 // run: a write and a sync of the frame, a write and a sync of its gate
 const APPENDING: [u64; 4] = [28, 29, 30, 31];
 
 // Makes a store whose SYS has the password `p`.
-pub(super) fn made_on(alloc: Global, disk: MemDisk) -> Result<Outcome, Fail> {
+fn made_on(alloc: Global, disk: MemDisk) -> Result<Outcome, Fail> {
     on_disk(alloc, INITS[0], b"s1 local\n", 9, (&[], &[]), disk)
 }
 
 // Runs the script.
-pub(super) fn run_on(alloc: Global, script: &str, disk: MemDisk) -> Result<Outcome, Fail> {
+fn run_on(alloc: Global, script: &str, disk: MemDisk) -> Result<Outcome, Fail> {
     on_disk(alloc, &["run"], script.as_bytes(), 4096, (&[], &[]), disk)
 }
 
@@ -106,12 +106,12 @@ fn a_run_needs_a_store(rt: HostRuntime) -> Result<(), Fail> {
     Ok(())
 }
 
-pub(super) const COUNT: &str = "s1 local
+const COUNT: &str = "s1 local
 s1 sql SELECT COUNT(*) FROM UNIFIED_AUDIT_TRAIL
 ";
 
 // what that gives where no record was left and no policy is enabled
-pub(super) const NEW: &str = "{\"code\":0,\"columns\":[],\"count\":0,\"rows\":[]}
+const NEW: &str = "{\"code\":0,\"columns\":[],\"count\":0,\"rows\":[]}
 {\"code\":0,\"columns\":[\"COUNT(*)\"],\"count\":1,\"rows\":[[0]]}
 ";
 
@@ -283,62 +283,13 @@ const UNMENDED: &str = "{\"code\":0,\"columns\":[],\"count\":0,\"rows\":[]}
 {\"code\":0,\"columns\":[],\"count\":0,\"rows\":[]}
 ";
 
-// the call of the append that failed, and that of the mend: a sync alone where the gate was never
-// written, else the write of a closed gate and its sync
-const MENDING: [(u64, u64); 6] = [(28, 29), (29, 30), (30, 31), (30, 32), (31, 32), (31, 33)];
-
 #[test]
 fn a_failed_mend_is_made_again(rt: HostRuntime) -> Result<(), Fail> {
-    for (call, mend) in MENDING {
-        let ran = run_failing(rt.alloc(), MENDS, &[call, mend])?;
-        assert_eq!(rt;
-            ran.given.as_slice(),
-            UNMENDED.as_bytes(),
-            "at {call}, {mend}"
-        );
+    for call in APPENDING {
+        let ran = run_failing(rt.alloc(), MENDS, &[call, call + 1])?;
+        assert_eq!(rt; ran.given.as_slice(), UNMENDED.as_bytes(), "at call {call}");
         // the clock isn't read where the mend failed
-        assert_eq!(rt; ran.next, 1_000_005, "at {call}, {mend}");
-    }
-    Ok(())
-}
-
-const MENDS_TWICE: &str = "s1 local
-s1 sql AUDIT POLICY P_ALL
-s1 sql SELECT COUNT(*) FROM UNIFIED_AUDIT_TRAIL
-s1 sql SELECT COUNT(*) FROM UNIFIED_AUDIT_TRAIL
-s1 sql SELECT COUNT(*) FROM UNIFIED_AUDIT_TRAIL
-s1 sql AUDIT POLICY P_ALL
-";
-
-// what is said where two mends behind a gate that failed do too
-const UNMENDED_TWICE: &str = "{\"code\":0,\"columns\":[],\"count\":0,\"rows\":[]}
-{\"fault\":\"disk\"}
-{\"fault\":\"disk\"}
-{\"fault\":\"disk\"}
-{\"code\":0,\"columns\":[\"COUNT(*)\"],\"count\":1,\"rows\":[[0]]}
-{\"code\":0,\"columns\":[],\"count\":0,\"rows\":[]}
-";
-
-// the calls of the gate, of the first mend and of the second that failed
-const MENDING_TWICE: [[u64; 3]; 6] = [
-    [30, 31, 32],
-    [30, 31, 33],
-    [30, 32, 33],
-    [30, 32, 34],
-    [31, 32, 33],
-    [31, 33, 35],
-];
-
-#[test]
-fn a_third_mend_ends_the_doubt(rt: HostRuntime) -> Result<(), Fail> {
-    for calls in MENDING_TWICE {
-        let ran = run_failing(rt.alloc(), MENDS_TWICE, &calls)?;
-        assert_eq!(rt;
-            ran.given.as_slice(),
-            UNMENDED_TWICE.as_bytes(),
-            "at {calls:?}"
-        );
-        assert_eq!(rt; ran.next, 1_000_005, "at {calls:?}");
+        assert_eq!(rt; ran.next, 1_000_005, "at call {call}");
     }
     Ok(())
 }
