@@ -11,7 +11,7 @@ use Rattle.std.proofs.lemmas.Bool.{and_parts}
 use Rattle.std.proofs.lemmas.Bool.Decides.{nat_tests}
 use Rattle.std.proofs.lemmas.Map.Made.{distinct_count-from_IsDistinct}
 use Rattle.std.proofs.lemmas.Slice.Eq.{bytes_eq-Decides}
-use Rattle.au_priv.specs.Order.{comes_before, is_in_order}
+use Rattle.au_grants.specs.Order.{comes_before, is_in_order}
 use Rattle.rec_codec.specs.Spelling.{is_without_repeats}
 use Rattle.au_entries.specs.Demand.{placed}
 

@@ -14,12 +14,12 @@ use Rattle.au_entries.specs.declared.policy.AuditPolicy.{AuditPolicy}
 use Rattle.au_entries.specs.declared.policy.Evaluate.{Evaluate}
 use Rattle.au_entries.specs.declared.trail_record.Record.{Record}
 use Rattle.au_entries.specs.Changing.{changed, changed_all, put_in_order, with_tree}
-use Rattle.au_priv.specs.declared.change.GrantChange.{GrantChange}
-use Rattle.au_priv.specs.declared.change.GrantChange.TheVariants as grant
-use Rattle.au_priv.specs.Changing.{applied, with_admin}
-use Rattle.au_priv.specs.Holding.{grants_privilege, grants_role}
-use Rattle.au_priv.specs.Order.{AreInOrder, comes_before, is_in_order, placed, role_before, system_before}
-use Rattle.au_priv.specs.Rights.{Grants, RoleEntry, SystemEntry}
+use Rattle.au_grants.specs.declared.change.GrantChange.{GrantChange}
+use Rattle.au_grants.specs.declared.change.GrantChange.TheVariants as grant
+use Rattle.au_grants.specs.Changing.{applied, with_admin}
+use Rattle.au_grants.specs.Holding.{grants_privilege, grants_role}
+use Rattle.au_grants.specs.Order.{AreInOrder, comes_before, is_in_order, placed, role_before, system_before}
+use Rattle.au_grants.specs.Rights.{Grants, RoleEntry, SystemEntry}
 use Rattle.rec_codec.specs.Changes.{IsChangeSpellable, change, role_grant, system_grant}
 use Rattle.rec_codec.specs.Frames.{body}
 use Rattle.rec_codec.specs.Parts.{stamp, truth}

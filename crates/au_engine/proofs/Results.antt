@@ -14,7 +14,7 @@ use Rattle.au_entries.specs.declared.policy.AuditPolicy.{AuditPolicy}
 use Rattle.au_entries.specs.declared.policy.Enabled.{Enabled}
 use Rattle.au_entries.specs.Demand.{enablement_of}
 use Rattle.au_priv.specs.declared.allowed.Allowed.{Allowed}
-use Rattle.au_priv.specs.declared.grants.Grants.{Grants}
+use Rattle.au_grants.specs.declared.grants.Grants.{Grants}
 use Rattle.au_priv.specs.Allowing.{AllowedIs}
 use Rattle.au_engine.specs.declared.decision.Decision.{Decision}
 use Rattle.au_engine.specs.declared.form.BuiltForm.{BuiltForm}

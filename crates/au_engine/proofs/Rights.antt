@@ -9,8 +9,8 @@ use Rattle.au_base.specs.BuiltIn.{audit_admin}
 use Rattle.au_entries.specs.declared.policy.AuditPolicy.{AuditPolicy}
 use Rattle.au_entries.specs.declared.policy.Enabled.{Enabled}
 use Rattle.au_entries.specs.Demand.{enablement_of}
-use Rattle.au_priv.specs.declared.grants.Grants.{Grants}
-use Rattle.au_priv.specs.Rights.{HoldsPrivilege, HoldsRole}
+use Rattle.au_grants.specs.declared.grants.Grants.{Grants}
+use Rattle.au_grants.specs.Rights.{HoldsPrivilege, HoldsRole}
 use Rattle.au_engine.specs.declared.decision.Decision.{Decision}
 use Rattle.au_engine.specs.Deciding as g
 use Rattle.au_engine.specs.Deciding.{Enables, MayAudit, MayNotAudit, done, has_policy, refused}

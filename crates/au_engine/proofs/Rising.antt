@@ -7,7 +7,7 @@ use Rattle.std.specs.Ordering.{is_gt, is_lt, ordering_reverse}
 use Rattle.std.specs.Cmp.Lexicographic.{nat_list_cmp_total}
 use Rattle.std.proofs.lemmas.Bool.{and_parts, and_from}
 use Rattle.au_entries.specs.Changing.{by_name, put_in_order}
-use Rattle.au_priv.specs.Order.{comes_before, is_in_order}
+use Rattle.au_grants.specs.Order.{comes_before, is_in_order}
 use Rattle.au_engine.proofs.Apart.{all_joined, all_kept, all_weaker}
 
 -- each name comes before all later ones

@@ -35,7 +35,7 @@ use Rattle.au_entries.specs.Demand.{demanded}
 use Rattle.au_entries.specs.Enabling.{audited, both_outcomes, noaudited, with_outcomes}
 use Rattle.au_priv.specs.declared.allowed.Allowed.{Allowed}
 use Rattle.au_priv.specs.declared.allowed.Allowed.TheVariants.{Owner, Object, System, Refused}
-use Rattle.au_priv.specs.declared.grants.Grants.{Grants}
+use Rattle.au_grants.specs.declared.grants.Grants.{Grants}
 use Rattle.au_priv.specs.Allowing.{AllowedOnTrail}
 use Rattle.rec_codec.specs.Changes.{IsChangeSpellable, IsEnabledSpellable, enabled, enablement}
 use Rattle.rec_codec.specs.Parts.{names, outcomes, privilege, privileges_in_order}

@@ -6,7 +6,7 @@ use Rattle.au_entries.specs.declared.policy.Enabled.{Enabled}
 use Rattle.au_entries.specs.declared.trail_record.Record.{Record}
 use Rattle.au_entries.specs.declared.trail_record.RecordKind.TheVariants.{Standard}
 use Rattle.au_entries.specs.Demand.{demanded}
-use Rattle.au_priv.specs.declared.grants.Grants.{Grants}
+use Rattle.au_grants.specs.declared.grants.Grants.{Grants}
 use Rattle.au_engine.specs.declared.place.Place.{Place}
 
 -- No statement makes a policy with a condition yet. Until conditions are evaluated, such a policy demands nothing.

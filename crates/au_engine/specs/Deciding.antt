@@ -19,9 +19,9 @@ use Rattle.au_entries.specs.Demand.{enablement_of}
 use Rattle.au_entries.specs.Enabling.{audited, noaudited}
 use Rattle.au_priv.specs.declared.allowed.Allowed.{Allowed}
 use Rattle.au_priv.specs.declared.allowed.Allowed.TheVariants.{Owner, Object, System, Refused}
-use Rattle.au_priv.specs.declared.grants.Grants.{Grants}
+use Rattle.au_grants.specs.declared.grants.Grants.{Grants}
 use Rattle.au_priv.specs.Allowing.{AllowedIs}
-use Rattle.au_priv.specs.Rights.{HoldsPrivilege, HoldsRole}
+use Rattle.au_grants.specs.Rights.{HoldsPrivilege, HoldsRole}
 use Rattle.au_engine.specs.declared.decision.Decision.{Decision}
 use Rattle.au_engine.specs.declared.deciding.Made.{Made}
 use Rattle.au_engine.specs.declared.deciding.Made.TheVariants.{Same, Changed, Refused as Refusal}

@@ -7,7 +7,7 @@ use Rattle.au_base.specs.Naming.{IsName}
 use Rattle.au_entries.specs.declared.change.Change.{Change}
 use Rattle.au_entries.specs.declared.kept.Kept.{Kept}
 use Rattle.au_entries.specs.declared.policy.AuditPolicy.{AuditPolicy}
-use Rattle.au_priv.specs.Order.{AreInOrder, comes_before, is_in_order}
+use Rattle.au_grants.specs.Order.{AreInOrder, comes_before, is_in_order}
 use Rattle.rec_codec.specs.Changes.{IsChangeSpellable}
 use Rattle.rec_codec.specs.Records.{trail_record}
 use Rattle.au_engine.specs.declared.session.Session.{Session}

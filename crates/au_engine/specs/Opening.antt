@@ -9,7 +9,7 @@ use Rattle.au_base.specs.declared.privilege.Privilege.TheVariants.{AlterUser, Au
 use Rattle.au_base.specs.BuiltIn.{sys, audit_admin, audit_viewer}
 use Rattle.au_entries.specs.declared.kept.Kept.{Kept}
 use Rattle.au_entries.specs.declared.policy.AuditPolicy.{AuditPolicy}
-use Rattle.au_priv.specs.declared.grants.Grants.{Grants}
+use Rattle.au_grants.specs.declared.grants.Grants.{Grants}
 
 -- the digest of the user's name, a byte 0 and the password
 abbrev pub verifier : List ℕ → List ℕ → List ℕ

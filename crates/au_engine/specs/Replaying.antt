@@ -14,8 +14,8 @@ use Rattle.au_entries.specs.declared.policy.Enabled.{Enabled}
 use Rattle.au_entries.specs.declared.policy.Enabled.TheVariants.{Off, By, Except}
 use Rattle.au_entries.specs.declared.trail_record.Record.{Record}
 use Rattle.au_entries.specs.Changing.{changed, changed_all}
-use Rattle.au_priv.specs.declared.grants.Grants.{Grants}
-use Rattle.au_priv.specs.Rights.{IsHolder, grant_count}
+use Rattle.au_grants.specs.declared.grants.Grants.{Grants}
+use Rattle.au_grants.specs.Rights.{IsHolder, grant_count}
 use Rattle.rec_codec.specs.declared.frame.Frame.{Frame}
 use Rattle.rec_codec.specs.declared.frame.Frame.TheVariants.{Image, Event, Purge}
 use Rattle.au_engine.specs.Deciding.{has_policy}

@@ -8,7 +8,7 @@ use Rattle.au_base.specs.declared.table.TableName.{TableName}
 use Rattle.au_catalog.specs.declared.catalog.Catalog.{Catalog}
 use Rattle.au_entries.specs.declared.kept.Kept.{Kept}
 use Rattle.au_entries.specs.declared.trail_record.Record.{Record}
-use Rattle.au_priv.specs.declared.grants.Grants.{Grants}
+use Rattle.au_grants.specs.declared.grants.Grants.{Grants}
 use Rattle.au_engine.specs.declared.session.Session.{Session}
 
 -- what outlives the instance, the sessions, how many sessions the instance has drawn, and the results that are kept of

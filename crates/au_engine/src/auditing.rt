@@ -9,7 +9,7 @@ use crate::place::Place;
 use au_base::built_in::ORA_MANDATORY;
 use au_base::{Action, List, Memory, Name};
 use au_catalog::{AuditPolicy, Catalog, Enabled, Facts, Record, RecordKind, matches};
-use au_priv::Grants;
+use au_grants::Grants;
 use std::alloc::Global;
 
 /// The record that an event leaves, where some policy demands one.

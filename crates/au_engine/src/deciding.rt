@@ -12,7 +12,8 @@ use crate::form::BuiltForm;
 use au_base::built_in::{AUDIT_ADMIN, AUDSYS, DUAL, P_ALL, SYS, UNIFIED_AUDIT_TRAIL};
 use au_base::{Action, Code, List, Memory, Name, Privilege, TableName};
 use au_catalog::{AuditPolicy, Catalog, Change, Enabled, Outcomes};
-use au_priv::{Allowed, Grants};
+use au_grants::Grants;
+use au_priv::{Allowed, allowed};
 use std::alloc::Global;
 
 // A statement that changes for whom a policy is enabled.
@@ -75,7 +76,7 @@ fn decide_select(
 ) -> Result<Decision, Memory>
     ensures { IfOk result (DecidesSelect grants.now user.now table.now) }
 {
-    let answer = grants.allowed(user, table, Action::Select);
+    let answer = allowed(grants, user, table, Action::Select);
     by_right(alloc, answer)
 }
 

@@ -3,7 +3,7 @@ ghost use Rattle.std.specs.Prelude.{◌≡◌, IfOk, Option};
 ghost use Rattle.std.specs.List.{AllByRecursion};
 ghost use Rattle.au_entries.specs.declared.kept.Kept.{Kept as AnyKept};
 ghost use Rattle.au_entries.specs.Changing.{by_name, changed, put_in_order, with_enablement};
-ghost use Rattle.au_priv.specs.Changing.{applied};
+ghost use Rattle.au_grants.specs.Changing.{applied};
 ghost use Rattle.au_engine.specs.Drafting.{IsPlainChange, drafted};
 ghost use Rattle.au_engine.specs.Lawful.{IsPlain};
 ghost use Rattle.au_engine.specs.Step.{unread_condition};
@@ -11,7 +11,7 @@ ghost use Rattle.au_engine.specs.Step.{unread_condition};
 use crate::enablement::with_enablement;
 use au_base::{Action, List, Memory, Name, Privilege, TableName};
 use au_catalog::{AuditPolicy, Catalog, Change, Enabled};
-use au_priv::{GrantChange, GrantDraft, Grants};
+use au_grants::{GrantChange, GrantDraft, Grants};
 use std::alloc::Global;
 
 /// The parts of what is kept that changes set, while a frame is replayed.

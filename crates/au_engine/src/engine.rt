@@ -3,7 +3,7 @@ ghost use Rattle.std.specs.Prelude.{◌≡◌, ◌↔◌, ◌≤◌, ◌<◌, []
 ghost use Rattle.au_base.specs.Limits.{GRANTS, INSTANCES, INSTANCE_SESSIONS};
 ghost use Rattle.au_entries.specs.Changing.{changed_all};
 ghost use Rattle.rec_codec.specs.Frames.{IsSpellable, body, framed};
-ghost use Rattle.au_priv.specs.Rights.{grant_count};
+ghost use Rattle.au_grants.specs.Rights.{grant_count};
 ghost use Rattle.au_engine.specs.Abandoning.{abandoned};
 ghost use Rattle.au_engine.specs.Answering.{code_reply};
 ghost use Rattle.au_engine.specs.Drafting.{drafted};
@@ -43,7 +43,7 @@ use au_base::{
     TableName, Text,
 };
 use au_catalog::{Catalog, Change, Kept, Record};
-use au_priv::{Grants, changes_keep_order};
+use au_grants::{Grants, changes_keep_order};
 use rec_codec::Frame;
 use sql_ast::Statement;
 use std::alloc::Global;

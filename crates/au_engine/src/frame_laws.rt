@@ -13,7 +13,7 @@ ghost use Rattle.au_engine.specs.Replaying.{EndsWell};
 ghost use Rattle.au_engine.specs.Returning.{IsOrderly, LeadsTo, start_frame};
 ghost use Rattle.au_engine.specs.State.{IsStampOf, State, start};
 
-use au_priv::grants_in_order_come_back;
+use au_grants::grants_in_order_come_back;
 
 /// The frame that a step writes goes on from what is kept before it, and gives what is kept after
 /// it; a step that writes none leaves what is kept. That SYS is a user and that there is no more of

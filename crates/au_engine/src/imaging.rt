@@ -8,7 +8,7 @@ ghost use Rattle.au_engine.specs.State.{kept_of};
 use crate::copies::{copy_condition, copy_record};
 use au_base::{List, Memory, Name, Privilege, Stamp};
 use au_catalog::{AuditPolicy, Catalog, Change, Enabled, Record};
-use au_priv::Grants;
+use au_grants::Grants;
 use rec_codec::{Frame, write_framed};
 use std::alloc::Global;
 

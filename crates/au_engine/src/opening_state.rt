@@ -6,7 +6,7 @@ ghost use Rattle.au_engine.specs.Opening.{granted_to_sys, opening, opening_grant
 use au_base::built_in::{AUDIT_ADMIN, AUDIT_VIEWER, P_ALL, SYS};
 use au_base::{Action, List, Memory, Name, Privilege, Stamp};
 use au_catalog::{AuditPolicy, Kept};
-use au_priv::Grants;
+use au_grants::Grants;
 use sha2::{Digest, Sha256};
 use std::alloc::Global;
 

@@ -6,7 +6,7 @@ ghost use Rattle.au_base.specs.Limits.{CATALOG_OBJECTS, GRANTS, INSTANCES};
 ghost use Rattle.au_base.specs.BuiltIn.{sys};
 ghost use Rattle.au_entries.specs.declared.kept.Kept.{Kept as AnyKept};
 ghost use Rattle.au_entries.specs.Changing.{changed_all};
-ghost use Rattle.au_priv.specs.Rights.{IsHolder};
+ghost use Rattle.au_grants.specs.Rights.{IsHolder};
 ghost use Rattle.au_engine.specs.Deciding.{has_policy};
 ghost use Rattle.au_engine.specs.Drafting.{drafted};
 ghost use Rattle.au_engine.specs.Lawful.{ora_mandatory};
@@ -19,7 +19,7 @@ use au_base::built_in::{ORA_MANDATORY, SYS};
 use au_base::limits::{CATALOG_OBJECTS, GRANTS, INSTANCES};
 use au_base::{Memory, Name};
 use au_catalog::{AuditPolicy, Catalog, Change, Enabled, Outcomes};
-use au_priv::Grants;
+use au_grants::Grants;
 use std::alloc::Global;
 
 /// The draft after the changes, if each goes on from what those before it leave. `image` says

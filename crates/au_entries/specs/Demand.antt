@@ -11,7 +11,7 @@ use Rattle.au_entries.specs.declared.policy.Enabled.{Enabled}
 use Rattle.au_entries.specs.declared.policy.Enabled.TheVariants.{Off}
 use Rattle.au_entries.specs.declared.facts.Facts.{Facts}
 use Rattle.au_entries.specs.Matching.{parts_match, is_enabled_for}
-use Rattle.au_priv.specs.declared.grants.Grants.{Grants}
+use Rattle.au_grants.specs.declared.grants.Grants.{Grants}
 
 abbrev pub enablement_found : Option (List ℕ × Enabled) → Enabled
 enablement_found None = Off

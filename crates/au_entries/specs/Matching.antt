@@ -14,8 +14,8 @@ use Rattle.au_entries.specs.declared.policy.Enabled.{Enabled}
 use Rattle.au_entries.specs.declared.policy.Enabled.TheVariants.{Off, By, Except}
 use Rattle.au_entries.specs.declared.policy.Outcomes.{Outcomes}
 use Rattle.au_entries.specs.declared.facts.Facts.{Facts}
-use Rattle.au_priv.specs.declared.grants.Grants.{Grants}
-use Rattle.au_priv.specs.Holding.{grants_privilege}
+use Rattle.au_grants.specs.declared.grants.Grants.{Grants}
+use Rattle.au_grants.specs.Holding.{grants_privilege}
 
 -- the part names this action, or ALL
 abbrev pub names_action : Action → Action → Bool

@@ -17,8 +17,8 @@ use Rattle.au_entries.specs.declared.policy.Enabled.TheVariants.{Off, By, Except
 use Rattle.au_entries.specs.declared.policy.Evaluate.{Evaluate}
 use Rattle.au_entries.specs.declared.table.Table.{Table as AnyTable}
 use Rattle.au_entries.specs.Changing.{changed, is_fga, is_row}
-use Rattle.au_priv.specs.Holding.{grants_object, grants_privilege, grants_role}
-use Rattle.au_priv.specs.Rights.{IsHolder}
+use Rattle.au_grants.specs.Holding.{grants_object, grants_privilege, grants_role}
+use Rattle.au_grants.specs.Rights.{IsHolder}
 use Rattle.sql_ast.specs.declared.expression.Expr.{Expr}
 
 -- What conditions are: which texts can be read, as which tree a text is read, and which trees are truths over the columns of

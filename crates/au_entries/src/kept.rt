@@ -5,7 +5,7 @@ use crate::policy::{AuditPolicy, Enabled};
 use crate::table::Table;
 use crate::trail_record::Record;
 use au_base::{Cell, List, Name, RowNo, Stamp, TableName};
-use au_priv::Grants;
+use au_grants::Grants;
 
 /// What outlives an instance: the catalogue, the grants, the committed rows and the trail.
 #[derive(Debug, Drop, PartialEq, Eq)]

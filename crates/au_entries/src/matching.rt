@@ -4,14 +4,14 @@ ghost use Rattle.std.specs.List.{list_any};
 ghost use Rattle.std.specs.Str.{bytes_eq};
 ghost use Rattle.au_entries.specs.Matching.{covers_action, covers_privilege, covers_role, has_outcome, is_enabled_for, lists_outcome, names_action, names_table, parts_match};
 ghost use Rattle.au_base.specs.Sameness.{same_privilege, same_table};
-ghost use Rattle.au_priv.specs.Holding.{grants_privilege};
+ghost use Rattle.au_grants.specs.Holding.{grants_privilege};
 
 use crate::facts::Facts;
 use crate::policy::{AuditPolicy, Enabled, Outcomes};
 use au_base::{
     Action, Code, Name, Privilege, TableName, is_same_action, is_same_privilege, is_same_table,
 };
-use au_priv::Grants;
+use au_grants::Grants;
 
 /// Whether some part of the policy meets the statement.
 pub fn matches(policy: &AuditPolicy, facts: &Facts, grants: &Grants) -> bool

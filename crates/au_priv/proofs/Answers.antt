@@ -10,12 +10,12 @@ use Rattle.au_base.specs.declared.code.Code.{Code}
 use Rattle.au_base.specs.BuiltIn.{dual, trail}
 use Rattle.au_priv.specs.declared.allowed.Allowed.{Allowed}
 use Rattle.au_priv.specs.declared.allowed.Allowed.TheVariants.{Owner, Object, System, Refused}
-use Rattle.au_priv.specs.declared.grants.Grants.{Grants}
+use Rattle.au_grants.specs.declared.grants.Grants.{Grants}
 use Rattle.au_priv.specs.Allowing.{AllowedIs, AllowedOnTable, AllowedOnTrail, IsRefusal, HoldsSomeAnyTable, any_table_privilege}
-use Rattle.au_priv.specs.declared.right.Sought.TheVariants.{AnyTable}
-use Rattle.au_priv.specs.Holding.{HasRight, is_any_table, same_table}
-use Rattle.au_priv.specs.Rights.{Name}
-use Rattle.au_priv.proofs.Entries.{same_table-is, same_table-refl}
+use Rattle.au_grants.specs.declared.right.Sought.TheVariants.{AnyTable}
+use Rattle.au_grants.specs.Holding.{HasRight, is_any_table, same_table}
+use Rattle.au_grants.specs.Rights.{Name}
+use Rattle.au_priv.proofs.Tables.{same_table-is, same_table-refl}
 
 -- the privileges that allow some action on any table
 pub some_action : (privilege : Privilege) → is_any_table privilege ≡ true → (action : Action) × (any_table_privilege action ≡ Some privilege)

@@ -3,10 +3,10 @@ use Rattle.std.proofs.Common.{◌≡◌, ℕ, ◌+◌, ◌≤◌, ◌<◌, List,
 use Rattle.std.specs.List.{flat_map}
 use Rattle.std.proofs.lemmas.List.{append-nil, take_more, take_all, take-append-drop, drop_more}
 use Rattle.au_base.specs.declared.code.Code.{Code}
-use Rattle.au_priv.specs.declared.change.GrantChange.{GrantChange}
-use Rattle.au_priv.specs.declared.grants.Grants.{Grants}
+use Rattle.au_grants.specs.declared.change.GrantChange.{GrantChange}
+use Rattle.au_grants.specs.declared.grants.Grants.{Grants}
 use Rattle.au_priv.specs.declared.walking.Progress.{Progress}
-use Rattle.au_priv.specs.Changing.{applied_all}
+use Rattle.au_grants.specs.Changing.{applied_all}
 use Rattle.au_priv.specs.Pairs.{Pair}
 use Rattle.au_priv.specs.Walking.{Walked, AllPass, RefusesPair, SomeRefused, made, made_all}
 

@@ -11,8 +11,8 @@ use Rattle.au_base.specs.declared.table.TableName.{TableName}
 use Rattle.au_base.specs.BuiltIn.{dual, trail, audit_admin, audit_viewer}
 use Rattle.au_priv.specs.declared.allowed.Allowed.{Allowed}
 use Rattle.au_priv.specs.declared.allowed.Allowed.TheVariants.{Owner, Object, System, Refused}
-use Rattle.au_priv.specs.declared.grants.Grants.{Grants}
-use Rattle.au_priv.specs.Rights.{Name, HoldsRole, HoldsPrivilege, HasObjectPrivilege, HasSomeObjectPrivilege}
+use Rattle.au_grants.specs.declared.grants.Grants.{Grants}
+use Rattle.au_grants.specs.Rights.{Name, HoldsRole, HoldsPrivilege, HasObjectPrivilege, HasSomeObjectPrivilege}
 
 -- the system privilege that allows the action on any table
 abbrev pub any_table_privilege : Action → Option Privilege

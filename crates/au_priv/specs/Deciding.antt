@@ -13,15 +13,15 @@ use Rattle.au_base.specs.declared.privilege.Privilege.{Privilege}
 use Rattle.au_base.specs.declared.privilege.Privilege.TheVariants.{GrantAnyObjectPrivilege, GrantAnyPrivilege, GrantAnyRole}
 use Rattle.au_base.specs.declared.table.TableName.{TableName}
 use Rattle.au_base.specs.BuiltIn.{dual, trail, resolved_table}
-use Rattle.au_priv.specs.declared.change.GrantChange.{GrantChange}
+use Rattle.au_grants.specs.declared.change.GrantChange.{GrantChange}
 use Rattle.au_priv.specs.declared.decided.Decided.{Decided}
 use Rattle.au_priv.specs.declared.decided.Known.{Known}
-use Rattle.au_priv.specs.declared.grants.Grants.{Grants}
+use Rattle.au_grants.specs.declared.grants.Grants.{Grants}
 use Rattle.au_priv.specs.declared.pair.Way.{Way}
 use Rattle.au_priv.specs.declared.pair.Way.TheVariants.{Grant, Revoke}
 use Rattle.au_priv.specs.Allowing.{IsRefusal}
 use Rattle.au_priv.specs.Pairs.{Pair, right_pair, object_pair, pairs}
-use Rattle.au_priv.specs.Rights.{Name, HoldsPrivilege, AdministersPrivilege, AdministersRole}
+use Rattle.au_grants.specs.Rights.{Name, HoldsPrivilege, AdministersPrivilege, AdministersRole}
 use Rattle.au_priv.specs.Walking.{AllPass, SomeRefused, made_all}
 
 -- none of the list is refused

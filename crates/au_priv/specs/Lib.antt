@@ -1,10 +1,5 @@
 pub mod Allowing
-pub mod Changing
 pub mod Deciding
-pub mod Holding
-pub mod Order
 pub mod Pairs
-pub mod Rights
-pub mod Staging
 pub mod Walking
 pub mod descent

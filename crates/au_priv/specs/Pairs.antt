@@ -9,11 +9,11 @@ use Rattle.au_base.specs.declared.grant.Right.TheVariants.{Privilege, Role}
 use Rattle.au_base.specs.declared.grant.ObjectRight.{ObjectRight}
 use Rattle.au_base.specs.declared.grant.ObjectRight.TheVariants.{Select, Insert, Update, Delete, All}
 use Rattle.au_base.specs.declared.table.TableName.{TableName}
-use Rattle.au_priv.specs.declared.change.GrantChange.{GrantChange}
-use Rattle.au_priv.specs.declared.change.GrantChange.TheVariants.{SystemGrant, SystemRevoke, RoleGrant, RoleRevoke, ObjectGrant, ObjectRevoke}
+use Rattle.au_grants.specs.declared.change.GrantChange.{GrantChange}
+use Rattle.au_grants.specs.declared.change.GrantChange.TheVariants.{SystemGrant, SystemRevoke, RoleGrant, RoleRevoke, ObjectGrant, ObjectRevoke}
 use Rattle.au_priv.specs.declared.pair.Way.{Way}
 use Rattle.au_priv.specs.declared.pair.Way.TheVariants.{Grant, Revoke}
-use Rattle.au_priv.specs.Rights.{Name}
+use Rattle.au_grants.specs.Rights.{Name}
 
 -- what is asked for a pair: one change, or for ALL on a table four
 abbrev pub Pair : Type 0

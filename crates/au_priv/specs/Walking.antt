@@ -1,27 +1,18 @@
 -- What becomes of pairs that are taken in order, each on the grants that the one before left (SQL Language
 -- Reference, "GRANT" and "REVOKE"; the codes and the limit are this project's profile).
-use Rattle.std.specs.Prelude.{◌≡◌, ◌<◌, ◌+◌, ℕ, List, [], ◌∷◌, ◌++◌, length, Bool, true, false, not, ◌&&◌, ◌||◌, Option, Some, None, Result, Ok, Err, ◌⊎◌}
+use Rattle.std.specs.Prelude.{◌≡◌, ◌<◌, ◌+◌, ℕ, List, [], ◌∷◌, ◌++◌, length, Bool, true, false, not, Option, Some, None, Result, Ok, Err, ◌⊎◌}
 use Rattle.std.specs.List.{filter, list_any, slice_get}
 use Rattle.au_base.specs.declared.code.Code.{Code}
 use Rattle.au_base.specs.Codes.{CIRCULAR_ROLE_GRANT, TOO_MANY_OBJECTS, PRIVILEGE_NOT_GRANTED, ROLE_NOT_GRANTED, OBJECT_PRIVILEGE_NOT_GRANTED}
 use Rattle.au_base.specs.Limits.{GRANTS}
-use Rattle.au_base.specs.declared.privilege.Privilege.{Privilege}
-use Rattle.au_priv.specs.declared.change.GrantChange.{GrantChange}
-use Rattle.au_priv.specs.declared.change.GrantChange.TheVariants.{SystemGrant, SystemRevoke, RoleGrant, RoleRevoke, ObjectGrant, ObjectRevoke}
-use Rattle.au_priv.specs.declared.grants.Grants.{Grants}
+use Rattle.au_grants.specs.declared.change.GrantChange.{GrantChange}
+use Rattle.au_grants.specs.declared.change.GrantChange.TheVariants.{SystemGrant, SystemRevoke, RoleGrant, RoleRevoke, ObjectGrant, ObjectRevoke}
+use Rattle.au_grants.specs.declared.grants.Grants.{Grants}
 use Rattle.au_priv.specs.declared.walking.Progress.{Progress}
-use Rattle.au_priv.specs.Changing.{applied_all}
-use Rattle.au_priv.specs.Holding.{grants_role, grants_privilege, grants_object}
+use Rattle.au_grants.specs.Changing.{Closes, applied_all, is_new}
+use Rattle.au_grants.specs.Holding.{grants_role, grants_role_as, grants_privilege, grants_privilege_as, grants_object}
 use Rattle.au_priv.specs.Pairs.{Pair}
-use Rattle.au_priv.specs.Rights.{Name, SystemEntry, RoleEntry, IsHolder, grant_count}
-
--- the entry grants this system privilege to this grantee, and with admin option where that is asked
-abbrev pub grants_privilege_as : Name → Privilege → Bool → SystemEntry → Bool
-grants_privilege_as grantee privilege admin entry = grants_privilege grantee privilege entry && (entry.2 || not admin)
-
--- the entry grants this role to this grantee, and with admin option where that is asked
-abbrev pub grants_role_as : Name → Name → Bool → RoleEntry → Bool
-grants_role_as grantee role admin entry = grants_role grantee role entry && (entry.2 || not admin)
+use Rattle.au_grants.specs.Rights.{RoleEntry, grant_count}
 
 -- the change leaves something otherwise than it is: what is granted isn't there so, what is revoked is there
 abbrev pub is_effective : Grants → GrantChange → Bool
@@ -32,18 +23,6 @@ is_effective grants (RoleRevoke grantee role) = list_any (grants_role grantee ro
 is_effective grants (ObjectGrant grantee table action) = not (list_any (grants_object grantee table action) grants.object)
 is_effective grants (ObjectRevoke grantee table action) = list_any (grants_object grantee table action) grants.object
 is_effective grants _ = true
-
--- the change adds a grant: one that isn't there, not even without the admin option
-abbrev pub is_new : Grants → GrantChange → Bool
-is_new grants (SystemGrant grantee privilege admin) = not (list_any (grants_privilege grantee privilege) grants.system)
-is_new grants (RoleGrant grantee role admin) = not (list_any (grants_role grantee role) grants.role)
-is_new grants (ObjectGrant grantee table action) = not (list_any (grants_object grantee table action) grants.object)
-is_new grants _ = false
-
--- the role is granted to itself, or to one that it holds
-abbrev pub Closes : List RoleEntry → GrantChange → Type 0
-Closes roles (RoleGrant grantee role admin) = IsHolder roles role grantee
-Closes roles _ = ⊥
 
 -- some change of the pair would close a circle of roles
 abbrev pub ClosesCircle : List RoleEntry → Pair → Type 0

@@ -1,7 +1,1 @@
 pub mod Asking
-pub mod Editing
-pub mod Growing
-pub mod Halving
-pub mod Search
-pub mod Spacious
-pub mod Spared

@@ -2,20 +2,19 @@
 ghost use Rattle.std.specs.Prelude.{◌≡◌, ◌≢◌, ◌≤◌, ◌↔◌, IsTrue, Some, length};
 ghost use Rattle.std.specs.Option.{option_map};
 ghost use Rattle.au_base.specs.Limits.{GRANTS};
-ghost use Rattle.au_priv.specs.declared.reach.TheConstants.{FEW_ROLES};
+ghost use Rattle.au_grants.specs.declared.searching.TheConstants.{FEW_ROLES};
 ghost use Rattle.au_priv.specs.declared.allowed.Allowed.{Allowed};
 ghost use Rattle.au_priv.specs.Allowing.{AllowedIs, AllowedOnTable, AllowedOnTrail, IsRefusal, HasSomething, HoldsSomeAnyTable, ReadsTrail, any_table_privilege, dual_answer};
-ghost use Rattle.au_priv.specs.descent.Search.{IsReach};
+ghost use Rattle.au_grants.specs.descent.Search.{IsReach};
 
 use crate::allowed::Allowed;
-use crate::direct::{is_granted, is_grantee};
-use crate::grants::Grants;
-use crate::holding::{has_found, has_right};
-use crate::reach::{FEW_ROLES, reach};
-use crate::right::Sought;
 use au_base::built_in::{AUDIT_ADMIN, AUDIT_VIEWER};
 use au_base::limits::GRANTS;
 use au_base::{Action, Code, Name, Privilege, TableName};
+use au_grants::{
+    FEW_ROLES, Grants, Sought, has_found, is_granted, is_grantee, reach,
+    searches_without_grants_find_none,
+};
 
 /// What the user may do with the table, and by what.
 pub fn allowed(grants: &Grants, user: &Name, table: &TableName, action: Action) -> Allowed
@@ -52,8 +51,7 @@ fn on_trail(grants: &Grants, user: &Name, action: Action) -> Allowed
 fn reads_trail(grants: &Grants, user: &Name) -> bool
     ensures { IsTrue result ↔ ReadsTrail grants.now user.now }
 {
-    has_right(grants, user, Sought::Role(AUDIT_ADMIN))
-        || has_right(grants, user, Sought::Role(AUDIT_VIEWER))
+    grants.holds_role_named(user, AUDIT_ADMIN) || grants.holds_role_named(user, AUDIT_VIEWER)
 }
 
 // The search for the user's roles is made once for all that is asked, and only where the user has
@@ -69,6 +67,7 @@ fn on_table(grants: &Grants, user: &Name, table: &TableName, action: Action) -> 
     }
     let roles = grants.role_grants();
     if !is_grantee(roles, user) {
+        searches_without_grants_find_none();
         return on_table_found(grants, user, &[], 0, table, action);
     }
     if roles.len() <= FEW_ROLES {
@@ -180,12 +179,14 @@ fn any_table(action: Action) -> Option<Privilege>
     }
 }
 
-/// The code for a user who lacks a right on a table.
+/// The code for a user who lacks a right on a table that is there: a privilege is missing for who
+/// has some object privilege on it or some ANY TABLE privilege, else there is no such table.
 pub fn refusal(grants: &Grants, user: &Name, table: &TableName) -> Code
     ensures { IsRefusal grants.now user.now table.now result }
 {
     let roles = grants.role_grants();
     if !is_grantee(roles, user) {
+        searches_without_grants_find_none();
         return refusal_found(grants, user, &[], 0, table);
     }
     if roles.len() <= FEW_ROLES {

@@ -1,7 +1,7 @@
 //! What is decided of GRANT and REVOKE.
 
-use crate::change::GrantChange;
 use au_base::{Code, List, Name, Privilege, TableName};
+use au_grants::GrantChange;
 
 /// The users, roles and tables that are there. The built-in tables aren't listed.
 #[derive(Debug, Drop, PartialEq, Eq)]

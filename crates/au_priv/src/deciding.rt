@@ -1,31 +1,32 @@
 //! How GRANT and REVOKE are decided.
-ghost use Rattle.std.specs.Prelude.{◌≡◌, ◌↔◌, ◌⊎◌, ◌++◌, ◌∷◌, [], IfOk, IsTrue, MatchOption, if◌then◌else◌};
+ghost use Rattle.std.specs.Prelude.{◌≡◌, ◌≤◌, ◌↔◌, ◌⊎◌, ◌++◌, ◌∷◌, [], IfOk, IsTrue, MatchOption, if◌then◌else◌};
 ghost use Rattle.std.specs.List.{Contains};
 ghost use Rattle.au_base.specs.declared.code.Code.{Code};
 ghost use Rattle.au_base.specs.declared.privilege.Privilege.{Privilege};
+ghost use Rattle.au_base.specs.Limits.{GRANTS};
+ghost use Rattle.au_grants.specs.Changing.{applied_all};
 ghost use Rattle.au_priv.specs.descent.Asking.{AreAnyHeld, any_of};
 ghost use Rattle.au_priv.specs.Deciding.{Administers, Decides, DecidesOnTable, DecidesPairs, DecidesRights, FirstRefused, IsBuiltIn, IsNoRole, IsUsed, IsUsedOnTable, Needs, NoneRefused, RefusesGrantee, RefusesRight, RefusesTable, any_right};
 ghost use Rattle.au_priv.specs.Pairs.{object_pair, pairs, right_pair};
-ghost use Rattle.au_priv.specs.Rights.{HoldsPrivilege};
+ghost use Rattle.au_grants.specs.Rights.{HasNoCircle, HoldsPrivilege, grant_count};
 
 use crate::allowing::refusal;
-use crate::change::GrantChange;
-use crate::course::Course;
 use crate::decided::{Decided, Known};
-use crate::grants::Grants;
-use crate::holding::has_right;
 use crate::pair::Way;
-use crate::right::Sought;
 use crate::walking::{Progress, walk_object_rights, walk_rights};
 use au_base::{Code, GrantStatement, List, Memory, Name, ObjectRight, Privilege, Right, TableName};
+use au_grants::{
+    Course, GrantChange, Grants, Sought, changes_add_one_grant_at_most, changes_keep_no_circle,
+    has_right,
+};
 use std::alloc::Global;
 
 /// What a statement is decided by: the grants before it, what is there, and who asks.
 #[derive(Clone, Copy)]
-pub struct Case<'a> {
-    pub grants: &'a Grants,
-    pub known: &'a Known,
-    pub user: &'a Name,
+struct Case<'a> {
+    grants: &'a Grants,
+    known: &'a Known,
+    user: &'a Name,
 }
 
 /// Whether the user holds the system privileges by which every right of a kind may be granted and
@@ -38,8 +39,35 @@ struct AnyHeld {
     role: bool,
 }
 
-/// What is decided of the statement.
-pub fn decide(alloc: Global, case: Case<'_>, statement: &GrantStatement) -> Result<Decided, Memory>
+/// What is decided of a statement GRANT or REVOKE of the user, by these grants and what is there.
+pub fn decide(
+    alloc: Global,
+    grants: &Grants,
+    user: &Name,
+    statement: &GrantStatement,
+    known: &Known,
+) -> Result<Decided, Memory>
+    ensures decided { IfOk result (Decides grants.now known.now user.now statement.now) }
+    ensures few { IfOk result (λ decided. grant_count (applied_all decided.grants grants.now) ≤ GRANTS) }
+    ensures no_circle { IfOk result (λ decided. HasNoCircle grants.now.role → HasNoCircle (applied_all decided.grants grants.now).role) }
+{
+    changes_add_one_grant_at_most();
+    changes_keep_no_circle();
+    // says that there are 100,000 grants at most
+    let _ = grants.count();
+    let case = Case {
+        grants,
+        known,
+        user,
+    };
+    decide_statement(alloc, case, statement)
+}
+
+fn decide_statement(
+    alloc: Global,
+    case: Case<'_>,
+    statement: &GrantStatement,
+) -> Result<Decided, Memory>
     ensures { IfOk result (Decides case.entry.grants.now case.entry.known.now case.entry.user.now statement.now) }
 {
     match statement {

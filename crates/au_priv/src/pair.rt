@@ -2,8 +2,8 @@
 ghost use Rattle.std.specs.Prelude.{◌≡◌, IfOk, map};
 ghost use Rattle.au_priv.specs.Pairs.{right_pair, object_pair, object_change, right_change, actions_of};
 
-use crate::change::GrantChange;
 use au_base::{Action, List, Memory, Name, ObjectRight, Right, TableName};
+use au_grants::GrantChange;
 use std::alloc::Global;
 
 /// Whether rights are granted or revoked.

@@ -2,15 +2,14 @@
 ghost use Rattle.std.specs.Prelude.{◌≡◌, ◌∷◌, ◌++◌, ◌↔◌, [], IfOk, IsTrue, map, MatchOption, length};
 ghost use Rattle.std.specs.List.{filter, list_any};
 ghost use Rattle.au_base.specs.declared.code.Code.{Code};
-ghost use Rattle.au_priv.specs.Changing.{applied_all};
+ghost use Rattle.au_grants.specs.Changing.{Closes, applied_all, is_new};
 ghost use Rattle.au_priv.specs.Pairs.{right_pair, object_pair, pairs};
-ghost use Rattle.au_priv.specs.Walking.{Walked, RefusesPair, Closes, ClosesCircle, IsOverLimit, is_effective, is_new, missing_code, made};
+ghost use Rattle.au_priv.specs.Walking.{Walked, RefusesPair, ClosesCircle, IsOverLimit, is_effective, missing_code, made};
 
-use crate::change::GrantChange;
-use crate::course::Course;
 use crate::pair::{Way, changes_of_object_right, changes_of_right};
 use au_base::limits::GRANTS;
 use au_base::{Code, List, Memory, Name, ObjectRight, Right, TableName};
+use au_grants::{Course, GrantChange};
 use std::alloc::Global;
 
 /// How far the pairs of a statement are done.

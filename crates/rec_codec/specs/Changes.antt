@@ -18,7 +18,7 @@ use Rattle.au_entries.specs.declared.policy.Enabled.TheVariants.{Off, By, Except
 use Rattle.au_entries.specs.declared.policy.Evaluate.{Evaluate}
 use Rattle.au_entries.specs.declared.policy.Evaluate.TheVariants.{Statement, Session, Instance}
 use Rattle.au_entries.specs.declared.policy.Outcomes.{Outcomes}
-use Rattle.au_priv.specs.Holding.{same_action, same_table}
+use Rattle.au_grants.specs.Holding.{same_action, same_table}
 use Rattle.rec_codec.specs.Spelling.{Spelling, Behind, behind, below, byte, counted, is_without_repeats, led_by, no_other, nothing, number, option, pair, such_that, tagged_first}
 use Rattle.rec_codec.specs.Parts.{name, text, truth, stamp, verifier, privilege, action, outcomes, table, names, privileges_in_order}
 use Rattle.rec_codec.specs.Tables.{cells, columns, places, row_number}

@@ -8,10 +8,11 @@ use crate::reading::{action, name, privilege, statement, table};
 use crate::world::World;
 use crate::writing;
 use au_base::Name;
-use au_priv::{
+use au_grants::{
     GrantDraft, Grants, changes_keep_no_circle, changes_keep_order, drops_close_no_circle,
-    grants_in_order_come_back, rights_have_one_answer,
+    grants_in_order_come_back,
 };
+use au_priv::{allowed, decide, refusal, rights_have_one_answer};
 use std::alloc::Global;
 
 /// What comes of a line that asks, if the case is one.
@@ -20,17 +21,17 @@ pub fn asked(alloc: Global, world: &World, case: &Case<'_>) -> Result<Option<Str
     match case.call {
         "allowed" => {
             let (user, table) = (name(alloc, case.text(0))?, table(alloc, case.text(1))?);
-            let answer = grants.allowed(&user, &table, action(case.text(2))?);
+            let answer = allowed(grants, &user, &table, action(case.text(2))?);
             Ok(Some(writing::allowed(alloc, answer)?))
         }
         "refusal" => {
             let (user, table) = (name(alloc, case.text(0))?, table(alloc, case.text(1))?);
-            Ok(Some(writing::number_of(alloc, grants.refusal(&user, &table))?))
+            Ok(Some(writing::number_of(alloc, refusal(grants, &user, &table))?))
         }
         "decide" => {
             let user = name(alloc, case.text(0))?;
             let statement = statement(alloc, case)?;
-            let decided = grants.decide(alloc, &user, &statement, &world.known)?;
+            let decided = decide(alloc, grants, &user, &statement, &world.known)?;
             Ok(Some(writing::decided(alloc, &decided)?))
         }
         "after" => {

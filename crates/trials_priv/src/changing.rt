@@ -7,7 +7,8 @@ use crate::reading::{change, name, names, statement, tables};
 use crate::world::{World, settle};
 use crate::writing::{counts, number_of};
 use au_base::{Code, GrantStatement, Name};
-use au_priv::{GrantChange, GrantDraft, Grants};
+use au_grants::{GrantChange, GrantDraft, Grants};
+use au_priv::decide;
 use std::alloc::Global;
 use std::slice;
 
@@ -113,7 +114,7 @@ fn carry_out(
     user: &Name,
     statement: &GrantStatement,
 ) -> Result<Code, Fault> {
-    let decided = world.grants.decide(alloc, user, statement, &world.known)?;
+    let decided = decide(alloc, &world.grants, user, statement, &world.known)?;
     let staged = world.grants.stage(alloc, decided.grants.as_slice())?;
     world.grants.settle(staged);
     Ok(decided.code)

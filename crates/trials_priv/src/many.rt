@@ -4,7 +4,7 @@ use crate::fault::Fault;
 use crate::reading::{numbered, table};
 use au_base::limits::GRANTS;
 use au_base::{Action, Name};
-use au_priv::{GrantChange, GrantDraft, Grants, changes_add_one_grant_at_most};
+use au_grants::{GrantChange, GrantDraft, Grants, changes_add_one_grant_at_most};
 use std::alloc::Global;
 use std::slice;
 

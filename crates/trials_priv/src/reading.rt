@@ -5,7 +5,7 @@ use crate::fault::Fault;
 use au_base::{
     Action, GrantStatement, List, Name, ObjectRight, Privilege, Right, TableName, TableReference,
 };
-use au_priv::GrantChange;
+use au_grants::GrantChange;
 use std::alloc::Global;
 
 /// A name.

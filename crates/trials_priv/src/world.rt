@@ -2,7 +2,8 @@
 
 use crate::fault::Fault;
 use au_base::List;
-use au_priv::{GrantChange, GrantDraft, Grants, Known};
+use au_grants::{GrantChange, GrantDraft, Grants};
+use au_priv::Known;
 use std::alloc::Global;
 
 /// Grants, and the users, roles and tables that are there.

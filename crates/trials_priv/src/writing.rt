@@ -2,7 +2,8 @@
 
 use crate::fault::Fault;
 use au_base::{Action, Code, Name, Privilege, TableName};
-use au_priv::{Allowed, Decided, GrantChange};
+use au_grants::GrantChange;
+use au_priv::{Allowed, Decided};
 use std::alloc::Global;
 
 // The most changes that are written one by one.

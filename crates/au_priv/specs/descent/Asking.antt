@@ -3,8 +3,8 @@ use Rattle.std.specs.Prelude.{◌↔◌, Bool, IsTrue}
 use Rattle.au_base.specs.declared.grant.Right.{Right}
 use Rattle.au_base.specs.declared.grant.Right.TheVariants.{Privilege as SystemRight, Role}
 use Rattle.au_base.specs.declared.privilege.Privilege.TheVariants.{GrantAnyPrivilege, GrantAnyRole}
-use Rattle.au_priv.specs.declared.grants.Grants.{Grants}
-use Rattle.au_priv.specs.Rights.{Name, HoldsPrivilege}
+use Rattle.au_grants.specs.declared.grants.Grants.{Grants}
+use Rattle.au_grants.specs.Rights.{Name, HoldsPrivilege}
 
 -- whether the user holds the privilege for every system privilege, and the one for every role
 abbrev pub AreAnyHeld : Grants → Name → Bool → Bool → Type 0

@@ -3,7 +3,7 @@
 use super::slow::{Event, Mode, Outcomes, Policy, Table, World};
 use au_base::{Action, Code, List, Memory, Name, TableName};
 use au_catalog::{AuditPolicy, Catalog, Enabled, Facts, Outcomes as BothOutcomes};
-use au_priv::{GrantChange, GrantDraft, Grants};
+use au_grants::{GrantChange, GrantDraft, Grants};
 use std::alloc::Global;
 
 /// The text as a name.

@@ -1,6 +1,6 @@
 use Rattle.std.proofs.Common.{◌≡◌, [], refl, arith}
-use Rattle.au_priv.specs.Order.{AreKept}
-use Rattle.au_priv.specs.Rights.{grant_count}
+use Rattle.au_grants.specs.Order.{AreKept}
+use Rattle.au_grants.specs.Rights.{grant_count}
 use Rattle.au_engine.specs.Opening.{opening_grants}
 use Rattle.au_engine.proofs.Beginnings.{opening_lawful}
 use Rattle.au_engine.proofs.opening_state.kept_grants.Goals as goal

@@ -1,15 +1,14 @@
 use Rattle.std.proofs.Common.{◌≡◌, inl, inr, true, false}
-use Rattle.au_priv.proofs.Chains.{held}
 use Rattle.au_priv.proofs.allowing.reads_trail.Goals as goal
 
-pub returns-then-has_right : goal.returns-then-has_right
-returns-then-has_right c = (λ is. inl ((held _ _ _).0 (c.has_right.ensures.0 is)), λ reads. c.if-has_right.true)
+pub returns-then-holds_role_named : goal.returns-then-holds_role_named
+returns-then-holds_role_named c = (λ is. inl (c.holds_role_named.ensures.0 is), λ reads. c.if-holds_role_named.true)
 
-pub returns-else-has_right : goal.returns-else-has_right
-returns-else-has_right c = (
-  λ is. inr ((held _ _ _).0 (c.has_right-else-has_right.ensures.0 is)),
+pub returns-else-holds_role_named : goal.returns-else-holds_role_named
+returns-else-holds_role_named c = (
+  λ is. inr (c.holds_role_named-else-holds_role_named.ensures.0 is),
   λ reads. elim reads [
-    | inl admin ↦ absurd (let is : c.has_right.result ≡ true = c.has_right.ensures.1 ((held _ _ _).1 admin) in let not : c.has_right.result ≡ false = c.if-has_right.false in cc)
-    | inr viewer ↦ c.has_right-else-has_right.ensures.1 ((held _ _ _).1 viewer)
+    | inl admin ↦ absurd (let is : c.holds_role_named.result ≡ true = c.holds_role_named.ensures.1 admin in let not : c.holds_role_named.result ≡ false = c.if-holds_role_named.false in cc)
+    | inr viewer ↦ c.holds_role_named-else-holds_role_named.ensures.1 viewer
   ],
 )

@@ -1,10 +1,10 @@
 use Rattle.std.proofs.Common.{◌↔◌, ◌≡◌, Bool, inl, inr, refl, sym, ◌∙◌, true}
 use Rattle.au_base.specs.declared.grant.Right.{Right}
 use Rattle.au_base.specs.declared.grant.Right.TheVariants.{Privilege as SystemRight, Role}
-use Rattle.au_priv.specs.declared.grants.Grants.{Grants}
+use Rattle.au_grants.specs.declared.grants.Grants.{Grants}
 use Rattle.au_priv.specs.descent.Asking.{AreAnyHeld, any_of}
 use Rattle.au_priv.specs.Deciding.{any_right}
-use Rattle.au_priv.specs.Rights.{HoldsPrivilege, Name}
+use Rattle.au_grants.specs.Rights.{HoldsPrivilege, Name}
 use Rattle.au_priv.proofs.Answers.{not_at_false}
 use Rattle.au_priv.proofs.deciding.right_refusal.Goals as goal
 use Rattle.au_priv.proofs.deciding.right_refusal.Goals.{then-is_any_held-via-then-is_any_held, then-is_any_held-via-else-is_any_held+then-administers}

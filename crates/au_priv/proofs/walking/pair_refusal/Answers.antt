@@ -1,7 +1,7 @@
 use Rattle.std.proofs.Common.{subst}
 use Rattle.std.specs.Prelude.{MatchOption}
 use Rattle.au_base.specs.declared.code.Code.{Code}
-use Rattle.au_priv.specs.Rights.{Grants}
+use Rattle.au_grants.specs.Rights.{Grants}
 use Rattle.au_priv.specs.Walking.{RefusesPair}
 use Rattle.au_priv.proofs.walking.pair_refusal.Goals as goal
 

@@ -3,7 +3,7 @@ use Rattle.std.specs.Prelude.{◌&&◌, IfOk}
 use Rattle.std.specs.Option.{option_eq}
 use denote.Enum.Bare.{sameb}
 use Rattle.au_base.specs.contracts.action.Action.{the_type}
-use Rattle.au_priv.specs.Holding.{same_table}
+use Rattle.au_grants.specs.Holding.{same_table}
 use Rattle.rec_codec.specs.Changes.{Part, same_part}
 use Rattle.rec_codec.proofs.PartLemmas.{same_actions, same_repeats}
 use Rattle.rec_codec.proofs.policies.parts_each_once.Goals as goal

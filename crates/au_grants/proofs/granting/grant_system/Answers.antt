@@ -1,0 +1,34 @@
+use Rattle.std.proofs.Common.{refl, arith}
+use Rattle.au_grants.specs.Holding.{grants_privilege}
+use Rattle.au_grants.specs.Order.{system_before, system_fields}
+use Rattle.au_grants.proofs.Growths.{merged_length, new_ordered, new_whole, set_merged, set_ready}
+use Rattle.au_grants.proofs.Ordered.{system_told}
+use Rattle.au_grants.proofs.granting.grant_system.Goals as goal
+
+pub add-requires-clause-ordered : goal.add-requires-clause-ordered
+add-requires-clause-ordered c = new_ordered system_fields (grants_privilege c.args.grantee c.args.privilege) (c.args.grantee, c.args.privilege, c.args.admin) _ c.args.kept.now.items (system_told c.args.grantee c.args.privilege c.args.admin) c.requires.ready _ c.is_system_there.ensures c.if-is_system_there.false
+
+pub add-requires-clause-whole : goal.add-requires-clause-whole
+add-requires-clause-whole c = new_whole system_fields (grants_privilege c.args.grantee c.args.privilege) (c.args.grantee, c.args.privilege, c.args.admin) c.args.fresh.now.items c.args.kept.now.items (system_told c.args.grantee c.args.privilege c.args.admin) c.requires.ready _ c.is_system_there.ensures c.if-is_system_there.false
+
+pub add-requires-clause-kept_room : goal.add-requires-clause-kept_room
+add-requires-clause-kept_room c =
+    let room = c.requires.room.stand in
+    let long = merged_length system_before c.args.fresh.now.items c.args.kept.now.items in
+    let one = c.args.fresh.now.ok.0 in
+    let two = c.args.kept.now.ok.0 in
+    omega (arith, room, long, one, two)
+
+pub add-requires-clause-moving_room : goal.add-requires-clause-moving_room
+add-requires-clause-moving_room c =
+    let room = c.requires.room.move in
+    let long = merged_length system_before c.args.fresh.now.items c.args.kept.now.items in
+    let one = c.args.fresh.now.ok.0 in
+    let two = c.args.kept.now.ok.0 in
+    omega (arith, room, long, one, two)
+
+pub returns-then-is_system_there-clause-after : goal.returns-then-is_system_there-clause-after
+returns-then-is_system_there-clause-after c = set_merged system_fields (grants_privilege c.args.grantee c.args.privilege) (c.args.grantee, c.args.privilege, c.args.admin) c.args.fresh.now.items c.args.kept.now.items _ _ (λ x a. refl) c.set_privilege_admin-then-is_system_there.ensures.items c.set_privilege_admin.ensures.items _ c.is_system_there.ensures c.if-is_system_there.true
+
+pub returns-then-is_system_there-clause-ready : goal.returns-then-is_system_there-clause-ready
+returns-then-is_system_there-clause-ready c = set_ready system_fields (grants_privilege c.args.grantee c.args.privilege) (c.args.grantee, c.args.privilege, c.args.admin) c.args.fresh.now.items c.args.kept.now.items _ _ (λ x a. refl) c.set_privilege_admin-then-is_system_there.ensures.items c.set_privilege_admin.ensures.items c.requires.ready

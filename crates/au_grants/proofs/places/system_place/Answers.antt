@@ -1,0 +1,11 @@
+use Rattle.std.proofs.Common.{rules, [], ◌∷◌}
+use Rattle.std.proofs.lemmas.List.Sorted.{IsPartitionPoint-from_clause}
+use Rattle.au_base.specs.Privileges as privileges
+use Rattle.au_grants.specs.Order.{fields_before, system_fields}
+use Rattle.au_grants.proofs.Halving.{parted}
+use Rattle.au_grants.proofs.places.system_place.Goals as goal
+
+pub returns : goal.returns
+returns c =
+    let these = c.args.grantee.now ∷ (privileges.code_of c.args.privilege ∷ []) ∷ [] in
+    (c.partition_point.ensures.bound, IsPartitionPoint-from_clause (λ x. fields_before (system_fields x) these) _ _ c.partition_point.ensures.partitioned (parted system_fields these _ c.requires.order) (λ a r f' k. search rules))

@@ -1,0 +1,6 @@
+pub mod Editing
+pub mod Growing
+pub mod Halving
+pub mod Search
+pub mod Spacious
+pub mod Spared

@@ -1,0 +1,249 @@
+//! Changes made in lists of grants that grow.
+ghost use Rattle.std.specs.Prelude.{◌≡◌, ◌+◌, ◌<◌, ◌∷◌, [], length, vec_capacity, vec_len};
+ghost use Rattle.std.specs.List.{list_any};
+ghost use Rattle.au_grants.specs.Changing.{applied, applied_all, with_grant, with_object};
+ghost use Rattle.au_grants.specs.Holding.{grants_privilege, grants_role, grants_object};
+ghost use Rattle.au_grants.specs.Order.{AreInOrder, object_before, role_before, system_before};
+ghost use Rattle.au_grants.specs.Holding.{grants_privilege_as, grants_role_as};
+ghost use Rattle.au_grants.specs.descent.Editing.{listed};
+ghost use Rattle.au_grants.specs.descent.Growing.{AreGrowing, AreReady, HasGrowth, IsRoomy, KeepsGrowth, grown, merged};
+
+use crate::applying::{make, set_privilege_admin, set_role_admin};
+use crate::change::GrantChange;
+use crate::direct::{has_object, has_privilege, has_privilege_as, has_role, has_role_as};
+use crate::growing::{GrowingLists, add, join};
+use au_base::{Action, Name, Privilege, TableName};
+
+/// Makes the changes in their order, and puts the new grants to their places. There is room for the
+/// grants that they add, and the call takes no memory.
+pub fn make_all_growing(lists: &mut GrowingLists, changes: Vec<GrantChange>)
+    requires ready { AreGrowing lists.old }
+    requires room { HasGrowth changes.items lists.old }
+    ensures after { listed lists.new.kept ≡ applied_all changes.items (grown lists.old) }
+    ensures order { AreInOrder (listed lists.new.kept) }
+{
+    let mut rest = changes.into_iter();
+    while let Some(change) = rest.next() {
+        make_growing(lists, change);
+    }
+    join_all(lists);
+}
+
+/// Makes the change. There is room for a grant that it adds, and the call takes no memory.
+pub fn make_growing(lists: &mut GrowingLists, change: GrantChange)
+    requires ready { AreGrowing lists.old }
+    requires room { HasGrowth (change ∷ []) lists.old }
+    ensures after { grown lists.new ≡ applied change (grown lists.old) }
+    ensures ready { AreGrowing lists.new }
+    ensures room { KeepsGrowth lists.old lists.new }
+{
+    match change {
+        GrantChange::SystemGrant(grantee, privilege, admin) => grant_system(
+            &mut lists.kept.system,
+            &mut lists.fresh.system,
+            &mut lists.moving.system,
+            grantee,
+            privilege,
+            admin,
+        ),
+        GrantChange::RoleGrant(grantee, role, admin) => grant_role(
+            &mut lists.kept.role,
+            &mut lists.fresh.role,
+            &mut lists.moving.role,
+            grantee,
+            role,
+            admin,
+        ),
+        GrantChange::ObjectGrant(grantee, table, action) => grant_object(
+            &mut lists.kept.object,
+            &mut lists.fresh.object,
+            &mut lists.moving.object,
+            grantee,
+            table,
+            action,
+        ),
+        other => make_on_joined(lists, other),
+    }
+}
+
+// Makes a change in the lists without new entries apart.
+fn make_on_joined(lists: &mut GrowingLists, change: GrantChange)
+    requires ready { AreGrowing lists.old }
+    requires room { HasGrowth (change ∷ []) lists.old }
+    ensures after { grown lists.new ≡ applied change (grown lists.old) }
+    ensures ready { AreGrowing lists.new }
+    ensures room { KeepsGrowth lists.old lists.new }
+{
+    join_all(lists);
+    make(&mut lists.kept, change);
+}
+
+/// The new entries of each kind go to their places. It takes no memory.
+pub fn join_all(lists: &mut GrowingLists)
+    requires ready { AreGrowing lists.old }
+    requires room { HasGrowth [] lists.old }
+    ensures kept { listed lists.new.kept ≡ grown lists.old }
+    ensures fresh { (lists.new.fresh.system.items ≡ []) × (lists.new.fresh.role.items ≡ []) × (lists.new.fresh.object.items ≡ []) }
+    ensures ready { AreGrowing lists.new }
+    ensures room { KeepsGrowth lists.old lists.new }
+{
+    join(
+        &mut lists.kept.system,
+        &mut lists.fresh.system,
+        &mut lists.moving.system,
+    );
+    join(
+        &mut lists.kept.role,
+        &mut lists.fresh.role,
+        &mut lists.moving.role,
+    );
+    join(
+        &mut lists.kept.object,
+        &mut lists.fresh.object,
+        &mut lists.moving.object,
+    );
+}
+
+fn grant_system(
+    kept: &mut Vec<(Name, Privilege, bool)>,
+    fresh: &mut Vec<(Name, Privilege, bool)>,
+    moving: &mut Vec<(Name, Privilege, bool)>,
+    grantee: Name,
+    privilege: Privilege,
+    admin: bool,
+)
+    requires ready { AreReady system_before fresh.old.items kept.old.items }
+    requires none_moving { moving.old.items ≡ [] }
+    requires room { IsRoomy (length (merged system_before fresh.old.items kept.old.items) + 1) (vec_capacity kept.old) (vec_capacity moving.old) (vec_capacity fresh.old) (length fresh.old.items) }
+    ensures after { merged system_before fresh.new.items kept.new.items ≡ with_grant system_before (grants_privilege grantee privilege) (grantee, privilege, admin) (merged system_before fresh.old.items kept.old.items) }
+    ensures ready { AreReady system_before fresh.new.items kept.new.items }
+    ensures none_moving { moving.new.items ≡ [] }
+    ensures capacity { (vec_capacity kept.new ≡ vec_capacity kept.old) × (vec_capacity fresh.new ≡ vec_capacity fresh.old) × (vec_capacity moving.new ≡ vec_capacity moving.old) }
+    ensures fresh_room { length fresh.new.items < vec_capacity fresh.new }
+{
+    if is_system_there(kept, fresh, &grantee, privilege) {
+        set_privilege_admin(kept, &grantee, privilege, admin);
+        set_privilege_admin(fresh, &grantee, privilege, admin);
+    } else {
+        add(kept, fresh, moving, (grantee, privilege, admin));
+    }
+}
+
+/// Whether it is granted, among the new grants or the others.
+pub fn is_system_there(
+    kept: &Vec<(Name, Privilege, bool)>,
+    fresh: &Vec<(Name, Privilege, bool)>,
+    grantee: &Name,
+    privilege: Privilege,
+) -> bool
+    requires { AreReady system_before fresh.now.items kept.now.items }
+    ensures { result ≡ list_any (grants_privilege grantee.now privilege) (merged system_before fresh.now.items kept.now.items) }
+{
+    has_privilege(fresh.as_slice(), grantee, privilege)
+        || has_privilege(kept.as_slice(), grantee, privilege)
+}
+
+/// The same, and with admin option where that is asked.
+pub fn is_system_there_as(
+    kept: &Vec<(Name, Privilege, bool)>,
+    fresh: &Vec<(Name, Privilege, bool)>,
+    grantee: &Name,
+    privilege: Privilege,
+    admin: bool,
+) -> bool
+    requires { AreReady system_before fresh.now.items kept.now.items }
+    ensures { result ≡ list_any (grants_privilege_as grantee.now privilege admin) (merged system_before fresh.now.items kept.now.items) }
+{
+    has_privilege_as(fresh.as_slice(), grantee, privilege, admin)
+        || has_privilege_as(kept.as_slice(), grantee, privilege, admin)
+}
+
+fn grant_role(
+    kept: &mut Vec<(Name, Name, bool)>,
+    fresh: &mut Vec<(Name, Name, bool)>,
+    moving: &mut Vec<(Name, Name, bool)>,
+    grantee: Name,
+    name: Name,
+    admin: bool,
+)
+    requires ready { AreReady role_before fresh.old.items kept.old.items }
+    requires none_moving { moving.old.items ≡ [] }
+    requires room { IsRoomy (length (merged role_before fresh.old.items kept.old.items) + 1) (vec_capacity kept.old) (vec_capacity moving.old) (vec_capacity fresh.old) (length fresh.old.items) }
+    ensures after { merged role_before fresh.new.items kept.new.items ≡ with_grant role_before (grants_role grantee name) (grantee, name, admin) (merged role_before fresh.old.items kept.old.items) }
+    ensures ready { AreReady role_before fresh.new.items kept.new.items }
+    ensures none_moving { moving.new.items ≡ [] }
+    ensures capacity { (vec_capacity kept.new ≡ vec_capacity kept.old) × (vec_capacity fresh.new ≡ vec_capacity fresh.old) × (vec_capacity moving.new ≡ vec_capacity moving.old) }
+    ensures fresh_room { length fresh.new.items < vec_capacity fresh.new }
+{
+    if is_role_there(kept, fresh, &grantee, name.as_str()) {
+        set_role_admin(kept, &grantee, &name, admin);
+        set_role_admin(fresh, &grantee, &name, admin);
+    } else {
+        add(kept, fresh, moving, (grantee, name, admin));
+    }
+}
+
+/// Whether it is granted, among the new grants or the others.
+pub fn is_role_there(
+    kept: &Vec<(Name, Name, bool)>,
+    fresh: &Vec<(Name, Name, bool)>,
+    grantee: &Name,
+    role: &str,
+) -> bool
+    requires { AreReady role_before fresh.now.items kept.now.items }
+    ensures { result ≡ list_any (grants_role grantee.now role.now) (merged role_before fresh.now.items kept.now.items) }
+{
+    has_role(fresh.as_slice(), grantee, role) || has_role(kept.as_slice(), grantee, role)
+}
+
+/// The same, and with admin option where that is asked.
+pub fn is_role_there_as(
+    kept: &Vec<(Name, Name, bool)>,
+    fresh: &Vec<(Name, Name, bool)>,
+    grantee: &Name,
+    role: &str,
+    admin: bool,
+) -> bool
+    requires { AreReady role_before fresh.now.items kept.now.items }
+    ensures { result ≡ list_any (grants_role_as grantee.now role.now admin) (merged role_before fresh.now.items kept.now.items) }
+{
+    has_role_as(fresh.as_slice(), grantee, role, admin)
+        || has_role_as(kept.as_slice(), grantee, role, admin)
+}
+
+fn grant_object(
+    kept: &mut Vec<(Name, TableName, Action)>,
+    fresh: &mut Vec<(Name, TableName, Action)>,
+    moving: &mut Vec<(Name, TableName, Action)>,
+    grantee: Name,
+    table: TableName,
+    action: Action,
+)
+    requires ready { AreReady object_before fresh.old.items kept.old.items }
+    requires none_moving { moving.old.items ≡ [] }
+    requires room { IsRoomy (length (merged object_before fresh.old.items kept.old.items) + 1) (vec_capacity kept.old) (vec_capacity moving.old) (vec_capacity fresh.old) (length fresh.old.items) }
+    ensures after { merged object_before fresh.new.items kept.new.items ≡ with_object (grantee, table, action) (merged object_before fresh.old.items kept.old.items) }
+    ensures ready { AreReady object_before fresh.new.items kept.new.items }
+    ensures none_moving { moving.new.items ≡ [] }
+    ensures capacity { (vec_capacity kept.new ≡ vec_capacity kept.old) × (vec_capacity fresh.new ≡ vec_capacity fresh.old) × (vec_capacity moving.new ≡ vec_capacity moving.old) }
+    ensures fresh_room { length fresh.new.items < vec_capacity fresh.new }
+{
+    if !is_object_there(kept, fresh, &grantee, &table, action) {
+        add(kept, fresh, moving, (grantee, table, action));
+    }
+}
+
+/// Whether it is granted, among the new grants or the others.
+pub fn is_object_there(
+    kept: &Vec<(Name, TableName, Action)>,
+    fresh: &Vec<(Name, TableName, Action)>,
+    grantee: &Name,
+    table: &TableName,
+    action: Action,
+) -> bool
+    requires { AreReady object_before fresh.now.items kept.now.items }
+    ensures { result ≡ list_any (grants_object grantee.now table.now action) (merged object_before fresh.now.items kept.now.items) }
+{
+    has_object(fresh.as_slice(), grantee, table, action)
+        || has_object(kept.as_slice(), grantee, table, action)
+}

@@ -1,7 +1,0 @@
-use Rattle.std.proofs.Common.{ℕ, ◌≤◌, ◌<◌}
-use Rattle.au_priv.specs.Rights.{IsRoleGranted}
-use Rattle.au_priv.specs.descent.Search.{grantee_at, queued_at}
-use Rattle.au_priv.proofs.circle.is_granted_to_some.Given as goal
-
-abbrev pub invariant-loop-k : goal.invariant-loop-k
-invariant-loop-k l = (j : ℕ) → 0 ≤ j → j < l.k → ¬ IsRoleGranted l.roles (grantee_at l.roles (queued_at l.queue j)) l.role

@@ -1,5 +1,0 @@
-use Rattle.au_priv.proofs.Circles.{drop_keeps}
-use Rattle.au_priv.proofs.laws.drops_close_no_circle.Goals as goal
-
-pub returns : goal.returns
-returns c grants change drop clear = drop_keeps change grants drop clear

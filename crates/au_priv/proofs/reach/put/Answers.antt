@@ -1,5 +1,0 @@
-use Rattle.au_priv.proofs.Reached.{found_more}
-use Rattle.au_priv.proofs.reach.put.Goals as goal
-
-pub returns-clause-went_on : goal.returns-clause-went_on
-returns-clause-went_on c = found_more _ _ _ _ _ c.requires.search c.requires.first c.requires.new

@@ -1,6 +1,0 @@
-use Rattle.std.proofs.Common.{length}
-use Rattle.au_priv.proofs.Reached.{Searching}
-use Rattle.au_priv.proofs.reach.reach.Given as goal
-
-abbrev pub invariant-loop-done : goal.invariant-loop-done
-invariant-loop-done l = Searching l.roles l.user l.marks l.queue l.count l.done (length l.fn.queue)
