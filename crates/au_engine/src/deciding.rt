@@ -13,7 +13,7 @@ use au_base::built_in::{AUDIT_ADMIN, AUDSYS, DUAL, P_ALL, SYS, UNIFIED_AUDIT_TRA
 use au_base::{Action, Code, List, Memory, Name, Privilege, TableName};
 use au_catalog::{AuditPolicy, Catalog, Change, Enabled, Outcomes};
 use au_grants::Grants;
-use au_priv::{Allowed, allowed};
+use au_priv::{Allowed, allowed_on};
 use std::alloc::Global;
 
 // A statement that changes for whom a policy is enabled.
@@ -76,7 +76,7 @@ fn decide_select(
 ) -> Result<Decision, Memory>
     ensures { IfOk result (DecidesSelect grants.now user.now table.now) }
 {
-    let answer = allowed(grants, user, table, Action::Select);
+    let answer = allowed_on(grants, user, table, Action::Select);
     by_right(alloc, answer)
 }
 

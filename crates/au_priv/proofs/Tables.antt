@@ -5,6 +5,7 @@ use Rattle.std.proofs.lemmas.Bool.{and_parts, and_from}
 use Rattle.std.proofs.lemmas.Slice.Eq.{bytes_eq-Decides}
 use Rattle.au_base.specs.declared.table.TableName.{TableName}
 use Rattle.au_base.specs.Sameness.{same_table}
+use Rattle.au_grants.specs.Rights.{Name}
 
 same_name-is : (a b : Name) → bytes_eq a b ≡ true → a ≡ b
 same_name-is a b is = (bytes_eq-Decides a b).0 is

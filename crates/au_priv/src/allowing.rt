@@ -17,7 +17,7 @@ use au_grants::{
 };
 
 /// What the user may do with the table, and by what.
-pub fn allowed(grants: &Grants, user: &Name, table: &TableName, action: Action) -> Allowed
+pub fn allowed_on(grants: &Grants, user: &Name, table: &TableName, action: Action) -> Allowed
     ensures { (answer : Allowed) → (result ≡ answer) ↔ AllowedIs grants.now user.now table.now action answer }
 {
     if table.is_dual() {

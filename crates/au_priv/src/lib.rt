@@ -11,7 +11,7 @@ mod pair;
 mod walking;
 
 pub use allowed::Allowed;
-pub use allowing::{allowed, refusal};
+pub use allowing::{allowed_on, refusal};
 pub use au_grants::{
     GrantChange, GrantDraft, Grants, StagedGrants, changes_add_one_grant_at_most,
     changes_keep_no_circle, changes_keep_order, drops_close_no_circle, grants_in_order_come_back,

@@ -12,7 +12,7 @@ use au_grants::{
     GrantDraft, Grants, changes_keep_no_circle, changes_keep_order, drops_close_no_circle,
     grants_in_order_come_back,
 };
-use au_priv::{allowed, decide, refusal, rights_have_one_answer};
+use au_priv::{allowed_on, decide, refusal, rights_have_one_answer};
 use std::alloc::Global;
 
 /// What comes of a line that asks, if the case is one.
@@ -21,7 +21,7 @@ pub fn asked(alloc: Global, world: &World, case: &Case<'_>) -> Result<Option<Str
     match case.call {
         "allowed" => {
             let (user, table) = (name(alloc, case.text(0))?, table(alloc, case.text(1))?);
-            let answer = allowed(grants, &user, &table, action(case.text(2))?);
+            let answer = allowed_on(grants, &user, &table, action(case.text(2))?);
             Ok(Some(writing::allowed(alloc, answer)?))
         }
         "refusal" => {

@@ -1,5 +1,5 @@
 use Rattle.au_priv.proofs.Answers.{exactly, not_both, not_at_false}
-use Rattle.au_priv.proofs.allowing.allowed.Goals as goal
+use Rattle.au_priv.proofs.allowing.allowed_on.Goals as goal
 
 pub returns-then-is_dual : goal.returns-then-is_dual
 returns-then-is_dual c = exactly _ _ _ _ _ (record {
