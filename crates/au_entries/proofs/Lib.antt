@@ -1,0 +1,3 @@
+mod AllOf
+mod Ordered
+mod Rising
