@@ -1,6 +1,7 @@
 -- The records of the trail as rows of a table (Database Reference, "UNIFIED_AUDIT_TRAIL"; the columns, their order and their
 -- kinds are this project's profile).
 use Rattle.std.specs.Prelude.{ℕ, pos, false, List, [], ◌∷◌, ◌++◌, map, codes, Option, Some, None}
+use Rattle.std.specs.List.{flat_map}
 use Rattle.au_base.specs.declared.cell.Cell.{Cell}
 use Rattle.au_base.specs.declared.cell.Cell.TheVariants.{Null, Num, Moment}
 use Rattle.au_base.specs.declared.table.Column.{Column}
@@ -25,8 +26,7 @@ optional_cell (Some text) = text_cell text
 
 -- the names behind the first, each behind a comma (44) and a space (32)
 abbrev pub further : List (List ℕ) → List ℕ
-further [] = []
-further (name ∷ names) = 44 ∷ 32 ∷ name ++ further names
+further names = flat_map (λ name. 44 ∷ 32 ∷ name) names
 
 -- the names, joined by a comma and a space; of no names the empty text
 abbrev pub joined : List (List ℕ) → List ℕ

@@ -1,7 +1,7 @@
 //! What AUDIT and NOAUDIT make of an enablement.
 ghost use Rattle.std.specs.Prelude.{◌≡◌, ◌++◌, IfOk, OnOk, map, not};
 ghost use Rattle.std.specs.List.{filter};
-ghost use Rattle.au_entries.specs.Enabling.{audit_made, audited_by, audited_except, each_once, for_users, is_among, newly_listed, noaudit_made, noaudited, noaudited_by, outcomes_named, widened, with_outcomes, with_users};
+ghost use Rattle.au_entries.specs.Enabling.{audit_made, audited_by, audited_except, each_once, for_users, is_among, is_listed, newly_listed, noaudit_made, noaudited, noaudited_by, outcomes_named, widened, with_outcomes, with_users};
 ghost use Rattle.au_entries.specs.declared.policy.Outcomes.{Outcomes};
 
 use au_base::{Code, List, Memory, Name};
@@ -213,7 +213,7 @@ fn push_new(
     outcomes: Outcomes,
     listed: &[(Name, Outcomes)],
 ) -> Result<(), Memory>
-    ensures { OnOk result (all.new.items ≡ all.old.items ++ map (λ user. (user, outcomes)) (filter (λ user. not (is_among (map (λ entry. entry.0) listed.now) user)) users.now)) }
+    ensures { OnOk result (all.new.items ≡ all.old.items ++ map (λ user. (user, outcomes)) (filter (λ user. not (is_listed listed.now user)) users.now)) }
 {
     for user in users {
         if !is_listed(listed, user) {
@@ -224,7 +224,7 @@ fn push_new(
 }
 
 fn is_listed(listed: &[(Name, Outcomes)], user: &Name) -> bool
-    ensures { result ≡ is_among (map (λ entry. entry.0) listed.now) user.now }
+    ensures { result ≡ is_listed listed.now user.now }
 {
     listed.iter().any(|entry| *user == entry.0)
 }

@@ -3,13 +3,11 @@
 #![tactic(auto)]
 
 mod enabling;
-mod laws;
 mod place;
 mod statement;
 mod trail_row;
 
 pub use enabling::{audited, noaudited};
-pub use laws::demanded_names_stand_in_order;
 pub use place::Place;
 pub use statement::{action_of, object_of, tables_of};
 pub use trail_row::as_row;

@@ -33,3 +33,12 @@ passes_at test x ys false is more = more
 pub passes : {X : Type 0} (test : X → Bool) (xs : List X) → AllByRecursion (λ x. test x ≡ true) (filter test xs)
 passes test [] = tt
 passes test (x ∷ xs) = passes_at test x (filter test xs) (test x) refl (passes test xs)
+
+-- what holds of what is made of each holds of all that is made
+pub mapped : {X Y : Type 0} (P : Y → Type 0) (f : X → Y) (xs : List X) → AllByRecursion (λ x. P (f x)) xs → AllByRecursion P (map f xs)
+mapped P f [] all = tt
+mapped P f (x ∷ xs) all = (all.0, mapped P f xs all.1)
+
+pub both : {X : Type 0} (P Q : X → Type 0) (xs : List X) → AllByRecursion P xs → AllByRecursion Q xs → AllByRecursion (λ x. P x × Q x) xs
+both P Q [] one two = tt
+both P Q (x ∷ xs) one two = ((one.0, two.0), both P Q xs one.1 two.1)

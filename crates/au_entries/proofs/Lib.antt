@@ -1,3 +1,5 @@
 mod AllOf
+mod Bounds
+mod DemandedNames
 mod Ordered
 mod Rising

@@ -17,9 +17,9 @@ use Rattle.au_entries.specs.declared.kept.Kept.{Kept}
 use Rattle.au_entries.specs.declared.policy.AuditPolicy.{AuditPolicy}
 use Rattle.au_entries.specs.declared.policy.Enabled.{Enabled}
 use Rattle.au_entries.specs.declared.table.Table.{Table as AnyTable}
-use Rattle.au_entries.specs.Changing.{KeptRow, by_fields, by_name, changed, enabled_after, fga_after, fga_fields, grant_changes, grants_after, is_fga, is_on, is_row, policies_after, put_in_order, roles_after, row_fields, rows_after, table_fields, tables_after, users_after, with_enablement, without_user}
+use Rattle.au_entries.specs.Changing.{KeptRow, by_fields, by_name, changed, changed_all, enabled_after, fga_after, fga_fields, grant_changes, grants_after, is_fga, is_on, is_row, policies_after, put_in_order, roles_after, row_fields, rows_after, table_fields, tables_after, users_after, with_enablement, without_user}
 use Rattle.au_entries.specs.Lawful.{IsOrdered}
-use Rattle.au_entries.specs.Replaying.{Conditions, GoesOn}
+use Rattle.au_entries.specs.Replaying.{AllGoOn, Conditions, GoesOn}
 use Rattle.au_entries.proofs.AllOf.{all_kept, all_put, passes}
 use Rattle.au_entries.proofs.Rising.{Rises, in_order, kept_rises, mapped_rises, put_rises, rises}
 use Rattle.au_priv.specs.declared.change.GrantChange.{GrantChange}
@@ -28,14 +28,14 @@ use Rattle.au_priv.specs.Changing.{applied, applied_all, without}
 use Rattle.au_priv.specs.Order.{AreInOrder}
 use Rattle.sql_ast.specs.declared.expression.Expr.{Expr}
 
-names_total : IsTotalOrder by_name
+pub names_total : IsTotalOrder by_name
 names_total = lists_total nat_cmp_total
 
 fields_total : IsTotalOrder by_fields
 fields_total = lists_total (lists_total nat_cmp_total)
 
 -- a list in order by names stays so where entries go
-kept_by_name : {X : Type 0} (key : X → List ℕ) (test : X → Bool) (xs : List X) → IsTrue (is_in_order name_before (map key xs)) → IsTrue (is_in_order name_before (map key (filter test xs)))
+pub kept_by_name : {X : Type 0} (key : X → List ℕ) (test : X → Bool) (xs : List X) → IsTrue (is_in_order name_before (map key xs)) → IsTrue (is_in_order name_before (map key (filter test xs)))
 kept_by_name key test xs ordered = in_order by_name key _ (kept_rises by_name key test xs (rises by_name key xs ordered))
 
 -- and by fields
@@ -52,10 +52,10 @@ roles_mapped : (roles : List (List ℕ)) → map (λ role. role) roles ≡ roles
 roles_mapped [] = refl
 roles_mapped (role ∷ roles) = ap (λ (rest : List (List ℕ)). role ∷ rest) (roles_mapped roles)
 
-roles_rise : (roles : List (List ℕ)) → IsTrue (is_in_order name_before roles) → Rises by_name (λ (role : List ℕ). role) roles
+pub roles_rise : (roles : List (List ℕ)) → IsTrue (is_in_order name_before roles) → Rises by_name (λ (role : List ℕ). role) roles
 roles_rise roles ordered = rises by_name (λ (role : List ℕ). role) roles (ap (is_in_order name_before) (roles_mapped roles) ∙ ordered)
 
-roles_back : (roles : List (List ℕ)) → Rises by_name (λ (role : List ℕ). role) roles → IsTrue (is_in_order name_before roles)
+pub roles_back : (roles : List (List ℕ)) → Rises by_name (λ (role : List ℕ). role) roles → IsTrue (is_in_order name_before roles)
 roles_back roles up = ap (is_in_order name_before) (sym (roles_mapped roles)) ∙ in_order by_name (λ (role : List ℕ). role) roles up
 
 pub roles_ordered : (change : Change) (roles : List (List ℕ)) → IsTrue (is_in_order name_before roles) → IsTrue (is_in_order name_before (roles_after change roles))
@@ -152,3 +152,9 @@ one_ordered keeps conditions image kept change h goes = record {
   on = all_on change kept.enabled h.on;
   unreserved = all_unreserved conditions image kept change goes h.unreserved;
 }
+
+pub all_ordered : ((grants : Grants) (change : GrantChange) → AreInOrder grants → AreInOrder (applied change grants)) → (conditions : Conditions) (image : Bool) (kept : Kept) (changes : List Change)
+    → IsOrdered kept → AllGoOn conditions image kept changes → IsOrdered (changed_all conditions.tree changes kept)
+all_ordered keeps conditions image kept [] h goes = h
+all_ordered keeps conditions image kept (change ∷ changes) h goes =
+    all_ordered keeps conditions image (changed conditions.tree change kept) changes (one_ordered keeps conditions image kept change h goes.0) goes.1

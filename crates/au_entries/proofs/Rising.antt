@@ -49,10 +49,10 @@ is_greater Less is = absurd (let e : false ≡ true = is in cc)
 is_greater Equal is = absurd (let e : false ≡ true = is in cc)
 is_greater Greater is = refl
 
-before_joined : {K : Type 0} (cmp : K → K → Ordering) → IsTotalOrder cmp → (a b c : K) → Before cmp a b ≡ true → Before cmp b c ≡ true → Before cmp a c ≡ true
+pub before_joined : {K : Type 0} (cmp : K → K → Ordering) → IsTotalOrder cmp → (a b c : K) → Before cmp a b ≡ true → Before cmp b c ≡ true → Before cmp a c ≡ true
 before_joined cmp total a b c one two = ap is_lt (total.trans a b c (is_less _ one) (is_less _ two))
 
-turned : {K : Type 0} (cmp : K → K → Ordering) → IsTotalOrder cmp → (a b : K) → is_gt (cmp a b) ≡ true → Before cmp b a ≡ true
+pub turned : {K : Type 0} (cmp : K → K → Ordering) → IsTotalOrder cmp → (a b : K) → is_gt (cmp a b) ≡ true → Before cmp b a ≡ true
 turned cmp total a b behind = ap is_lt (total.antisymm b a ∙ ap ordering_reverse (is_greater (cmp a b) behind))
 
 kept_rises_at : {K X : Type 0} (cmp : K → K → Ordering) (key : X → K) (x : X) (ys : List X) (b : Bool) → AllByRecursion (λ y. Before cmp (key x) (key y) ≡ true) ys → Rises cmp key ys → Rises cmp key (cond b (x ∷ ys) ys)
@@ -64,7 +64,7 @@ kept_rises cmp key test [] up = tt
 kept_rises cmp key test (x ∷ xs) up =
     kept_rises_at cmp key x (filter test xs) (test x) (all_kept (λ y. Before cmp (key x) (key y) ≡ true) test xs up.0) (kept_rises cmp key test xs up.1)
 
-joined_rises : {K X : Type 0} (cmp : K → K → Ordering) (key : X → K) (xs ys : List X) → Rises cmp key xs → Rises cmp key ys
+pub joined_rises : {K X : Type 0} (cmp : K → K → Ordering) (key : X → K) (xs ys : List X) → Rises cmp key xs → Rises cmp key ys
     → AllByRecursion (λ x. AllByRecursion (λ y. Before cmp (key x) (key y) ≡ true) ys) xs → Rises cmp key (xs ++ ys)
 joined_rises cmp key [] ys one two across = two
 joined_rises cmp key (x ∷ xs) ys one two across =

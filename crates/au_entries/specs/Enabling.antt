@@ -67,9 +67,13 @@ audited_except users outcomes (Except excepted standing) = Ok (Except users (wit
 abbrev pub widened : List (List ℕ) → Outcomes → List ℕ × Outcomes → List ℕ × Outcomes
 widened users outcomes listed = if is_among users listed.0 then (listed.0, with_outcomes outcomes listed.1) else listed
 
+-- the user is listed
+abbrev pub is_listed : List (List ℕ × Outcomes) → List ℕ → Bool
+is_listed listed user = list_any (λ entry. bytes_eq user entry.0) listed
+
 -- the users of these who aren't listed, as they are first written, each once
 abbrev pub newly_listed : List (List ℕ × Outcomes) → List (List ℕ) → List (List ℕ)
-newly_listed listed users = filter (λ user. not (is_among (map (λ entry. entry.0) listed) user)) (each_once users)
+newly_listed listed users = filter (λ user. not (is_listed listed user)) (each_once users)
 
 -- AUDIT BY: users who are listed get these outcomes beside their own; users who aren't are listed behind them with these
 -- outcomes alone. Other users keep theirs.
