@@ -18,11 +18,10 @@ use Rattle.au_entries.specs.declared.policy.Condition.{Condition}
 use Rattle.sql_ast.specs.declared.expression.Expr.{Expr}
 use Rattle.au_audit.specs.Conditions.{is_yes}
 
--- what a statement did to rows: its action and its code, the rows that it touched of each table, and the columns that it
--- references of each. A table may stand in both lists more than once, as it may in FROM.
+-- what a statement did to rows: its action, the rows that it touched of each table, and the columns that it references of
+-- each. A table may stand in both lists more than once, as it may in FROM.
 pub record RowFacts : Type 0 where
   pub action : Action
-  pub code : Code
   pub touched : List (TableName × List (List Cell))
   pub named : List (TableName × List (List ℕ))
 
@@ -55,9 +54,9 @@ meets truth table (Some condition) row = is_yes (truth table condition.tree row)
 
 -- The policy demands a record: the statement was done, the policy is enabled, its types name the action, its relevant
 -- columns are referenced, and some touched row of its table meets its condition.
-abbrev pub fires : (TableName → Expr → List Cell → Truth) → RowFacts → FgaPolicy → Bool
-fires truth facts policy =
-    facts.code.0 == 0 && (policy.enabled && (names_type policy.types facts.action
+abbrev pub fires : (TableName → Expr → List Cell → Truth) → Code → RowFacts → FgaPolicy → Bool
+fires truth code facts policy =
+    code.0 == 0 && (policy.enabled && (names_type policy.types facts.action
     && (are_referenced policy.columns policy.all (of_table policy.name.table facts.named)
     && list_any (meets truth policy.name.table policy.condition) (of_table policy.name.table facts.touched))))
 
@@ -76,6 +75,6 @@ abbrev pub in_record_order : List FgaName → List FgaName
 in_record_order [] = []
 in_record_order (name ∷ names) = placed record_before name (in_record_order names)
 
--- the fine-grained policies that demand a record, in the order of their records
-abbrev pub fired : (TableName → Expr → List Cell → Truth) → RowFacts → List FgaPolicy → List FgaName
-fired truth facts policies = in_record_order (map (λ policy. policy.name) (filter (fires truth facts) policies))
+-- the fine-grained policies that demand a record of a statement with this code, in the order of their records
+abbrev pub fired : (TableName → Expr → List Cell → Truth) → Code → RowFacts → List FgaPolicy → List FgaName
+fired truth code facts policies = in_record_order (map (λ policy. policy.name) (filter (fires truth code facts) policies))

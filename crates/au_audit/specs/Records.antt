@@ -1,9 +1,12 @@
 -- The records that a statement leaves in the trail (Database Reference, "UNIFIED_AUDIT_TRAIL"; how entries are counted is
 -- this project's profile).
 use Rattle.std.specs.Prelude.{ℕ, ◌+◌, min, List, [], ◌∷◌, ◌++◌, map, Option, Some, None, option_map}
-use Rattle.std.specs.List.{enumerate_from}
+use Rattle.std.specs.List.{enumerate_from, filter, list_any}
+use Rattle.au_base.specs.declared.privilege.Privilege.{Privilege}
 use Rattle.au_base.specs.Codes.{DONE}
 use Rattle.au_base.specs.Limits.{SESSION_COUNT}
+use Rattle.au_base.specs.Privileges.{each_privilege}
+use Rattle.au_base.specs.Sameness.{same_privilege}
 use Rattle.au_entries.specs.declared.facts.Facts.{Facts}
 use Rattle.au_entries.specs.declared.fine_grained.FgaName.{FgaName}
 use Rattle.au_entries.specs.declared.trail_record.Record.{Record}
@@ -21,6 +24,10 @@ abbrev pub name_of : Option Object → Option (List ℕ)
 name_of None = None
 name_of (Some object) = Some object.1
 
+-- the privileges in the order of their numbers, each once
+abbrev pub in_code_order : List Privilege → List Privilege
+in_code_order used = filter (λ privilege. list_any (same_privilege privilege) used) each_privilege
+
 -- the unified record that these policies demand
 abbrev pub unified_record : Facts → Place → List (List ℕ) → Record
 unified_record facts place policies = record {
@@ -34,7 +41,7 @@ unified_record facts place policies = record {
   schema = owner_of place.object;
   object = name_of place.object;
   sql = place.sql;
-  used = facts.used;
+  used = in_code_order facts.used;
   policies = policies;
   fga = None;
   code = facts.code;

@@ -1,7 +1,7 @@
 -- What auditing asks of a statement: its action, the tables that it names, the object that its record names, and its text
 -- without passwords (Database Security Guide, "Auditing Activities with Unified Audit Policies"; Database Reference,
 -- "UNIFIED_AUDIT_TRAIL"; which table is the object of a query is this project's profile).
-use Rattle.std.specs.Prelude.{ℕ, List, [], ◌∷◌, ◌++◌, map, take, drop, codes, Option, Some, None}
+use Rattle.std.specs.Prelude.{ℕ, ◌<◌, ◌≤◌, nat_le, ◌&&◌, if◌then◌else◌, ⊤, IsUtf8, List, [], ◌∷◌, ◌++◌, length, map, take, drop, codes, Option, Some, None}
 use Rattle.au_base.specs.declared.action.Action.{Action}
 use Rattle.au_base.specs.declared.action.Action.TheVariants as action
 use Rattle.au_base.specs.declared.code.Code.{Code}
@@ -11,6 +11,7 @@ use Rattle.au_base.specs.declared.privilege.Privilege.{Privilege}
 use Rattle.au_base.specs.declared.table.TableName.{TableName}
 use Rattle.au_base.specs.declared.table.TableReference.{TableReference}
 use Rattle.au_base.specs.BuiltIn.{resolved_table}
+use Rattle.au_base.specs.Naming.{identifier_of}
 use Rattle.au_entries.specs.declared.facts.Facts.{Facts}
 use Rattle.sql_ast.specs.declared.administration.Password.{Password}
 use Rattle.sql_ast.specs.declared.call.Procedure.{Procedure}
@@ -92,10 +93,10 @@ Object = Option (List ℕ) × List ℕ
 abbrev pub table_object : TableName → Object
 table_object table = (Some table.owner, table.name)
 
--- the first table, where there is one
-abbrev pub first_object : List TableName → Option Object
-first_object [] = None
-first_object (table ∷ tables) = Some (table_object table)
+-- the first of the tables that the user's statement names, where there is one
+abbrev pub first_object : List ℕ → List TableReference → Option Object
+first_object user [] = None
+first_object user (table ∷ tables) = Some (table_object (resolved_table user table))
 
 -- the package of a procedure
 abbrev pub package_of : Procedure → List ℕ
@@ -120,9 +121,22 @@ object_of user (DropPolicy policy) = Some (None, policy)
 object_of user (Audit audit) = Some (None, audit.policy)
 object_of user (Noaudit policy users) = Some (None, policy)
 object_of user (Call call) = Some (Some (codes "SYS"), package_of call.procedure)
-object_of user statement = first_object (tables_of user statement)
+object_of user statement = first_object user (written_tables statement)
 
 -- ---- the text
+
+-- the password's token stands in the text, and what stands before it and behind it is text
+pub record IsPasswordIn (text : List ℕ) (password : Password) : Type 0 where
+  pub some : password.from < password.to
+  pub within : password.to ≤ length text
+  pub before : IsUtf8 (take password.from text)
+  pub behind : IsUtf8 (drop password.to text)
+
+-- the password that the statement has stands in the text
+abbrev pub IsPlaced : List ℕ → Statement → Type 0
+IsPlaced text (CreateUser user password) = IsPasswordIn text password
+IsPlaced text (AlterUser user password) = IsPasswordIn text password
+IsPlaced text _ = ⊤
 
 -- the text with a `*` (42) in the place of the password's token
 abbrev pub without_password : List ℕ → Password → List ℕ
@@ -140,6 +154,13 @@ recorded_text text _ = text
 abbrev pub statement_facts : List ℕ → Statement → List Privilege → Code → Facts
 statement_facts user statement used code =
     record { user = user; action = action_of statement; tables = tables_of user statement; used = used; code = code }
+
+-- the user that a logon names, by whom a refused one is recorded too: the text as an identifier, and `?` (63) where that is
+-- no name
+abbrev pub logon_user : List ℕ → List ℕ
+logon_user text =
+    let name = identifier_of text in
+    if nat_le 1 (length name) && nat_le (length name) 128 then name else 63 ∷ []
 
 -- the same of a logon of this user, which names no table
 abbrev pub logon_facts : List ℕ → List Privilege → Code → Facts

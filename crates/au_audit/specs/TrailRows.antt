@@ -54,7 +54,7 @@ as_row entry =
     ∷ Num (pos entry.code.0)
     ∷ []
 
--- a column of the trail; its size is the widest of its kind
+-- A column of the trail. Its size is the widest that a column of its kind has; texts of the trail may be longer.
 abbrev pub text_column : List ℕ → Column
 text_column name = record { name = name; kind = kinds.Text; size = 4000; not_null = false }
 

@@ -1,5 +1,5 @@
 //! What AUDIT and NOAUDIT make of an enablement.
-ghost use Rattle.std.specs.Prelude.{◌≡◌, ◌++◌, IfOk, OnOk, map, not};
+ghost use Rattle.std.specs.Prelude.{◌≡◌, ◌++◌, ◌∷◌, [], if◌then◌else◌, IfOk, OnOk, map, not};
 ghost use Rattle.std.specs.List.{filter};
 ghost use Rattle.au_entries.specs.Enabling.{audit_made, audited_by, audited_except, each_once, for_users, is_among, is_listed, newly_listed, noaudit_made, noaudited, noaudited_by, outcomes_named, widened, with_outcomes, with_users};
 ghost use Rattle.au_entries.specs.declared.policy.Outcomes.{Outcomes};
@@ -81,16 +81,25 @@ fn is_among(names: &[Name], name: &Name) -> bool
 }
 
 // The names as they are first written, each once.
+#[tactic(auto, using(crate::proofs::Once::once_pushed))]
 fn each_once(alloc: Global, names: &[Name]) -> Result<Vec<Name>, Memory>
     ensures { IfOk result (λ once. once.items ≡ each_once names.now) }
 {
     let mut once = Vec::new(alloc);
     for name in names {
-        if !is_among(once.as_slice(), name) {
-            once.push(name.clone()?)?;
-        }
+        push_once(&mut once, name)?;
     }
     Ok(once)
+}
+
+// Adds the name where it isn't there.
+fn push_once(once: &mut Vec<Name>, name: &Name) -> Result<(), Memory>
+    ensures { OnOk result (once.new.items ≡ (if is_among once.old.items name.now then once.old.items else once.old.items ++ name.now ∷ [])) }
+{
+    if !is_among(once.as_slice(), name) {
+        once.push(name.clone()?)?;
+    }
+    Ok(())
 }
 
 fn audited_except(
@@ -119,13 +128,8 @@ fn audited_by(
     ensures { IfOk result (λ made. made ≡ audited_by users.now outcomes enabled.now) }
 {
     match enabled {
-        Enabled::Off => Ok(Ok(for_users(with_users(alloc, users, outcomes, &[])?))),
-        Enabled::By(listed) => Ok(Ok(for_users(with_users(
-            alloc,
-            users,
-            outcomes,
-            listed.as_slice(),
-        )?))),
+        Enabled::Off => Ok(Ok(listing(alloc, users, outcomes, &[])?)),
+        Enabled::By(listed) => Ok(Ok(listing(alloc, users, outcomes, listed.as_slice())?)),
         Enabled::Except(_, _) => Ok(Err(Code::OTHER_MODE)),
     }
 }
@@ -147,9 +151,32 @@ fn noaudited_by(
     ensures { IfOk result (λ made. made ≡ noaudited_by users.now enabled.now) }
 {
     match enabled {
-        Enabled::By(listed) => Ok(Ok(for_users(without_users(alloc, users, listed.as_slice())?))),
+        Enabled::By(listed) => Ok(Ok(unlisting(alloc, users, listed.as_slice())?)),
         Enabled::Off | Enabled::Except(_, _) => Ok(Err(Code::NOT_ENABLED_SO)),
     }
+}
+
+// The enablement for the listed users and these.
+fn listing(
+    alloc: Global,
+    users: &[Name],
+    outcomes: Outcomes,
+    listed: &[(Name, Outcomes)],
+) -> Result<Enabled, Memory>
+    ensures { IfOk result (λ made. made ≡ for_users (with_users users.now outcomes listed.now)) }
+{
+    Ok(for_users(with_users(alloc, users, outcomes, listed)?))
+}
+
+// The enablement for the listed users but these.
+fn unlisting(
+    alloc: Global,
+    users: &[Name],
+    listed: &[(Name, Outcomes)],
+) -> Result<Enabled, Memory>
+    ensures { IfOk result (λ made. made ≡ for_users (filter (λ entry. not (is_among users.now entry.0)) listed.now)) }
+{
+    Ok(for_users(without_users(alloc, users, listed)?))
 }
 
 // The enablement for these users; for nobody where there is none.

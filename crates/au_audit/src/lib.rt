@@ -9,5 +9,5 @@ mod trail_row;
 
 pub use enabling::{audited, noaudited};
 pub use place::Place;
-pub use statement::{action_of, object_of, tables_of};
+pub use statement::{action_of, object_of, recorded_text, tables_of};
 pub use trail_row::as_row;

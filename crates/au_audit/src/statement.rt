@@ -1,10 +1,10 @@
 //! What auditing asks of a statement.
-ghost use Rattle.std.specs.Prelude.{◌≡◌, ◌++◌, ◌∷◌, [], IfOk, OnOk, Option, Some, None, codes, map};
+ghost use Rattle.std.specs.Prelude.{◌≡◌, ◌++◌, ◌∷◌, [], IfOk, OnOk, Option, Some, None, IsUtf8, codes, map};
 ghost use Rattle.au_base.specs.BuiltIn.{resolved_table};
-ghost use Rattle.au_audit.specs.Statements.{action_of, first_object, from_tables, grant_action, grant_tables, object_of, package_of, tables_of, written_tables};
+ghost use Rattle.au_audit.specs.Statements.{IsPasswordIn, IsPlaced, action_of, first_object, from_tables, grant_action, grant_tables, object_of, package_of, recorded_text, tables_of, without_password, written_tables};
 
-use au_base::{Action, List, Memory, Name, TableName, TableReference};
-use sql_ast::{FromClause, GrantStatement, Join, Procedure, Statement};
+use au_base::{Action, List, Memory, Name, TableName, TableReference, Text};
+use sql_ast::{FromClause, GrantStatement, Join, Password, Procedure, Statement};
 use std::alloc::Global;
 
 /// The action as which the statement is audited.
@@ -134,7 +134,41 @@ pub fn object_of(
         Statement::CreatePolicy(create) => lone(&create.policy),
         Statement::Audit(audit) => lone(&audit.policy),
         Statement::Call(call) => package(alloc, call.procedure),
-        _ => Ok(first_object(tables_of(alloc, user, statement)?)),
+        Statement::Select(select) => table_object(alloc, user, &select.from.first.table),
+        Statement::Count(count) => table_object(alloc, user, &count.table.table),
+        Statement::Insert(insert) => table_object(alloc, user, &insert.table),
+        Statement::Update(update) => table_object(alloc, user, &update.table),
+        Statement::Delete(delete) => table_object(alloc, user, &delete.table),
+        Statement::CreateTable(create) => table_object(alloc, user, &create.table),
+        Statement::DropTable { table } => table_object(alloc, user, table),
+        Statement::Grant(grant) => granted_object(alloc, user, grant),
+        Statement::Commit | Statement::Rollback => Ok(None),
+    }
+}
+
+fn table_object(
+    alloc: Global,
+    user: &Name,
+    table: &TableReference,
+) -> Result<Option<(Option<Name>, Name)>, Memory>
+    ensures { IfOk result (λ object. object ≡ first_object user.now (table.now ∷ [])) }
+{
+    let TableName { owner, name } = table.resolved(alloc, user)?;
+    Ok(Some((Some(owner), name)))
+}
+
+fn granted_object(
+    alloc: Global,
+    user: &Name,
+    grant: &GrantStatement,
+) -> Result<Option<(Option<Name>, Name)>, Memory>
+    ensures { IfOk result (λ object. object ≡ first_object user.now (grant_tables grant.now)) }
+{
+    match grant {
+        GrantStatement::GrantObject { table, .. } | GrantStatement::RevokeObject { table, .. } => {
+            table_object(alloc, user, table)
+        }
+        GrantStatement::Grant { .. } | GrantStatement::Revoke { .. } => Ok(None),
     }
 }
 
@@ -167,11 +201,38 @@ fn package_of(alloc: Global, procedure: Procedure) -> Result<Name, Memory>
     }
 }
 
-// The first of the tables as an object.
-fn first_object(tables: List<TableName>) -> Option<(Option<Name>, Name)>
-    ensures { result ≡ first_object tables }
+/// The text of the statement as its record has it: as it was given, with a `*` in the place of a
+/// password, whose token stands in the text.
+pub fn recorded_text(alloc: Global, text: &Text, statement: &Statement) -> Result<Text, Memory>
+    requires { IsPlaced text.now statement.now }
+    ensures { IfOk result (λ recorded. recorded ≡ recorded_text text.now statement.now) }
 {
-    let table = tables.into_vec().into_iter().next()?;
-    let TableName { owner, name } = table;
-    Some((Some(owner), name))
+    match statement {
+        Statement::CreateUser { password, .. } | Statement::AlterUser { password, .. } => {
+            without_password(alloc, text, password)
+        }
+        _ => Ok(text.clone()?),
+    }
+}
+
+fn without_password(alloc: Global, text: &Text, password: &Password) -> Result<Text, Memory>
+    requires { IsPasswordIn text.now password.now }
+    ensures { IfOk result (λ recorded. recorded ≡ without_password text.now password.now) }
+{
+    let (before, _) = text.as_bytes().split_at(password.from as usize);
+    let (_, behind) = text.as_bytes().split_at(password.to as usize);
+    let mut recorded = text_of(alloc, before)?.into_string();
+    recorded.push_str("*")?;
+    recorded.push_str(text_of(alloc, behind)?.as_str())?;
+    Ok(Text::from_string(recorded))
+}
+
+fn text_of(alloc: Global, bytes: &[u8]) -> Result<Text, Memory>
+    requires { IsUtf8 bytes.now }
+    ensures { IfOk result (λ text. text ≡ bytes.now) }
+{
+    match Text::make(alloc, bytes)? {
+        Some(text) => Ok(text),
+        None => unreachable!(),
+    }
 }

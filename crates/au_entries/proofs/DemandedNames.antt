@@ -1,11 +1,12 @@
 -- The names of policies that demand a record stand in order.
-use Rattle.std.proofs.Common.{◌≡◌, ◌≢◌, ◌∙◌, ℕ, Bool, true, false, not, if◌then◌else◌, List, [], ◌∷◌, ◌++◌, map, refl, sym, ap}
+use Rattle.std.proofs.Common.{◌≡◌, ◌≢◌, ◌≤◌, ◌+◌, ◌∙◌, ℕ, Bool, true, false, not, cond, if◌then◌else◌, ◌⊎◌, inl, inr, List, [], ◌∷◌, ◌++◌, map, length, refl, sym, ap, subst, arith}
 use Rattle.std.specs.Prelude.{IsTrue}
-use Rattle.std.specs.List.{AllByRecursion, filter}
+use Rattle.std.specs.List.{AllByRecursion, Contains, filter}
 use Rattle.std.specs.declared.cmp.Ordering.{Ordering}
 use Rattle.std.specs.declared.cmp.Ordering.TheVariants.{Less, Equal, Greater}
 use Rattle.std.specs.Ordering.{is_eq, is_gt, is_lt, nat_cmp}
 use Rattle.std.specs.Cmp.Lexicographic.{bytes_decides, slice_cmp, texts_ties}
+use Rattle.std.proofs.lemmas.List.{length-append, length-map}
 use Rattle.au_base.specs.BuiltIn.{ora_mandatory}
 use Rattle.au_base.specs.Order.{is_in_order, name_before}
 use Rattle.au_entries.specs.declared.facts.Facts.{Facts}
@@ -14,6 +15,7 @@ use Rattle.au_entries.specs.declared.policy.Enabled.{Enabled}
 use Rattle.au_entries.specs.Changing.{by_name}
 use Rattle.au_entries.specs.Demand.{demanded, demanding, demands, is_mandatory, placed}
 use Rattle.au_entries.proofs.AllOf.{all_kept, all_weaker, both, mapped, passes}
+use Rattle.au_entries.proofs.Members.{kept, mapped as mapped_from, mapped_to, placed_cases}
 use Rattle.au_entries.proofs.Ordered.{kept_by_name, names_total, roles_back, roles_rise}
 use Rattle.au_entries.proofs.Rising.{Rises, before_joined, joined_rises, kept_rises, turned}
 use Rattle.au_priv.specs.declared.grants.Grants.{Grants}
@@ -57,3 +59,57 @@ demanded_ordered when grants enabled policies facts ordered apart =
     demanded_at (demanding when grants enabled policies facts) (is_mandatory facts.action)
     (mapped (λ (name : List ℕ). name ≢ ora_mandatory) (λ (policy : AuditPolicy). policy.name) (filter test policies) (all_kept (λ (policy : AuditPolicy). policy.name ≢ ora_mandatory) test policies apart))
     (kept_by_name (λ (policy : AuditPolicy). policy.name) test policies ordered)
+
+-- ---- how many they are, and which
+
+filter_few_at : {X : Type 0} (x : X) (kept xs : List X) (b : Bool) → length kept ≤ length xs → length (cond b (x ∷ kept) kept) ≤ length (x ∷ xs)
+filter_few_at x kept xs true few = omega arith
+filter_few_at x kept xs false few = omega arith
+
+filter_few : {X : Type 0} (test : X → Bool) (xs : List X) → length (filter test xs) ≤ length xs
+filter_few test [] = omega arith
+filter_few test (x ∷ xs) = filter_few_at x (filter test xs) xs (test x) (filter_few test xs)
+
+parted_at : {X : Type 0} (x : X) (front behind xs : List X) (b : Bool) → length front + length behind ≡ length xs → length (cond b (x ∷ front) front) + length (cond (not b) (x ∷ behind) behind) ≡ length (x ∷ xs)
+parted_at x front behind xs true same = omega arith
+parted_at x front behind xs false same = omega arith
+
+parted : {X : Type 0} (test : X → Bool) (xs : List X) → length (filter test xs) + length (filter (λ x. not (test x)) xs) ≡ length xs
+parted test [] = refl
+parted test (x ∷ xs) = parted_at x (filter test xs) (filter (λ x. not (test x)) xs) xs (test x) (parted test xs)
+
+placed_length : (entry : List ℕ) (names : List (List ℕ)) → length (placed entry names) ≡ length names + 1
+placed_length entry names =
+    let both_parts = parted (λ other. name_before other entry) names in
+    let joined = length-append (filter (λ other. name_before other entry) names) (entry ∷ filter (λ other. not (name_before other entry)) names) in
+    omega arith
+
+few_at : (names : List (List ℕ)) (most : ℕ) (mandatory : Bool) → length names ≤ most → length (if mandatory then placed ora_mandatory names else names) ≤ most + 1
+few_at names most true few = (let more = placed_length ora_mandatory names in omega arith)
+few_at names most false few = omega arith
+
+pub demanded_few : (when : AuditPolicy → Bool) (grants : Grants) (enabled : List (List ℕ × Enabled)) (policies : List AuditPolicy) (facts : Facts) → length (demanded when grants enabled policies facts) ≤ length policies + 1
+demanded_few when grants enabled policies facts =
+    let test = demands when grants enabled facts in
+    let few = filter_few test policies in
+    let same = length-map (filter test policies) (λ (policy : AuditPolicy). policy.name) in
+    few_at (demanding when grants enabled policies facts) (length policies) (is_mandatory facts.action) (omega arith)
+
+demanding_from : (test : AuditPolicy → Bool) (policies : List AuditPolicy) (name : List ℕ) → Contains (map (λ (policy : AuditPolicy). policy.name) (filter test policies)) name
+    → Contains (map (λ (policy : AuditPolicy). policy.name) policies) name
+demanding_from test policies name has =
+    let found = mapped_from (λ (policy : AuditPolicy). policy.name) (filter test policies) name has in
+    subst (Contains (map (λ (policy : AuditPolicy). policy.name) policies)) found.2 (mapped_to (λ (policy : AuditPolicy). policy.name) policies found.0 (kept test policies found.0 found.1))
+
+from_at : (names all : List (List ℕ)) (mandatory : Bool) (name : List ℕ) → (Contains names name → Contains all name) → Contains (if mandatory then placed ora_mandatory names else names) name
+    → (ora_mandatory ≡ name) ⊎ Contains all name
+from_at names all true name from has = elim (placed_cases name_before ora_mandatory names name has) [
+  | inl same ↦ inl same
+  | inr there ↦ inr (from there)
+]
+from_at names all false name from has = inr (from has)
+
+pub demanded_from : (when : AuditPolicy → Bool) (grants : Grants) (enabled : List (List ℕ × Enabled)) (policies : List AuditPolicy) (facts : Facts) (name : List ℕ)
+    → Contains (demanded when grants enabled policies facts) name → (ora_mandatory ≡ name) ⊎ Contains (map (λ (policy : AuditPolicy). policy.name) policies) name
+demanded_from when grants enabled policies facts name has =
+    from_at (demanding when grants enabled policies facts) (map (λ (policy : AuditPolicy). policy.name) policies) (is_mandatory facts.action) name (demanding_from (demands when grants enabled facts) policies name) has

@@ -94,7 +94,8 @@ pub record IsLawful (conditions : Conditions) (kept : Kept) : Type 0 where
 -- ---- rows
 
 -- NULL stands in no column that is NOT NULL; a number has no more digits than the column; a text has no more bytes, and is
--- never empty, since the empty text is NULL; a moment isn't over the last one. A cell is of its column's kind.
+-- never empty, since the empty text is NULL; a moment isn't over the last one. A cell is of its column's kind. (No frame
+-- spells an empty text or a later moment in a cell.)
 abbrev pub FitsColumn : Column → Cell → Type 0
 FitsColumn column Null = column.not_null ≡ false
 FitsColumn column (Num number) = (column.kind ≡ kinds.Number) × (nat_abs number < 10 ^ column.size)

@@ -22,8 +22,8 @@ use Rattle.au_priv.specs.Holding.{grants_object, grants_privilege, grants_role}
 use Rattle.au_priv.specs.Rights.{IsHolder}
 use Rattle.sql_ast.specs.declared.expression.Expr.{Expr}
 
--- What conditions are: which texts can be read, as which tree a text is read, and which trees are truths over the columns of
--- a table, or over none.
+-- What conditions are: which texts can be read, as which tree a text is read (of a text that can't be read nothing is said),
+-- and which trees are truths over the columns of a table, or over none.
 pub record Conditions : Type 0 where
   pub is_read : List ℕ → Bool
   pub tree : List ℕ → Expr
@@ -110,7 +110,8 @@ IsFgaCondition conditions table (Some text) = IsTrue (conditions.is_read text) �
 
 -- ---- the rule
 
--- an archive timestamp, where one is set, isn't over the last moment
+-- An archive timestamp, where one is set, isn't over the last moment. Each moment that a frame can spell is so, and the rule
+-- adds nothing.
 abbrev pub IsArchive : Option Stamp → Type 0
 IsArchive None = ⊤
 IsArchive (Some stamp) = stamp.0 ≤ LAST_MOMENT
@@ -161,7 +162,7 @@ GoesOn conditions image kept (Fga name policy condition columns all types enable
     (table : AnyTable) × IsKeptTable kept name table × IsFgaCondition conditions table condition
 -- a fine-grained policy that is dropped is there
 GoesOn conditions image kept (FgaGone name policy) = IsTrue (list_any (is_fga name policy) kept.fga)
--- an archive timestamp isn't over the last moment
+-- an archive timestamp is set or taken away
 GoesOn conditions image kept (Archive stamp) = IsArchive stamp
 -- an instance's number is over the one before, but in an image any
 GoesOn conditions image kept (Start instance) = (instance ≤ INSTANCES) × (IsTrue image ⊎ (kept.instance < instance))

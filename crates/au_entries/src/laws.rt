@@ -1,6 +1,6 @@
 //! Laws of what changes make of what is kept, and of what policies demand.
-ghost use Rattle.std.specs.Prelude.{◌≢◌, ◌≤◌, ℕ, Bool, IsTrue, List, map};
-ghost use Rattle.std.specs.List.{AllByRecursion};
+ghost use Rattle.std.specs.Prelude.{◌≡◌, ◌≢◌, ◌≤◌, ◌+◌, ◌⊎◌, ℕ, Bool, IsTrue, List, length, map};
+ghost use Rattle.std.specs.List.{AllByRecursion, Contains};
 ghost use Rattle.au_base.specs.BuiltIn.{ora_mandatory};
 ghost use Rattle.au_base.specs.Limits.{INSTANCES};
 ghost use Rattle.au_base.specs.Order.{is_in_order, name_before};
@@ -11,7 +11,7 @@ ghost use Rattle.au_entries.specs.declared.policy.AuditPolicy.{AuditPolicy};
 ghost use Rattle.au_entries.specs.declared.policy.Enabled.{Enabled};
 ghost use Rattle.au_entries.specs.Changing.{changed, changed_all};
 ghost use Rattle.au_entries.specs.Demand.{demanded};
-ghost use Rattle.au_entries.specs.Lawful.{IsOrdered};
+ghost use Rattle.au_entries.specs.Lawful.{IsLawful, IsOrdered};
 ghost use Rattle.au_entries.specs.Replaying.{AllGoOn, Conditions, GoesOn, IsArchive};
 ghost use Rattle.au_priv.specs.declared.grants.Grants.{Grants};
 
@@ -25,6 +25,17 @@ pub fn changes_keep_order()
     au_priv::changes_keep_order();
 }
 
+/// All that is kept is lawful after each change that goes on, where it was before: it stands in
+/// order, what stands on something finds it, conditions are truths over their tables, and numbers
+/// are within their bounds. It does nothing, and states the law for its callers.
+pub fn changes_keep_laws()
+    ensures one { (conditions : Conditions) (image : Bool) (kept : Kept) (change : Change) → IsLawful conditions kept → GoesOn conditions image kept change → IsLawful conditions (changed conditions.tree change kept) }
+    ensures all { (conditions : Conditions) (image : Bool) (kept : Kept) (changes : List Change) → IsLawful conditions kept → AllGoOn conditions image kept changes → IsLawful conditions (changed_all conditions.tree changes kept) }
+{
+    au_priv::changes_keep_order();
+    au_priv::changes_keep_no_circle();
+}
+
 /// The archive timestamp and the number of the instance stay within their bounds after each change
 /// that goes on. It does nothing, and states the law for its callers.
 pub fn changes_keep_bounds()
@@ -33,10 +44,13 @@ pub fn changes_keep_bounds()
 {}
 
 /// The names of the policies that demand a record stand in byte order, each once, where the policies
-/// stand so and none has the name of what is mandatory. It does nothing, and states the law for its
-/// callers.
+/// stand so and none has the name of what is mandatory. Each is that name or a policy's, so that
+/// there is at most one more than policies. It does nothing, and states the law for its callers.
 pub fn demanded_names_stand_in_order()
-    ensures { (when : AuditPolicy → Bool) (grants : Grants) (enabled : List (List ℕ × Enabled)) (policies : List AuditPolicy) (facts : Facts)
+    ensures few { (when : AuditPolicy → Bool) (grants : Grants) (enabled : List (List ℕ × Enabled)) (policies : List AuditPolicy) (facts : Facts) → length (demanded when grants enabled policies facts) ≤ length policies + 1 }
+    ensures from { (when : AuditPolicy → Bool) (grants : Grants) (enabled : List (List ℕ × Enabled)) (policies : List AuditPolicy) (facts : Facts) (name : List ℕ)
+        → Contains (demanded when grants enabled policies facts) name → (ora_mandatory ≡ name) ⊎ Contains (map (λ policy. policy.name) policies) name }
+    ensures ordered { (when : AuditPolicy → Bool) (grants : Grants) (enabled : List (List ℕ × Enabled)) (policies : List AuditPolicy) (facts : Facts)
         → IsTrue (is_in_order name_before (map (λ policy. policy.name) policies)) → AllByRecursion (λ policy. policy.name ≢ ora_mandatory) policies
         → IsTrue (is_in_order name_before (demanded when grants enabled policies facts)) }
 {}

@@ -19,7 +19,9 @@ pub use decision::{Busy, Decision, ReadCondition};
 pub use facts::{Demanded, Facts};
 pub use fine_grained::{FgaName, FgaPolicy};
 pub use kept::Kept;
-pub use laws::{changes_keep_bounds, changes_keep_order, demanded_names_stand_in_order};
+pub use laws::{
+    changes_keep_bounds, changes_keep_laws, changes_keep_order, demanded_names_stand_in_order,
+};
 pub use matching::{enabled_for, matches};
 pub use policy::{AuditPolicy, Condition, Enabled, Evaluate, Outcomes};
 pub use results::KeptResults;
