@@ -18,11 +18,11 @@ use Rattle.au_entries.specs.declared.policy.Condition.{Condition}
 use Rattle.au_entries.specs.declared.policy.Enabled.{Enabled}
 use Rattle.au_entries.specs.declared.policy.Enabled.TheVariants.{Off, By, Except}
 use Rattle.au_entries.specs.declared.policy.Evaluate.{Evaluate}
-use Rattle.au_entries.specs.Changing.{by_name, changed, changed_all, put_in_order, with_enablement, with_tree}
-use Rattle.au_grants.specs.declared.grants.Grants.{Grants}
-use Rattle.au_grants.specs.Changing.{applied_all, role_grant, system_grant}
-use Rattle.au_grants.specs.Order.{AreInOrder, comes_before, is_in_order, role_before}
-use Rattle.au_grants.specs.Rights.{HoldsRole, HasNoCircle, IsChain, IsHolder, IsRoleGranted, ObjectEntry, RoleEntry, SystemEntry}
+use Rattle.au_entries.specs.Changing.{by_name, changed, changed_all, is_on, put_in_order, with_enablement, with_tree}
+use Rattle.au_priv.specs.declared.grants.Grants.{Grants}
+use Rattle.au_priv.specs.Changing.{applied_all, role_grant, system_grant}
+use Rattle.au_priv.specs.Order.{AreInOrder, comes_before, is_in_order, role_before}
+use Rattle.au_priv.specs.Rights.{HoldsRole, HasNoCircle, IsChain, IsHolder, IsRoleGranted, ObjectEntry, RoleEntry, SystemEntry}
 use Rattle.au_engine.specs.Deciding.{has_policy}
 use Rattle.au_engine.specs.Image.{enablement_change, image_changes, image_of, nothing, policy_change, role_change, role_grant_change, system_change, user_change, written_condition}
 use Rattle.au_engine.specs.Lawful.{IsLawful, IsPlain, ora_mandatory}
@@ -80,13 +80,14 @@ policies_made done (p ∷ rest) kept up plain =
     ∙ policies_made (done ++ p ∷ []) rest kept (subst (λ (ps : List AuditPolicy). Rises (λ x. x.name) ps) (sym joined) up) plain.1
     ∙ ap at joined
 
--- an enablement that isn't Off is put among the others
-put_enabled : (policy : List ℕ) (e : Enabled) (entries : List (List ℕ × Enabled)) → e ≢ Off → with_enablement policy e entries ≡ put_in_order (λ entry. by_name entry.0 policy) (policy, e) entries
-put_enabled policy Off entries on = absurd (on refl)
-put_enabled policy (By users) entries on = refl
+-- an enablement for somebody is put among the others
+put_enabled : (policy : List ℕ) (e : Enabled) (entries : List (List ℕ × Enabled)) → IsTrue (is_on e) → with_enablement policy e entries ≡ put_in_order (λ entry. by_name entry.0 policy) (policy, e) entries
+put_enabled policy Off entries on = absurd (let e : false ≡ true = on in cc)
+put_enabled policy (By []) entries on = absurd (let e : false ≡ true = on in cc)
+put_enabled policy (By (user ∷ users)) entries on = refl
 put_enabled policy (Except users o) entries on = refl
 
-enabled_made : (done rest : List (List ℕ × Enabled)) (kept : Kept) → Rises (λ e. e.0) (done ++ rest) → AllByRecursion (λ e. e.1 ≢ Off) rest → Made (map enablement_change rest) (record kept { enabled = done }) ≡ record kept { enabled = done ++ rest }
+enabled_made : (done rest : List (List ℕ × Enabled)) (kept : Kept) → Rises (λ e. e.0) (done ++ rest) → AllByRecursion (λ e. IsTrue (is_on e.1)) rest → Made (map enablement_change rest) (record kept { enabled = done }) ≡ record kept { enabled = done ++ rest }
 enabled_made done [] kept up on = ap (λ (es : List (List ℕ × Enabled)). record kept { enabled = es }) (sym (append-nil done))
 enabled_made done (e ∷ rest) kept up on =
     let at : List (List ℕ × Enabled) → Kept = λ es. record kept { enabled = es } in

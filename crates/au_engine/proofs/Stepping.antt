@@ -274,7 +274,8 @@ put_written order entry entries here all =
 pub with_enablement_written : (policy : List ℕ) (e : Enabled) (entries : List (List ℕ × Enabled)) → IsChangeSpellable (Enable policy e)
     → CanBeWritten enablement_change entries → CanBeWritten enablement_change (with_enablement policy e entries)
 with_enablement_written policy Off entries here all = all_kept (λ (x : List ℕ × Enabled). IsChangeSpellable (enablement_change x)) _ entries all
-with_enablement_written policy (By users) entries here all = put_written _ (policy, By users) entries here all
+with_enablement_written policy (By []) entries here all = all_kept (λ (x : List ℕ × Enabled). IsChangeSpellable (enablement_change x)) _ entries all
+with_enablement_written policy (By (user ∷ users)) entries here all = put_written _ (policy, By (user ∷ users)) entries here all
 with_enablement_written policy (Except users o) entries here all = put_written _ (policy, Except users o) entries here all
 
 enabled_written : (changes : List Change) (entries : List (List ℕ × Enabled)) → ChangeEnablements changes → AllByRecursion IsChangeSpellable changes

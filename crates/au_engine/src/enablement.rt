@@ -74,9 +74,10 @@ pub fn with_enablement(
 ) -> Result<Vec<(Name, Enabled)>, Memory>
     ensures { IfOk result (λ after. after.items ≡ with_enablement policy.now enablement.now enabled.now) }
 {
-    match enablement {
-        Enabled::Off => without(alloc, enabled, policy),
-        Enabled::By(_) | Enabled::Except(_, _) => put(alloc, enabled, policy, enablement),
+    if enablement.is_on() {
+        put(alloc, enabled, policy, enablement)
+    } else {
+        without(alloc, enabled, policy)
     }
 }
 

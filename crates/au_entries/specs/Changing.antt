@@ -2,7 +2,7 @@
 -- replaced. With a user, a role and a table that is dropped goes what stands on it (SQL Language Reference, "DROP USER",
 -- "DROP ROLE" and "DROP TABLE"; that audit policies keep the names of tables and roles that are dropped is this project's
 -- profile).
-use Rattle.std.specs.Prelude.{ℕ, Bool, true, false, not, ◌&&◌, ◌==◌, List, [], ◌∷◌, ◌++◌, filter, map, Option, Some, None}
+use Rattle.std.specs.Prelude.{ℕ, Bool, ◌&&◌, ◌==◌, if◌then◌else◌, List, [], ◌∷◌, ◌++◌, filter, map, Option, Some, None}
 use Rattle.std.specs.declared.cmp.Ordering.{Ordering}
 use Rattle.std.specs.Ordering.{nat_cmp, is_gt, is_lt}
 use Rattle.std.specs.Str.{bytes_eq}
@@ -23,10 +23,11 @@ use Rattle.au_entries.specs.declared.policy.Enabled.TheVariants.{Off, By, Except
 use Rattle.au_entries.specs.declared.policy.Evaluate.{Evaluate}
 use Rattle.au_entries.specs.declared.policy.Outcomes.{Outcomes}
 use Rattle.au_entries.specs.declared.table.Table.{Table as AnyTable}
-use Rattle.au_grants.specs.declared.change.GrantChange.{GrantChange}
-use Rattle.au_grants.specs.declared.change.GrantChange.TheVariants as grant
-use Rattle.au_grants.specs.Changing.{applied_all, without}
-use Rattle.au_grants.specs.Rights.{Grants}
+pub use Rattle.au_entries.specs.Enabling.{for_users, is_on}
+use Rattle.au_priv.specs.declared.change.GrantChange.{GrantChange}
+use Rattle.au_priv.specs.declared.change.GrantChange.TheVariants as grant
+use Rattle.au_priv.specs.Changing.{applied_all, without}
+use Rattle.au_priv.specs.Rights.{Grants}
 use Rattle.sql_ast.specs.declared.expression.Expr.{Expr}
 
 -- names in byte order
@@ -119,24 +120,15 @@ policies_after tree _ policies = policies
 
 -- the enablements with this one of the policy. An enablement for nobody isn't listed.
 abbrev pub with_enablement : List ℕ → Enabled → List (List ℕ × Enabled) → List (List ℕ × Enabled)
-with_enablement policy Off entries = filter (λ entry. not (bytes_eq entry.0 policy)) entries
-with_enablement policy enabled entries = put_in_order (λ entry. by_name entry.0 policy) (policy, enabled) entries
-
--- a policy that is enabled for listed users is enabled for nobody where none is listed
-abbrev pub for_users : List (List ℕ × Outcomes) → Enabled
-for_users [] = Off
-for_users (user ∷ users) = By (user ∷ users)
+with_enablement policy enabled entries =
+    if is_on enabled then put_in_order (λ entry. by_name entry.0 policy) (policy, enabled) entries
+    else without (λ entry. bytes_eq entry.0 policy) entries
 
 -- the enablement without the user. One for all users but some stays, where none is left for all of them.
 abbrev pub without_user : List ℕ → Enabled → Enabled
 without_user user Off = Off
 without_user user (By users) = for_users (without (λ listed. bytes_eq listed.0 user) users)
 without_user user (Except users outcomes) = Except (without (λ other. bytes_eq other user) users) outcomes
-
--- the policy is enabled for somebody
-abbrev pub is_on : Enabled → Bool
-is_on Off = false
-is_on _ = true
 
 -- enablements: one is set or taken away; with a user go its places in them, and the enablements that then are for nobody
 abbrev pub enabled_after : Change → List (List ℕ × Enabled) → List (List ℕ × Enabled)

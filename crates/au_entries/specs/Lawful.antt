@@ -17,9 +17,9 @@ use Rattle.au_entries.specs.declared.policy.Condition.{Condition}
 use Rattle.au_entries.specs.declared.policy.Evaluate.{Evaluate}
 use Rattle.au_entries.specs.declared.table.Table.{Table}
 use Rattle.au_entries.specs.Changing.{KeptRow, fga_fields, is_on, row_fields, table_fields}
-use Rattle.au_entries.specs.Replaying.{Conditions, IsKeptTable, IsTable, has_grantee, has_policy, has_role, has_table, has_user, named_users}
-use Rattle.au_grants.specs.Order.{AreInOrder}
-use Rattle.au_grants.specs.Rights.{HasNoCircle, grant_count}
+use Rattle.au_entries.specs.Replaying.{Conditions, IsArchive, IsKeptTable, IsTable, has_grantee, has_policy, has_role, has_table, has_user, named_users}
+use Rattle.au_priv.specs.Order.{AreInOrder}
+use Rattle.au_priv.specs.Rights.{HasNoCircle, grant_count}
 
 -- ---- order
 
@@ -64,18 +64,18 @@ pub record IsFounded (kept : Kept) : Type 0 where
 
 -- a condition can be read, and its tree is the one that its text is read as
 abbrev pub IsCondition : Conditions → Condition → Type 0
-IsCondition conditions condition = conditions.IsRead condition.text × (condition.tree ≡ conditions.tree condition.text)
+IsCondition conditions condition = IsTrue (conditions.is_read condition.text) × (condition.tree ≡ conditions.tree condition.text)
 
 -- the condition of an audit policy, where it has one, is a truth over no table
 abbrev pub IsAuditTruth : Conditions → Option (Evaluate × Condition) → Type 0
 IsAuditTruth conditions None = ⊤
-IsAuditTruth conditions (Some when) = IsCondition conditions when.1 × conditions.IsTruth None when.1.tree
+IsAuditTruth conditions (Some when) = IsCondition conditions when.1 × IsTrue (conditions.is_truth None when.1.tree)
 
 -- that of a fine-grained policy, where it has one, is a truth over each table of this name
 abbrev pub IsFgaTruth : Conditions → Kept → TableName → Option Condition → Type 0
 IsFgaTruth conditions kept name None = ⊤
 IsFgaTruth conditions kept name (Some condition) =
-    IsCondition conditions condition × ((table : Table) → IsKeptTable kept name table → conditions.IsTruth (Some table) condition.tree)
+    IsCondition conditions condition × ((table : Table) → IsKeptTable kept name table → IsTrue (conditions.is_truth (Some table) condition.tree))
 
 -- all conditions of policies are so
 pub record AreTruths (conditions : Conditions) (kept : Kept) : Type 0 where
@@ -88,17 +88,19 @@ pub record IsLawful (conditions : Conditions) (kept : Kept) : Type 0 where
   pub founded : IsFounded kept
   pub truths : AreTruths conditions kept
   pub last : kept.last.0 ≤ LAST_MOMENT
+  pub archive : IsArchive kept.archive
   pub instance : kept.instance ≤ INSTANCES
 
 -- ---- rows
 
--- NULL stands in no column that is NOT NULL; a number has no more digits than the column, a text no more bytes; a cell is of
--- its column's kind
+-- NULL stands in no column that is NOT NULL; a number has no more digits than the column; a text has no more bytes, and is
+-- never empty, since the empty text is NULL; a moment isn't over the last one. A cell is of its column's kind. (No frame
+-- spells an empty text or a later moment in a cell.)
 abbrev pub FitsColumn : Column → Cell → Type 0
 FitsColumn column Null = column.not_null ≡ false
 FitsColumn column (Num number) = (column.kind ≡ kinds.Number) × (nat_abs number < 10 ^ column.size)
-FitsColumn column (Text text) = (column.kind ≡ kinds.Text) × (length text ≤ column.size)
-FitsColumn column (Moment moment) = column.kind ≡ kinds.Moment
+FitsColumn column (Text text) = (column.kind ≡ kinds.Text) × (text ≢ []) × (length text ≤ column.size)
+FitsColumn column (Moment moment) = (column.kind ≡ kinds.Moment) × (moment ≤ LAST_MOMENT)
 
 -- each cell fits the column at its place
 abbrev pub FitColumns : List Column → List Cell → Type 0

@@ -1,6 +1,7 @@
 pub mod Changing
 pub mod Demand
 pub mod Enabling
+pub mod Frames
 pub mod Lawful
 pub mod Matching
 pub mod Replaying

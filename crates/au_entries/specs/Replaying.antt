@@ -3,8 +3,9 @@ use Rattle.std.specs.Prelude.{◌≡◌, ◌≢◌, ◌≤◌, ◌<◌, ℕ, zer
 use Rattle.std.specs.List.{AllByRecursion, Contains, list_all, list_any}
 use Rattle.std.specs.Str.{bytes_eq}
 use Rattle.au_base.specs.BuiltIn.{dual, ora_mandatory, trail}
-use Rattle.au_base.specs.Limits.{INSTANCES}
+use Rattle.au_base.specs.Limits.{INSTANCES, LAST_MOMENT}
 use Rattle.au_base.specs.Sameness.{same_table}
+use Rattle.au_base.specs.declared.numbers.Stamp.{Stamp}
 use Rattle.au_base.specs.declared.table.Column.{Column}
 use Rattle.au_base.specs.declared.table.ColumnKind.{ColumnKind}
 use Rattle.au_base.specs.declared.table.ColumnKind.TheVariants as kinds
@@ -21,12 +22,12 @@ use Rattle.au_grants.specs.Holding.{grants_object, grants_privilege, grants_role
 use Rattle.au_grants.specs.Rights.{IsHolder}
 use Rattle.sql_ast.specs.declared.expression.Expr.{Expr}
 
--- What conditions are: which texts can be read, as which tree a text is read, and which trees are truths over the columns of
--- a table, or over none.
-pub record Conditions : Type 1 where
-  pub IsRead : List ℕ → Type 0
+-- What conditions are: which texts can be read, as which tree a text is read (of a text that can't be read nothing is said),
+-- and which trees are truths over the columns of a table, or over none.
+pub record Conditions : Type 0 where
+  pub is_read : List ℕ → Bool
   pub tree : List ℕ → Expr
-  pub IsTruth : Option AnyTable → Expr → Type 0
+  pub is_truth : Option AnyTable → Expr → Bool
 
 -- ---- what is there
 
@@ -100,14 +101,20 @@ pub record IsTable (columns : List Column) (key : List ℕ) : Type 0 where
 -- an audit policy's condition, where it has one, can be read, and is a truth over no table
 abbrev pub IsPolicyCondition : Conditions → Option (Evaluate × List ℕ) → Type 0
 IsPolicyCondition conditions None = ⊤
-IsPolicyCondition conditions (Some when) = conditions.IsRead when.1 × conditions.IsTruth None (conditions.tree when.1)
+IsPolicyCondition conditions (Some when) = IsTrue (conditions.is_read when.1) × IsTrue (conditions.is_truth None (conditions.tree when.1))
 
 -- a fine-grained policy's condition, where it has one, can be read, and is a truth over the table
 abbrev pub IsFgaCondition : Conditions → AnyTable → Option (List ℕ) → Type 0
 IsFgaCondition conditions table None = ⊤
-IsFgaCondition conditions table (Some text) = conditions.IsRead text × conditions.IsTruth (Some table) (conditions.tree text)
+IsFgaCondition conditions table (Some text) = IsTrue (conditions.is_read text) × IsTrue (conditions.is_truth (Some table) (conditions.tree text))
 
 -- ---- the rule
+
+-- An archive timestamp, where one is set, isn't over the last moment. Each moment that a frame can spell is so, and the rule
+-- adds nothing.
+abbrev pub IsArchive : Option Stamp → Type 0
+IsArchive None = ⊤
+IsArchive (Some stamp) = stamp.0 ≤ LAST_MOMENT
 
 -- the table of this name, as it is kept
 abbrev pub IsKeptTable : Kept → TableName → AnyTable → Type 0
@@ -155,7 +162,8 @@ GoesOn conditions image kept (Fga name policy condition columns all types enable
     (table : AnyTable) × IsKeptTable kept name table × IsFgaCondition conditions table condition
 -- a fine-grained policy that is dropped is there
 GoesOn conditions image kept (FgaGone name policy) = IsTrue (list_any (is_fga name policy) kept.fga)
-GoesOn conditions image kept (Archive stamp) = ⊤
+-- an archive timestamp is set or taken away
+GoesOn conditions image kept (Archive stamp) = IsArchive stamp
 -- an instance's number is over the one before, but in an image any
 GoesOn conditions image kept (Start instance) = (instance ≤ INSTANCES) × (IsTrue image ⊎ (kept.instance < instance))
 

@@ -7,6 +7,7 @@ mod decision;
 mod facts;
 mod fine_grained;
 mod kept;
+mod laws;
 mod matching;
 mod policy;
 mod results;
@@ -18,6 +19,9 @@ pub use decision::{Busy, Decision, ReadCondition};
 pub use facts::{Demanded, Facts};
 pub use fine_grained::{FgaName, FgaPolicy};
 pub use kept::Kept;
+pub use laws::{
+    changes_keep_bounds, changes_keep_laws, changes_keep_order, demanded_names_stand_in_order,
+};
 pub use matching::{enabled_for, matches};
 pub use policy::{AuditPolicy, Condition, Enabled, Evaluate, Outcomes};
 pub use results::KeptResults;

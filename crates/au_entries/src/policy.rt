@@ -1,5 +1,6 @@
 //! Audit policies (Database Security Guide, "Auditing Activities with Unified Audit Policies").
 ghost use Rattle.std.specs.Prelude.{◌≡◌};
+ghost use Rattle.au_entries.specs.Enabling.{is_on};
 
 use au_base::{Action, List, Name, Privilege, TableName, Text};
 use sql_ast::Expr;
@@ -53,6 +54,19 @@ pub enum Enabled {
     By(List<(Name, Outcomes)>),
     /// For all users but these, at these outcomes.
     Except(List<Name>, Outcomes),
+}
+
+impl Enabled {
+    /// Whether it is for somebody: one for listed users isn't where none is listed.
+    pub fn is_on(&self) -> bool
+        ensures { result ≡ is_on self.now }
+    {
+        match self {
+            Enabled::Off => false,
+            Enabled::By(users) => !users.is_empty(),
+            Enabled::Except(_, _) => true,
+        }
+    }
 }
 
 impl Clone for Enabled {

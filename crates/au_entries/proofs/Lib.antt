@@ -1,0 +1,9 @@
+mod AllOf
+mod Bounds
+mod DemandedNames
+mod Founded
+mod Members
+mod Ordered
+mod Rising
+mod Stays
+mod Truths
