@@ -20,7 +20,7 @@ use Rattle.au_entries.specs.declared.policy.Evaluate.TheVariants.{Statement, Ses
 use Rattle.au_entries.specs.declared.results.KeptResults.{KeptResults}
 use Rattle.au_entries.specs.Demand.{demanded, is_enabled_in}
 use Rattle.au_entries.specs.Matching.{parts_match}
-use Rattle.au_priv.specs.declared.grants.Grants.{Grants}
+use Rattle.au_grants.specs.declared.grants.Grants.{Grants}
 use Rattle.sql_ast.specs.declared.expression.Expr.{Expr}
 
 -- a result of a condition, with the name of its policy

@@ -19,10 +19,10 @@ use Rattle.au_entries.specs.declared.policy.Enabled.{Enabled}
 use Rattle.au_entries.specs.declared.policy.Enabled.TheVariants.{Off, By, Except}
 use Rattle.au_entries.specs.declared.policy.Evaluate.{Evaluate}
 use Rattle.au_entries.specs.Changing.{by_name, changed, changed_all, is_on, put_in_order, with_enablement, with_tree}
-use Rattle.au_priv.specs.declared.grants.Grants.{Grants}
-use Rattle.au_priv.specs.Changing.{applied_all, role_grant, system_grant}
-use Rattle.au_priv.specs.Order.{AreInOrder, comes_before, is_in_order, role_before}
-use Rattle.au_priv.specs.Rights.{HoldsRole, HasNoCircle, IsChain, IsHolder, IsRoleGranted, ObjectEntry, RoleEntry, SystemEntry}
+use Rattle.au_grants.specs.declared.grants.Grants.{Grants}
+use Rattle.au_grants.specs.Changing.{applied_all, role_grant, system_grant}
+use Rattle.au_grants.specs.Order.{AreInOrder, comes_before, is_in_order, role_before}
+use Rattle.au_grants.specs.Rights.{HoldsRole, HasNoCircle, IsChain, IsHolder, IsRoleGranted, ObjectEntry, RoleEntry, SystemEntry}
 use Rattle.au_engine.specs.Deciding.{has_policy}
 use Rattle.au_engine.specs.Image.{enablement_change, image_changes, image_of, nothing, policy_change, role_change, role_grant_change, system_change, user_change, written_condition}
 use Rattle.au_engine.specs.Lawful.{IsLawful, IsPlain, ora_mandatory}

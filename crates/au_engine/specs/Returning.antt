@@ -4,8 +4,8 @@ use Rattle.std.specs.List.{AllByRecursion, list_all}
 use Rattle.au_entries.specs.declared.change.Change.TheVariants.{Start}
 use Rattle.au_entries.specs.declared.kept.Kept.{Kept}
 use Rattle.au_entries.specs.Changing.{is_on}
-use Rattle.au_priv.specs.Order.{comes_before, is_in_order}
-use Rattle.au_priv.specs.Rights.{HasNoCircle}
+use Rattle.au_grants.specs.Order.{comes_before, is_in_order}
+use Rattle.au_grants.specs.Rights.{HasNoCircle}
 use Rattle.rec_codec.specs.declared.frame.Frame.{Frame}
 use Rattle.rec_codec.specs.declared.frame.Frame.TheVariants.{Event}
 use Rattle.au_engine.specs.Deciding.{has_policy}

@@ -18,7 +18,7 @@ use Rattle.au_entries.proofs.AllOf.{all_kept, all_weaker, both, mapped, passes}
 use Rattle.au_entries.proofs.Members.{kept, mapped as mapped_from, mapped_to, placed_cases}
 use Rattle.au_entries.proofs.Ordered.{kept_by_name, names_total, roles_back, roles_rise}
 use Rattle.au_entries.proofs.Rising.{Rises, before_joined, joined_rises, kept_rises, turned}
-use Rattle.au_priv.specs.declared.grants.Grants.{Grants}
+use Rattle.au_grants.specs.declared.grants.Grants.{Grants}
 
 -- a name that is another one and doesn't come before it comes behind it
 behind_at : (entry name : List ℕ) (o : Ordering) → by_name name entry ≡ o → name ≢ entry → not (name_before name entry) ≡ true → name_before entry name ≡ true

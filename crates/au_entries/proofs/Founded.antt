@@ -22,13 +22,13 @@ use Rattle.au_entries.specs.Lawful.{IsFounded, IsRowFounded, IsTableFounded}
 use Rattle.au_entries.specs.Replaying.{Conditions, GoesOn, IsKeptTable, has_grantee, has_policy, has_role, has_table, has_user, is_enabled, named_users, owns_table}
 use Rattle.au_entries.proofs.Members.{all_at, all_of, any_to, granted, kept, mapped, none_pass, passed, placed_cases, put_cases, stays}
 use Rattle.au_entries.proofs.Stays.{Spares, SparesTable, apart_names, apart_tables, grantee_stays, is_name, is_table_name, other_name, other_table, policies_stay, roles_stay, same_name, table_stays, tables_stay, users_stay}
-use Rattle.au_priv.specs.declared.change.GrantChange.{GrantChange}
-use Rattle.au_priv.specs.declared.change.GrantChange.TheVariants as grant
-use Rattle.au_priv.specs.declared.grants.Grants.{Grants}
-use Rattle.au_priv.specs.Changing.{applied, names_role, object_to, role_to, system_to, with_object}
-use Rattle.au_priv.specs.Holding.{grants_object, grants_privilege, grants_role}
-use Rattle.au_priv.specs.Order.{object_before, placed, role_before, system_before}
-use Rattle.au_priv.specs.Rights.{HasNoCircle, ObjectEntry, RoleEntry, SystemEntry}
+use Rattle.au_grants.specs.declared.change.GrantChange.{GrantChange}
+use Rattle.au_grants.specs.declared.change.GrantChange.TheVariants as grant
+use Rattle.au_grants.specs.declared.grants.Grants.{Grants}
+use Rattle.au_grants.specs.Changing.{applied, names_role, object_to, role_to, system_to, with_object}
+use Rattle.au_grants.specs.Holding.{grants_object, grants_privilege, grants_role}
+use Rattle.au_grants.specs.Order.{object_before, placed, role_before, system_before}
+use Rattle.au_grants.specs.Rights.{HasNoCircle, ObjectEntry, RoleEntry, SystemEntry}
 use Rattle.au_priv.specs.Walking.{Closes}
 use Rattle.sql_ast.specs.declared.expression.Expr.{Expr}
 

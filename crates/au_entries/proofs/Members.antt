@@ -7,7 +7,7 @@ use Rattle.std.specs.Ordering.{is_gt, is_lt}
 use Rattle.std.proofs.lemmas.Bool.{and_from, and_parts, or_cases, or_left, or_right}
 use Rattle.au_base.specs.Order.{placed}
 use Rattle.au_entries.specs.Changing.{put_in_order}
-use Rattle.au_priv.specs.Changing.{with_admin, with_grant}
+use Rattle.au_grants.specs.Changing.{with_admin, with_grant}
 
 -- the first element
 pub here : {X : Type 0} (x : X) (xs : List X) → Contains (x ∷ xs) x

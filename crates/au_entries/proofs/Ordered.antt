@@ -22,10 +22,10 @@ use Rattle.au_entries.specs.Lawful.{IsOrdered}
 use Rattle.au_entries.specs.Replaying.{AllGoOn, Conditions, GoesOn}
 use Rattle.au_entries.proofs.AllOf.{all_kept, all_put, passes}
 use Rattle.au_entries.proofs.Rising.{Rises, in_order, kept_rises, mapped_rises, put_rises, rises}
-use Rattle.au_priv.specs.declared.change.GrantChange.{GrantChange}
-use Rattle.au_priv.specs.declared.grants.Grants.{Grants}
-use Rattle.au_priv.specs.Changing.{applied, applied_all, without}
-use Rattle.au_priv.specs.Order.{AreInOrder}
+use Rattle.au_grants.specs.declared.change.GrantChange.{GrantChange}
+use Rattle.au_grants.specs.declared.grants.Grants.{Grants}
+use Rattle.au_grants.specs.Changing.{applied, applied_all, without}
+use Rattle.au_grants.specs.Order.{AreInOrder}
 use Rattle.sql_ast.specs.declared.expression.Expr.{Expr}
 
 pub names_total : IsTotalOrder by_name

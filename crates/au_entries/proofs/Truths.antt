@@ -26,10 +26,10 @@ use Rattle.au_entries.proofs.Members.{all_at, all_of, kept, none_pass, put_cases
 use Rattle.au_entries.proofs.Ordered.{one_ordered}
 use Rattle.au_entries.proofs.Rising.{Before, Rises, rises}
 use Rattle.au_entries.proofs.Stays.{is_table_name, same_tables}
-use Rattle.au_priv.specs.declared.change.GrantChange.{GrantChange}
-use Rattle.au_priv.specs.declared.grants.Grants.{Grants}
-use Rattle.au_priv.specs.Changing.{applied}
-use Rattle.au_priv.specs.Order.{AreInOrder}
+use Rattle.au_grants.specs.declared.change.GrantChange.{GrantChange}
+use Rattle.au_grants.specs.declared.grants.Grants.{Grants}
+use Rattle.au_grants.specs.Changing.{applied}
+use Rattle.au_grants.specs.Order.{AreInOrder}
 use Rattle.sql_ast.specs.declared.expression.Expr.{Expr}
 
 -- ---- one table of a name

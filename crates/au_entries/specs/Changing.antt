@@ -24,10 +24,10 @@ use Rattle.au_entries.specs.declared.policy.Evaluate.{Evaluate}
 use Rattle.au_entries.specs.declared.policy.Outcomes.{Outcomes}
 use Rattle.au_entries.specs.declared.table.Table.{Table as AnyTable}
 pub use Rattle.au_entries.specs.Enabling.{for_users, is_on}
-use Rattle.au_priv.specs.declared.change.GrantChange.{GrantChange}
-use Rattle.au_priv.specs.declared.change.GrantChange.TheVariants as grant
-use Rattle.au_priv.specs.Changing.{applied_all, without}
-use Rattle.au_priv.specs.Rights.{Grants}
+use Rattle.au_grants.specs.declared.change.GrantChange.{GrantChange}
+use Rattle.au_grants.specs.declared.change.GrantChange.TheVariants as grant
+use Rattle.au_grants.specs.Changing.{applied_all, without}
+use Rattle.au_grants.specs.Rights.{Grants}
 use Rattle.sql_ast.specs.declared.expression.Expr.{Expr}
 
 -- names in byte order

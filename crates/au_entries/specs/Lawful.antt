@@ -18,8 +18,8 @@ use Rattle.au_entries.specs.declared.policy.Evaluate.{Evaluate}
 use Rattle.au_entries.specs.declared.table.Table.{Table}
 use Rattle.au_entries.specs.Changing.{KeptRow, fga_fields, is_on, row_fields, table_fields}
 use Rattle.au_entries.specs.Replaying.{Conditions, IsArchive, IsKeptTable, IsTable, has_grantee, has_policy, has_role, has_table, has_user, named_users}
-use Rattle.au_priv.specs.Order.{AreInOrder}
-use Rattle.au_priv.specs.Rights.{HasNoCircle, grant_count}
+use Rattle.au_grants.specs.Order.{AreInOrder}
+use Rattle.au_grants.specs.Rights.{HasNoCircle, grant_count}
 
 -- ---- order
 

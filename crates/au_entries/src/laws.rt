@@ -13,7 +13,7 @@ ghost use Rattle.au_entries.specs.Changing.{changed, changed_all};
 ghost use Rattle.au_entries.specs.Demand.{demanded};
 ghost use Rattle.au_entries.specs.Lawful.{IsLawful, IsOrdered};
 ghost use Rattle.au_entries.specs.Replaying.{AllGoOn, Conditions, GoesOn, IsArchive};
-ghost use Rattle.au_priv.specs.declared.grants.Grants.{Grants};
+ghost use Rattle.au_grants.specs.declared.grants.Grants.{Grants};
 
 /// All that is kept stands in order after each change that goes on, where it did before: each list
 /// in the byte order of its names, no enablement is for nobody, and no policy has the name of what
