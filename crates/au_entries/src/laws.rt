@@ -22,7 +22,7 @@ pub fn changes_keep_order()
     ensures one { (conditions : Conditions) (image : Bool) (kept : Kept) (change : Change) → IsOrdered kept → GoesOn conditions image kept change → IsOrdered (changed conditions.tree change kept) }
     ensures all { (conditions : Conditions) (image : Bool) (kept : Kept) (changes : List Change) → IsOrdered kept → AllGoOn conditions image kept changes → IsOrdered (changed_all conditions.tree changes kept) }
 {
-    au_priv::changes_keep_order();
+    au_grants::changes_keep_order();
 }
 
 /// All that is kept is lawful after each change that goes on, where it was before: it stands in
@@ -32,8 +32,8 @@ pub fn changes_keep_laws()
     ensures one { (conditions : Conditions) (image : Bool) (kept : Kept) (change : Change) → IsLawful conditions kept → GoesOn conditions image kept change → IsLawful conditions (changed conditions.tree change kept) }
     ensures all { (conditions : Conditions) (image : Bool) (kept : Kept) (changes : List Change) → IsLawful conditions kept → AllGoOn conditions image kept changes → IsLawful conditions (changed_all conditions.tree changes kept) }
 {
-    au_priv::changes_keep_order();
-    au_priv::changes_keep_no_circle();
+    au_grants::changes_keep_order();
+    au_grants::changes_keep_no_circle();
 }
 
 /// The archive timestamp and the number of the instance stay within their bounds after each change
