@@ -29,7 +29,7 @@ use Rattle.au_grants.specs.Changing.{applied, names_role, object_to, role_to, sy
 use Rattle.au_grants.specs.Holding.{grants_object, grants_privilege, grants_role}
 use Rattle.au_grants.specs.Order.{object_before, placed, role_before, system_before}
 use Rattle.au_grants.specs.Rights.{HasNoCircle, ObjectEntry, RoleEntry, SystemEntry}
-use Rattle.au_priv.specs.Walking.{Closes}
+use Rattle.au_grants.specs.Changing.{Closes}
 use Rattle.sql_ast.specs.declared.expression.Expr.{Expr}
 
 -- ---- grants
