@@ -23,7 +23,7 @@ number-is name tables n apart within named =
     before k lt true e = let same = apart name k n e named in absurd (omega arith)
 
 -- a table has one name
-named-one : (name : TableName) (table : Table) → is_named name (Some table) ≡ true → name ≡ table.name
+pub named-one : (name : TableName) (table : Table) → is_named name (Some table) ≡ true → name ≡ table.name
 named-one name table h =
     let owner : table.name.owner ≡ name.owner = (bytes_eq-Decides table.name.owner name.owner).0 (grind arith) in
     let own : table.name.name ≡ name.name = (bytes_eq-Decides table.name.name name.name).0 (grind arith) in
@@ -40,14 +40,14 @@ named-within name (t ∷ ts) (suc n) h = step (is_named name t) refl (named-with
     step false e rest = let here : number_of name (t ∷ ts) ≡ 1 + number_of name ts = rw e refl in omega arith
 
 -- what stands at a place once there is one more table
-abbrev with_new : Table → List (Option Table) → List (Option Table)
+abbrev pub with_new : Table → List (Option Table) → List (Option Table)
 with_new new tables = edited is_vacant is_vacant tables (Some new ∷ [])
 
-data Stands (new : Table) (tables : List (Option Table)) (n : ℕ) : Type 0 where
+pub data Stands (new : Table) (tables : List (Option Table)) (n : ℕ) : Type 0 where
   is_new : n ≡ position_or_len is_vacant tables → get_or (with_new new tables) n None ≡ Some new → Stands new tables n
   is_old : get_or (with_new new tables) n None ≡ get_or tables n None → Stands new tables n
 
-stands : (new : Table) (tables : List (Option Table)) (n : ℕ) → Stands new tables n
+pub stands : (new : Table) (tables : List (Option Table)) (n : ℕ) → Stands new tables n
 stands new [] zero = is_new refl refl
 stands new [] (suc n) = is_old refl
 stands new (None ∷ ts) zero = is_new refl refl

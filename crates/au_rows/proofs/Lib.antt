@@ -9,6 +9,7 @@ pub mod EndLemmas
 pub mod FoundLemmas
 pub mod IndexLemmas
 pub mod KeyLemmas
+pub mod KnownLemmas
 pub mod LaneLemmas
 pub mod LinkLemmas
 pub mod NumberLemmas

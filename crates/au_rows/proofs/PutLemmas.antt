@@ -327,20 +327,25 @@ open-there name tables h = named (get_or tables (number_of name tables) None) (p
     named (Some t) e = refl
 
 -- how much spare a call takes
-module _ (tables open_tables places rows versions changes taken : ℕ) where
+module _ (tables names places rows versions changes taken : ℕ) where
   pub spare-put : (places' rows' versions' changes' taken' : ℕ)
       → places ≤ places' → rows' ≤ rows + 1 → versions ≤ versions' + 1 → changes + taken' ≤ changes' + taken + 2
-      → spare_of tables open_tables places rows versions changes taken ≤ spare_of tables open_tables places' rows' versions' changes' taken' + 1
+      → spare_of tables names places rows versions changes taken ≤ spare_of tables names places' rows' versions' changes' taken' + 1
   spare-put places' rows' versions' changes' taken' a b c d = omega arith
 
   pub spare-kept : (places' rows' versions' changes' taken' : ℕ)
       → places ≤ places' → rows' ≤ rows → versions ≤ versions' → changes + taken' ≤ changes' + taken
-      → spare_of tables open_tables places rows versions changes taken ≤ spare_of tables open_tables places' rows' versions' changes' taken'
+      → spare_of tables names places rows versions changes taken ≤ spare_of tables names places' rows' versions' changes' taken'
   spare-kept places' rows' versions' changes' taken' a b c d = omega arith
 
-  pub spare-rooms : 0 < spare_of tables open_tables places rows versions changes taken
-      → (open_tables < tables) × (rows < places) × (0 < versions) × (taken + 2 ≤ changes)
-  spare-rooms h = (omega arith, omega arith, omega arith, omega arith)
+  pub spare-gone : (names' places' rows' versions' changes' taken' : ℕ)
+      → names ≤ names' → places ≤ places' → rows' ≤ rows → versions ≤ versions' → changes + taken' ≤ changes' + taken
+      → spare_of tables names places rows versions changes taken ≤ spare_of tables names' places' rows' versions' changes' taken'
+  spare-gone names' places' rows' versions' changes' taken' n a b c d = omega arith
+
+  pub spare-rooms : 0 < spare_of tables names places rows versions changes taken
+      → (0 < tables) × (0 < names) × (rows < places) × (0 < versions) × (taken + 2 ≤ changes)
+  spare-rooms h = (omega arith, omega arith, omega arith, omega arith, omega arith)
 
 pub same-contents : (tables : List (Option Table)) (held held' : List Held) (changes changes' : List Change) (spare : ℕ)
     → held' ≡ held → changes' ≡ changes

@@ -3,6 +3,7 @@ use Rattle.std.specs.Prelude.{ℕ, ◌+◌, ◌*◌, ◌%◌, ◌^◌, List, [],
 use Rattle.std.specs.Option.{option_map_or}
 use Rattle.au_base.specs.declared.cell.Cell.{Cell}
 use Rattle.au_base.specs.declared.cell.Cell.TheVariants.{Null, Num, Text, Moment}
+use Rattle.au_base.specs.declared.table.TableName.{TableName}
 
 -- the number of a list with one part more
 abbrev pub hash_step : ℕ → ℕ → ℕ
@@ -11,6 +12,10 @@ hash_step hash part = ((hash * 6364136223846793005) % 2 ^ 64 + part) % 2 ^ 64
 -- the number of a text
 abbrev pub text_hash : List ℕ → ℕ
 text_hash bytes = fold hash_step 1 bytes
+
+-- the number of a table's name
+abbrev pub name_hash : TableName → ℕ
+name_hash table = hash_step (text_hash table.owner) (text_hash table.name)
 
 abbrev pub cell_hash : Cell → ℕ
 cell_hash Null = 0

@@ -1,5 +1,5 @@
 -- How rows are kept: places in order, which name versions in slots.
-use Rattle.std.specs.Prelude.{◌≡◌, ℕ, List, [], ◌∷◌, Bool, true, false, not, ◌==◌, ◌&&◌, ◌||◌, nat_le, is_some, slice_index_or, Option, None, Some, if◌then◌else◌, max}
+use Rattle.std.specs.Prelude.{◌≡◌, ℕ, List, [], ◌∷◌, Bool, true, false, not, ◌==◌, ◌&&◌, ◌||◌, nat_le, is_some, IsSome, slice_index_or, Option, None, Some, if◌then◌else◌, max}
 use Rattle.std.specs.List.{list_all, list_any}
 use Rattle.std.specs.Option.{option_and_then, option_map}
 use Rattle.au_base.specs.declared.cell.Cell.{Cell}
@@ -14,7 +14,7 @@ use Rattle.au_rows.specs.declared.table.Table.{Table}
 use Rattle.au_rows.specs.declared.unsettled.Unsettled.{Unsettled}
 use Rattle.au_rows.specs.declared.version.Version.{Version}
 use Rattle.au_rows.specs.Chains.{is_slot}
-use Rattle.au_rows.specs.Hash.{version_hash}
+use Rattle.au_rows.specs.Hash.{name_hash, version_hash}
 use Rattle.au_rows.specs.Held.{Held, Change, is_from, is_named, is_this, is_by, key_of, or_else}
 use Rattle.au_rows.specs.Order.{in_order}
 
@@ -209,6 +209,15 @@ IsIndexed tables slots =
 abbrev pub AreApart : List (Option Table) → Type 0
 AreApart tables =
     (name : TableName) (t u : ℕ) → is_named name (slice_index_or tables t None) ≡ true → is_named name (slice_index_or tables u None) ≡ true → t ≡ u
+
+-- the table's name has this number
+abbrev pub has_number : ℕ → Option Table → Bool
+has_number hash None = false
+has_number hash (Some table) = name_hash table.name == hash
+
+-- the index has an entry for the name of each table, so that a name without one is no table's
+abbrev pub AreKnown : List (Option Table) → (ℕ → Option ℕ) → Type 0
+AreKnown tables numbers = (at : ℕ) (table : Table) → slice_index_or tables at None ≡ Some table → IsSome (numbers (name_hash table.name))
 
 -- how places, slots and unsettled changes stand to each other
 pub record Sound (places : List Place) (slots : List (Option Version)) (changes : List Unsettled) : Type 0 where

@@ -1,6 +1,6 @@
 //! The numbers under which versions are indexed.
 ghost use Rattle.std.specs.Prelude.{◌≡◌};
-ghost use Rattle.au_rows.specs.Hash.{cell_hash, hash_step, key_hash, place_hash, stored_hash, text_hash, version_hash};
+ghost use Rattle.au_rows.specs.Hash.{cell_hash, hash_step, key_hash, name_hash, place_hash, stored_hash, text_hash, version_hash};
 
 use au_base::{Cell, RowNo, TableName};
 
@@ -26,7 +26,9 @@ fn text_hash(bytes: &[u8]) -> u64
 }
 
 /// The number of a table's name.
-pub(crate) fn name_hash(table: &TableName) -> u64 {
+pub(crate) fn name_hash(table: &TableName) -> u64
+    ensures { result ≡ name_hash table.now }
+{
     hash_step(
         text_hash(table.owner.as_bytes()),
         text_hash(table.name.as_bytes()),

@@ -19,7 +19,7 @@ use crate::place::Place;
 use crate::places::{find_owner, own};
 use crate::reading::{is_seen_in, next_in, other_in, under_in, view_in};
 use crate::table::Table;
-use crate::tables::{add_table, key_of, number_of};
+use crate::tables::{add_table, forget_name, key_of, number_of};
 use crate::unsettled::Unsettled;
 use crate::version::Version;
 use crate::versions::Versions;
@@ -45,14 +45,15 @@ impl Model for Rows {
 
     ghost Value = { Contents };
 
-    ghost use Rattle.std.specs.Prelude.{◌≡◌, ◌≤◌, true, map, vec_len, vec_capacity};
+    ghost use Rattle.std.specs.Prelude.{◌≡◌, ◌≤◌, ◌-◌, true, map, nat_eq, vec_len, vec_capacity};
     ghost use Rattle.std.specs.List.{count_by, list_all};
-    ghost use Rattle.au_rows.specs.Kept.{AreApart, IsIndexed, Sound, change_of, held_of, place_open, place_shown};
+    ghost use Rattle.indexmap.specs.IndexMap.{get, spare};
+    ghost use Rattle.au_rows.specs.Kept.{AreApart, AreKnown, IsIndexed, Sound, change_of, held_of, place_open, place_shown};
     ghost use Rattle.au_rows.specs.Spare.{spare_of};
 
-    ghost view = { λ r. record { tables = r.tables.items; held = map (held_of r.versions.slots) r.places.items; changes = map (change_of r.versions.slots) r.unsettled.listed; spare = spare_of (vec_capacity r.tables) (vec_len r.tables) (vec_capacity r.places) (vec_len r.places) r.versions.room r.unsettled.room (count_by place_shown r.places.items) } };
+    ghost view = { λ r. record { tables = r.tables.items; held = map (held_of r.versions.slots) r.places.items; changes = map (change_of r.versions.slots) r.unsettled.listed; spare = spare_of (vec_capacity r.tables - vec_len r.tables) (spare r.guesses.numbers) (vec_capacity r.places) (vec_len r.places) r.versions.room r.unsettled.room (count_by place_shown r.places.items) } };
 
-    ghost invariant = { λ r. Sound r.places.items r.versions.slots r.unsettled.listed × (list_all (place_open r.tables.items) r.places.items ≡ true) × (count_by place_shown r.places.items ≤ r.unsettled.room) × IsIndexed r.tables.items r.versions.slots × AreApart r.tables.items };
+    ghost invariant = { λ r. Sound r.places.items r.versions.slots r.unsettled.listed × (list_all (place_open r.tables.items) r.places.items ≡ true) × (count_by place_shown r.places.items ≤ r.unsettled.room) × IsIndexed r.tables.items r.versions.slots × AreApart r.tables.items × AreKnown r.tables.items (λ hash. get nat_eq r.guesses.numbers hash) };
 }
 
 impl Rows {
@@ -112,9 +113,9 @@ impl Rows {
         ensures spare { self.old.spare ≤ self.new.spare }
     {
         let number = number_of(&self.tables, &self.guesses, table);
-        self.guesses.remove(table);
         drop_rows(&mut self.places, &mut self.versions, number);
         self.tables[number] = None;
+        forget_name(&self.tables, &mut self.guesses, table);
     }
 
     /// Makes the client's new content of the row. It takes no memory.

@@ -1,11 +1,13 @@
 //! The numbers of tables.
-ghost use Rattle.std.specs.Prelude.{◌≡◌, ◌≤◌, ◌<◌, ◌+◌, ◌∷◌, [], Some, length, slice_get, vec_len, vec_capacity};
+ghost use Rattle.std.specs.Prelude.{◌≡◌, ◌≤◌, ◌<◌, ◌+◌, ◌∷◌, [], Some, length, nat_eq, slice_get, vec_len, vec_capacity};
 ghost use Rattle.std.specs.List.{position_or_len};
+ghost use Rattle.indexmap.specs.IndexMap.{get, spare};
 ghost use Rattle.au_rows.specs.Edits.{edited};
 ghost use Rattle.au_rows.specs.Held.{is_vacant, key_of, number_of};
-ghost use Rattle.au_rows.specs.Kept.{AreApart};
+ghost use Rattle.au_rows.specs.Kept.{AreApart, AreKnown, has_number};
 
 use crate::guesses::Guesses;
+use crate::hash::name_hash;
 use crate::table::{Table, is_named};
 use au_base::TableName;
 
@@ -36,16 +38,38 @@ fn guessed_number(tables: &[Option<Table>], number: usize, name: &TableName) -> 
 }
 
 /// The number of the table with this name: its place among the tables, or how many places there
-/// are where it isn't there. All tables are asked only for a name that no table has, or that shares
-/// its guess with another one.
+/// are where it isn't there. All tables are asked only for a name that shares the number of another
+/// one.
 pub(crate) fn number_of(tables: &[Option<Table>], guesses: &Guesses, name: &TableName) -> usize
-    requires { AreApart tables.now }
+    requires apart { AreApart tables.now }
+    requires known { AreKnown tables.now (λ hash. get nat_eq guesses.now.numbers hash) }
     ensures number { result ≡ number_of name.now tables.now }
     ensures within { result ≤ length tables.now }
 {
-    match guesses.get(name) {
+    match guesses.get(name_hash(name)) {
         Some(number) => guessed_number(tables, number, name),
-        None => walked_number(tables, name),
+        None => tables.len(),
+    }
+}
+
+fn has_number(table: &Option<Table>, hash: u64) -> bool
+    ensures { result ≡ has_number hash table.now }
+{
+    match table {
+        Some(table) => name_hash(&table.name) == hash,
+        None => false,
+    }
+}
+
+/// Forgets a table that is gone, unless the name of another one has the same number.
+pub(crate) fn forget_name(tables: &[Option<Table>], guesses: &mut Guesses, name: &TableName)
+    requires known { AreKnown tables.now (λ hash. get nat_eq guesses.old.numbers hash) }
+    ensures known { AreKnown tables.now (λ hash. get nat_eq guesses.new.numbers hash) }
+    ensures room { spare guesses.old.numbers ≤ spare guesses.new.numbers }
+{
+    let hash = name_hash(name);
+    if !tables.iter().any(|table| has_number(table, hash)) {
+        guesses.remove(hash);
     }
 }
 

@@ -154,7 +154,7 @@ module _ (rows : List Row) where
       (λ row has. in-table tables row has (opened row (has-contains rows row has)))
 
 -- two numbers of rows are one, or not
-one-number : (m n : RowNo) → (m ≡ n) ⊎ (n ≢ m)
+pub one-number : (m n : RowNo) → (m ≡ n) ⊎ (n ≢ m)
 one-number m n = go (m.0 == n.0) refl
   where
     go : (b : Bool) → (m.0 == n.0) ≡ b → (m ≡ n) ⊎ (n ≢ m)

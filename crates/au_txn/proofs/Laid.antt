@@ -207,6 +207,16 @@ pub laid-more : (kept : Contents) (change : RowChange) (laid : List RowChange) (
     → Ties kept (with_changes replayer (change ∷ []) (open_in laid logs)) → laid_in kept logs ≡ laid ++ change ∷ []
 laid-more kept change laid logs none ties = laid-then kept (with_changes replayer (change ∷ []) (open_in laid logs)) (laid ++ change ∷ []) logs (more-laid change laid logs none) ties
 
+-- the replayer's changes are one more then, and those of others as they were
+pub own-more : (change : RowChange) (laid new : List RowChange) (logs : List Changes) → changes_of replayer logs ≡ [] → new ≡ laid ++ change ∷ []
+    → open_in new logs replayer ≡ open_in laid logs replayer ++ change ∷ []
+own-more change laid new logs none e =
+    ap₂ (λ (xs ys : List RowChange). xs ++ ys) e none ∙ (append-none (laid ++ change ∷ [])
+    ∙ sym (ap (λ (xs : List RowChange). (laid ++ xs) ++ change ∷ []) none ∙ ap (λ (xs : List RowChange). xs ++ change ∷ []) (append-none laid)))
+
+pub other-more : (laid new : List RowChange) (logs : List Changes) (q : ClientNo) → q.0 ≢ 0 → open_in new logs q ≡ open_in laid logs q
+other-more laid new logs q ne = ap (λ (xs : List RowChange). xs ++ changes_of q logs) (laid-elsewhere q new ne ∙ sym (laid-elsewhere q laid ne))
+
 -- nothing is laid where nothing is kept
 pub none-kept : laid_in (record { tables = []; held = []; changes = []; spare = 0 }) [] ≡ []
 unfolding laid_in

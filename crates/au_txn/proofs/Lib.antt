@@ -1,6 +1,7 @@
 pub mod HeldLemmas
 pub mod Histories
 pub mod Ordered
+pub mod Pointed
 pub mod RowOrder
 pub mod TableLemmas
 pub mod ChangeLemmas

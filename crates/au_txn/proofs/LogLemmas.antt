@@ -1,9 +1,11 @@
 -- What is known of a client, after its list is written.
-use Rattle.std.proofs.Common.{◌≡◌, ◌≢◌, ℕ, ◌≤◌, List, [], ◌∷◌, ◌++◌, get_or, set, refl, ap, ◌∙◌, arith, Some, None}
-use Rattle.std.specs.Prelude.{filter, not, position}
+use Rattle.std.proofs.Common.{◌≡◌, ◌≢◌, ℕ, ◌≤◌, Bool, true, false, List, [], ◌∷◌, ◌++◌, get_or, set, refl, sym, subst, ap, ◌∙◌, arith, Some, None}
+use Rattle.std.specs.Prelude.{◌==◌, filter, not, position}
+use Rattle.std.proofs.lemmas.Bool.Decides.{nat_tests}
 use Rattle.std.proofs.lemmas.Grind.{common_steps}
 use Rattle.au_base.specs.declared.numbers.ClientNo.{ClientNo}
 use Rattle.au_txn.specs.Logs.{Changes, changes_of, is_client, of_client, room_of}
+use Rattle.au_txn.proofs.RowOrder.{client-is}
 
 pub of_client-at : {A : Type 0} (f : Changes → A) (none : A) (client : ClientNo) (logs : List Changes) (i : ℕ) (d : Changes)
     → position (is_client client) logs ≡ Some i → of_client f none client logs ≡ f (get_or logs i d)
@@ -64,6 +66,7 @@ pub record Rewritten (client : ClientNo) (old new : List Changes) (was now : Cha
   pub changes_are : changes_of client new ≡ now.changes
   pub other_changes : (q : ClientNo) → q.0 ≢ client.0 → changes_of q new ≡ changes_of q old
   pub changes_kept : now.changes ≡ was.changes → (q : ClientNo) → changes_of q new ≡ changes_of q old
+  pub other_rooms : (q : ClientNo) → q.0 ≢ client.0 → room_of q new ≡ room_of q old
   pub spare_was : room_of client old ≡ was.spare
   pub spare_is : room_of client new ≡ now.spare
   pub spares : was.spare ≤ now.spare → (q : ClientNo) → room_of q old ≤ room_of q new
@@ -80,6 +83,7 @@ rewritten client logs seen i was now found same at kept =
       changes_are = of_client-set (λ (l : Changes). l.changes) [] client logs i now here own;
       other_changes = λ q ne. of_client-set_other (λ (l : Changes). l.changes) [] client q logs i now here own ne;
       changes_kept = λ e q. of_client-kept (λ (l : Changes). l.changes) [] client q logs i now was here own (e ∙ ap (λ (l : Changes). l.changes) at);
+      other_rooms = λ q ne. of_client-set_other (λ (l : Changes). l.spare) 0 client q logs i now here own ne;
       spare_was = cc (of_client-at (λ (l : Changes). l.spare) 0 client logs i was here);
       spare_is = of_client-set (λ (l : Changes). l.spare) 0 client logs i now here own;
       spares = λ le q. spare-set client q logs i now was here own (rw (← at) le);
@@ -95,3 +99,11 @@ forgotten-own f none client (log ∷ logs) = grind (arith, common_steps, forgott
 pub forgotten-other : {A : Type 0} (f : Changes → A) (none : A) (client q : ClientNo) (logs : List Changes) → q.0 ≢ client.0 → of_client f none q (filter (λ log. not (is_client client log)) logs) ≡ of_client f none q logs
 forgotten-other f none client q [] ne = refl
 forgotten-other f none client q (log ∷ logs) ne = grind (arith, common_steps, forgotten-other f none client q logs ne)
+
+-- no list has less room where one client's has no less and the others have the same
+pub all-rooms : (c q : ClientNo) (old new : List Changes) → room_of c old ≤ room_of c new → ((p : ClientNo) → p.0 ≢ c.0 → room_of p new ≡ room_of p old) → room_of q old ≤ room_of q new
+all-rooms c q old new own others = go (q.0 == c.0) refl
+  where
+    go : (b : Bool) → (q.0 == c.0) ≡ b → room_of q old ≤ room_of q new
+    go true e = subst (λ (p : ClientNo). room_of p old ≤ room_of p new) (sym (client-is q c e)) own
+    go false e = let same = others q (grind (arith, nat_tests)) in omega arith

@@ -93,6 +93,12 @@ found-by : {A : Type 0} (f : Held → Option A) (o : Option Held) → is_some (o
 found-by f None e = absurd (let wrong : false ≡ true = e in cc)
 found-by f (Some h) e = (h, refl)
 
+-- each of the numbers is at most the largest
+within-largest : (xs : List RowNo) (n : RowNo) → Has xs n → n.0 ≤ largest xs
+within-largest [] n has = absurd has
+within-largest (x ∷ xs) n (inl same) = let e : x.0 ≡ n.0 = ap (λ (m : RowNo). m.0) same in omega arith
+within-largest (x ∷ xs) n (inr later) = let le = within-largest xs n later in omega arith
+
 pub numbered : (kept : Contents) (transactions : ClientNo → List RowChange) → Ties kept transactions → (t : TableName) (count last : ℕ)
     → count ≡ length (filter (is_of (number_of t kept.tables)) kept.held) → last ≡ largest_of (number_of t kept.tables) kept.held
     → AreNumbers (committed kept.tables kept.held) transactions t count last
@@ -101,14 +107,14 @@ numbered kept transactions ties t count last counted ended = record {
   rising = rising (number_of t kept.tables) kept.held ties.order;
   exact = λ n. (
     λ contained. used n (map-has number_in (filter (is_of (number_of t kept.tables)) kept.held) n (contains-has (map number_in (filter (is_of (number_of t kept.tables)) kept.held)) n contained)),
-    λ number. has-contains (map number_in (filter (is_of (number_of t kept.tables)) kept.held)) n (elim number [
-      | inl some ↦ listed n (found-by (λ (row : Held). row.settled) (kept_at (number_of t kept.tables) n kept.held) (ap is_some (sym (settled-is kept transactions ties t n)) ∙ some))
-      | inr names ↦ let it = owner-some kept transactions ties t n names.0 names.1 in
-          listed n (found-by (λ (row : Held). row.owner) (kept_at (number_of t kept.tables) n kept.held) (ap is_some it.1))
-    ]),
+    λ number. has-contains (map number_in (filter (is_of (number_of t kept.tables)) kept.held)) n (numbers-has n number),
   );
   counts = counted ∙ length-map number_in (filter (is_of (number_of t kept.tables)) kept.held);
   ends = ended ∙ largest-is (number_of t kept.tables) kept.held;
+  most = λ n number.
+      let le = within-largest (map number_in (filter (is_of (number_of t kept.tables)) kept.held)) n (numbers-has n number) in
+      let same = ended ∙ largest-is (number_of t kept.tables) kept.held in
+      omega arith;
 }
   where
     listed : (n : RowNo) → (h : Held) × (kept_at (number_of t kept.tables) n kept.held ≡ Some h) → Has (map number_in (filter (is_of (number_of t kept.tables)) kept.held)) n
@@ -117,6 +123,13 @@ numbered kept transactions ties t count last counted ended = record {
         let parts = and_parts (it.0.table == number_of t kept.tables) (it.0.number.0 == n.0) there.1 in
         subst (Has (map number_in (filter (is_of (number_of t kept.tables)) kept.held))) (number-is it.0.number n parts.1)
         (has-map number_in (filter (is_of (number_of t kept.tables)) kept.held) it.0 (stays (is_of (number_of t kept.tables)) kept.held it.0 there.0 parts.0))
+
+    numbers-has : (n : RowNo) → IsNumber (committed kept.tables kept.held) transactions t n → Has (map number_in (filter (is_of (number_of t kept.tables)) kept.held)) n
+    numbers-has n number = elim number [
+      | inl some ↦ listed n (found-by (λ (row : Held). row.settled) (kept_at (number_of t kept.tables) n kept.held) (ap is_some (sym (settled-is kept transactions ties t n)) ∙ some))
+      | inr names ↦ let it = owner-some kept transactions ties t n names.0 names.1 in
+          listed n (found-by (λ (row : Held). row.owner) (kept_at (number_of t kept.tables) n kept.held) (ap is_some it.1))
+    ]
 
     found-here : (n : RowNo) → (h : Held) × Has (filter (is_of (number_of t kept.tables)) kept.held) h × (h.number ≡ n) → (h : Held) × Has kept.held h × (kept_at (number_of t kept.tables) n kept.held ≡ Some h)
     found-here n it =

@@ -72,7 +72,7 @@ then-equal Greater b e = absurd (let no : Greater ≡ Equal = e in cc)
 pub texts-equal : (a b : List ℕ) → slice_cmp nat_cmp a b ≡ Equal → a ≡ b
 texts-equal a b e = (bytes_eq-Decides a b).0 (sym (is_eq-slice_cmp a b) ∙ ap is_eq e)
 
-places-equal : (a b : Row) → slice_cmp (slice_cmp nat_cmp) (place_of a.table a.number) (place_of b.table b.number) ≡ Equal → is_row a.table a.number b ≡ true
+pub places-equal : (a b : Row) → slice_cmp (slice_cmp nat_cmp) (place_of a.table a.number) (place_of b.table b.number) ≡ Equal → is_row a.table a.number b ≡ true
 places-equal a b e =
     let one = then-equal (slice_cmp nat_cmp a.table.owner b.table.owner) _ e in
     let two = then-equal (slice_cmp nat_cmp a.table.name b.table.name) _ one.1 in

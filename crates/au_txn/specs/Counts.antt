@@ -1,5 +1,5 @@
 -- How many row numbers a table uses, and the largest of them.
-use Rattle.std.specs.Prelude.{◌≡◌, ◌↔◌, ℕ, nat_lt, List, [], ◌∷◌, Bool, true, length, max}
+use Rattle.std.specs.Prelude.{◌≡◌, ◌↔◌, ◌≤◌, ℕ, nat_lt, List, [], ◌∷◌, Bool, true, length, max}
 use Rattle.std.specs.List.{Contains}
 use Rattle.au_base.specs.declared.numbers.ClientNo.{ClientNo}
 use Rattle.au_base.specs.declared.numbers.RowNo.{RowNo}
@@ -26,3 +26,4 @@ pub record AreNumbers (rows : List Row) (transactions : ClientNo → List RowCha
   pub exact : (number : RowNo) → Contains numbers number ↔ IsNumber rows transactions table number
   pub counts : count ≡ length numbers
   pub ends : last ≡ largest numbers
+  pub most : (number : RowNo) → IsNumber rows transactions table number → number.0 ≤ last

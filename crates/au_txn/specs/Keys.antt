@@ -1,5 +1,6 @@
 -- The discipline of keys: what locks and refusals keep of the keys of rows.
-use Rattle.std.specs.Prelude.{◌≡◌, ◌≢◌, ⊤, ℕ, List, [], ◌∷◌, IsTrue}
+use Rattle.std.specs.Prelude.{◌≡◌, ◌≢◌, ◌⊎◌, ⊤, ℕ, List, [], ◌∷◌, IsTrue, false}
+use Rattle.std.specs.List.{Contains}
 use Rattle.au_base.specs.declared.cell.Cell.{Cell}
 use Rattle.au_base.specs.declared.numbers.ClientNo.{ClientNo}
 use Rattle.au_base.specs.declared.numbers.RowNo.{RowNo}
@@ -15,6 +16,25 @@ abbrev pub KeysDiffer : List ℕ → TableName → List Row → Type 0
 KeysDiffer [] table rows = ⊤
 KeysDiffer (place ∷ places) table rows =
     (m n : RowNo) (key : List Cell) → HasKey (place ∷ places) key (row_at table m rows) → HasKey (place ∷ places) key (row_at table n rows) → m ≡ n
+
+-- two rows of the table have one key
+abbrev pub AreDoubled : List ℕ → TableName → List Row → Type 0
+AreDoubled places table rows =
+    (m n : RowNo) × (m ≢ n) × (key : List Cell) × HasKey places key (row_at table m rows) × HasKey places key (row_at table n rows)
+
+-- once the changes are made, another row than this one has the key: one that no change names has it already, or a
+-- change of it makes it
+abbrev pub IsElsewhere : List ℕ → TableName → List Row → List RowChange → RowNo → List Cell → Type 0
+IsElsewhere places table rows changes row key =
+    (other : RowNo) × (other ≢ row)
+    × (((names_row table other changes ≡ false) × HasKey places key (row_at table other rows))
+    ⊎ ((change : RowChange) × Contains changes change × (change.table ≡ table) × (change.row ≡ other) × HasKey places key change.new))
+
+-- one of the changes makes a key of the table that another row has once all of them are made, as told before
+abbrev pub Clashes : List ℕ → TableName → List Row → List RowChange → Type 0
+Clashes places table rows changes =
+    (change : RowChange) × Contains changes change × (change.table ≡ table)
+    × (key : List Cell) × HasKey places key change.new × IsElsewhere places table rows changes change.row key
 
 -- keys differ among the committed rows and in what each client sees; no key of a keyed table, old or new, is in two
 -- clients' changes, and no row is; and a client whose changes have the key of a committed row has a change of that row

@@ -57,3 +57,11 @@ with_content table number (Some cells) rows =
 abbrev pub laid_all : List Row → List Final → List Row
 laid_all rows [] = rows
 laid_all rows (final ∷ finals) = laid_all (with_content final.table final.row final.content rows) finals
+
+-- a row as what is kept lists it: its table, its number and its cells
+abbrev pub triple_of : Row → TableName × RowNo × List Cell
+triple_of row = (row.table, row.number, row.cells)
+
+-- and back
+abbrev pub of_triple : TableName × RowNo × List Cell → Row
+of_triple row = record { table = row.0; number = row.1; cells = row.2 }

@@ -11,7 +11,7 @@ ghost use Rattle.au_rows.specs.Held.{lent};
 ghost use Rattle.au_txn.specs.Counts.{AreNumbers};
 ghost use Rattle.au_txn.specs.Desks.{IsWritable, contents_of, has_name, is_open, key_of, laid_but, laid_by, laid_row, open_of, replayer, spare_of, table_before};
 ghost use Rattle.au_txn.specs.Finals.{AreFinals};
-ghost use Rattle.au_txn.specs.Logs.{changes_of, is_client};
+ghost use Rattle.au_txn.specs.Logs.{changes_of, is_client, room_of};
 ghost use Rattle.au_txn.specs.Rows.{Row, are_in_order, is_in, row_at};
 ghost use Rattle.au_txn.specs.Transactions.{AreFrom, IsKeyLocked, IsRowLocked, IsUnder, IsUnderOther, laid_over, names_row, names_table, view as view_of};
 
@@ -161,7 +161,8 @@ impl Desk {
     /// What a commit of the client's changes leaves of its rows: those with another content than
     /// the committed one, each once, by owner, table and number. Rows that are laid aren't listed.
     pub fn finals(&self, alloc: Global, client: ClientNo) -> Result<Vec<Final>, Memory>
-        ensures { IfOk result (λ finals. laid_by client self.now.laid ≡ [] → AreFinals self.now.rows (open_of self.now client) finals.items) }
+        ensures listed { IfOk result (λ finals. laid_by client self.now.laid ≡ [] → AreFinals self.now.rows (open_of self.now client) finals.items) }
+        ensures others { client.0 ≢ 0 → IfOk result (λ finals. AreFinals self.now.rows (open_of self.now client) finals.items) }
     {
         let names = sorted_names(alloc, find_changes(&self.logs, client))?;
         let clients = (client, other_than(client));
@@ -191,6 +192,7 @@ impl Desk {
         ensures changes { (q : Client) → open_of self.new q ≡ open_of self.old q }
         ensures laid { self.new.laid ≡ self.old.laid }
         ensures spare { (q : Client) → spare_of q self.old ≤ spare_of q self.new }
+        ensures room { self.old.spare ≤ self.new.spare }
     {
         self.rows.reserve(more)?;
         reserve_for(alloc, &mut self.logs, client, more)
@@ -209,6 +211,8 @@ impl Desk {
         ensures others { (q : Client) → q.0 ≢ client.0 → open_of self.new q ≡ open_of self.old q }
         ensures laid { self.new.laid ≡ self.old.laid }
         ensures spare { spare_of client self.old ≤ spare_of client self.new + length changes.items }
+        ensures room { self.old.spare ≤ self.new.spare + length changes.items }
+        ensures rooms { (q : Client) → q.0 ≢ client.0 → room_of q self.new.logs ≡ room_of q self.old.logs }
     {
         write_all(&mut self.rows, client, changes.as_slice(), contents);
         append_for(&mut self.logs, client, changes);
@@ -221,9 +225,12 @@ impl Desk {
         ensures own { open_of self.new client ≡ [] }
         ensures listed { changes_of client self.new.logs ≡ [] }
         ensures others { (q : Client) → q.0 ≢ client.0 → open_of self.new q ≡ open_of self.old q }
+        ensures lists { (q : Client) → q.0 ≢ client.0 → changes_of q self.new.logs ≡ changes_of q self.old.logs }
         ensures laid { self.new.laid ≡ laid_but client self.old.laid }
         ensures spare { spare_of client self.old ≤ spare_of client self.new }
         ensures room { self.old.spare ≤ self.new.spare }
+        ensures rooms { (q : Client) → q.0 ≢ client.0 → room_of q self.new.logs ≡ room_of q self.old.logs }
+        ensures all_spare { (q : Client) → spare_of q self.old ≤ spare_of q self.new }
     {
         self.rows.settle(client);
         clear_for(&mut self.logs, client);
@@ -236,9 +243,12 @@ impl Desk {
         ensures own { open_of self.new client ≡ [] }
         ensures listed { changes_of client self.new.logs ≡ [] }
         ensures others { (q : Client) → q.0 ≢ client.0 → open_of self.new q ≡ open_of self.old q }
+        ensures lists { (q : Client) → q.0 ≢ client.0 → changes_of q self.new.logs ≡ changes_of q self.old.logs }
         ensures laid { self.new.laid ≡ laid_but client self.old.laid }
         ensures spare { spare_of client self.old ≤ spare_of client self.new }
         ensures room { self.old.spare ≤ self.new.spare }
+        ensures rooms { (q : Client) → q.0 ≢ client.0 → room_of q self.new.logs ≡ room_of q self.old.logs }
+        ensures all_spare { (q : Client) → spare_of q self.old ≤ spare_of q self.new }
     {
         self.rows.undo(client);
         clear_for(&mut self.logs, client);
@@ -253,6 +263,7 @@ impl Desk {
         ensures others { (q : Client) → q.0 ≢ client.0 → open_of self.new q ≡ open_of self.old q }
         ensures laid { self.new.laid ≡ laid_but client self.old.laid }
         ensures spare { (q : Client) → q.0 ≢ client.0 → spare_of q self.old ≤ spare_of q self.new }
+        ensures room { self.old.spare ≤ self.new.spare }
     {
         self.rows.undo(client);
         forget_for(&mut self.logs, client);
@@ -284,7 +295,10 @@ impl Desk {
         ensures rows { self.new.rows ≡ self.old.rows }
         ensures lists { self.new.logs ≡ self.old.logs }
         ensures laid { self.new.laid ≡ self.old.laid ++ laid_row self.old table.now row (option_map (λ cells. cells.items) content) ∷ [] }
+        ensures own { open_of self.new replayer ≡ open_of self.old replayer ++ laid_row self.old table.now row (option_map (λ cells. cells.items) content) ∷ [] }
+        ensures others { (q : Client) → q.0 ≢ 0 → open_of self.new q ≡ open_of self.old q }
         ensures spare { self.old.spare ≤ self.new.spare + 1 }
+        ensures all_spare { (q : Client) → spare_of q self.old ≤ spare_of q self.new + 1 }
     {
         lay_one(&mut self.rows, table, row, content);
     }
@@ -297,7 +311,10 @@ impl Desk {
         ensures listed { changes_of replayer self.new.logs ≡ [] }
         ensures laid { self.new.laid ≡ [] }
         ensures others { (q : Client) → q.0 ≢ 0 → open_of self.new q ≡ open_of self.old q }
+        ensures lists { (q : Client) → q.0 ≢ 0 → changes_of q self.new.logs ≡ changes_of q self.old.logs }
+        ensures rooms { (q : Client) → q.0 ≢ 0 → room_of q self.new.logs ≡ room_of q self.old.logs }
         ensures spare { self.old.spare ≤ self.new.spare }
+        ensures all_spare { (q : Client) → spare_of q self.old ≤ spare_of q self.new }
     {
         self.commit(ClientNo(0));
     }
@@ -310,7 +327,10 @@ impl Desk {
         ensures listed { changes_of replayer self.new.logs ≡ [] }
         ensures laid { self.new.laid ≡ [] }
         ensures others { (q : Client) → q.0 ≢ 0 → open_of self.new q ≡ open_of self.old q }
+        ensures lists { (q : Client) → q.0 ≢ 0 → changes_of q self.new.logs ≡ changes_of q self.old.logs }
+        ensures rooms { (q : Client) → q.0 ≢ 0 → room_of q self.new.logs ≡ room_of q self.old.logs }
         ensures spare { self.old.spare ≤ self.new.spare }
+        ensures all_spare { (q : Client) → spare_of q self.old ≤ spare_of q self.new }
     {
         self.rollback(ClientNo(0));
     }
@@ -325,6 +345,7 @@ impl Desk {
         ensures changes { (q : Client) → open_of self.new q ≡ open_of self.old q }
         ensures laid { self.new.laid ≡ self.old.laid }
         ensures spare { (q : Client) → spare_of q self.old ≤ spare_of q self.new + 1 }
+        ensures room { self.old.spare ≤ self.new.spare + 1 }
     {
         self.rows.open_table(table, key);
     }
@@ -338,6 +359,7 @@ impl Desk {
         ensures changes { (q : Client) → open_of self.new q ≡ open_of self.old q }
         ensures laid { self.new.laid ≡ self.old.laid }
         ensures spare { (q : Client) → spare_of q self.old ≤ spare_of q self.new }
+        ensures room { self.old.spare ≤ self.new.spare }
     {
         self.rows.drop_table(table);
     }

@@ -1,20 +1,23 @@
 //! Laws of rows, transactions and keys. Each does nothing, and states its law for its callers.
-ghost use Rattle.std.specs.Prelude.{◌≡◌, ◌≢◌, ◌⊎◌, ◌++◌, ◌↔◌, ◌==◌, ◌&&◌, ℕ, [], false, filter, flat_map, if◌then◌else◌, IsTrue, List, None, Option, Some, not};
+ghost use Rattle.std.specs.Prelude.{◌≡◌, ◌≢◌, ◌⊎◌, ◌++◌, ◌∷◌, ◌↔◌, ◌==◌, ◌&&◌, ℕ, [], false, filter, flat_map, if◌then◌else◌, map, IsTrue, List, None, Option, Some, not};
+ghost use Rattle.std.specs.Cmp.Lexicographic.{slice_cmp};
 ghost use Rattle.std.specs.List.{AllByRecursion, Contains};
+ghost use Rattle.std.specs.Ordering.{is_gt, is_lt, nat_cmp};
 ghost use Rattle.au_base.specs.declared.cell.Cell.{Cell};
 ghost use Rattle.au_base.specs.declared.numbers.ClientNo.{ClientNo};
 ghost use Rattle.au_base.specs.declared.numbers.RowNo.{RowNo};
 ghost use Rattle.au_base.specs.declared.table.TableName.{TableName};
-ghost use Rattle.au_base.specs.Order.{is_in_order, placed};
+ghost use Rattle.au_base.specs.Order.{fields_before, is_in_order, placed};
 ghost use Rattle.au_base.specs.Sameness.{same_table};
 ghost use Rattle.au_rows.specs.declared.table.Table.{Table};
 ghost use Rattle.au_rows.specs.Held.{HasKey};
 ghost use Rattle.au_txn.specs.declared.change.RowChange.{RowChange};
 ghost use Rattle.au_txn.specs.declared.finals.Final.{Final};
-ghost use Rattle.au_txn.specs.Desks.{Contents, has_name, is_open, key_of, open_of, table_before};
+ghost use Rattle.au_txn.specs.Desks.{Contents, has_name, is_open, key_of, open_of, replayer, table_before};
 ghost use Rattle.au_txn.specs.Finals.{AreFinals};
-ghost use Rattle.au_txn.specs.Keys.{ChangesOne, IsKeyed, IsKeyedDesk, KeysDiffer};
-ghost use Rattle.au_txn.specs.Rows.{Row, are_in_order, is_in, laid_all, row_at, rows_in, with_content};
+ghost use Rattle.au_txn.specs.Keys.{AreDoubled, ChangesOne, Clashes, IsKeyed, IsKeyedDesk, KeysDiffer};
+ghost use Rattle.au_txn.specs.Logs.{changes_of};
+ghost use Rattle.au_txn.specs.Rows.{Row, are_in_order, is_in, laid_all, of_triple, place_of, row_at, rows_in, triple_of, with_content, without};
 ghost use Rattle.au_txn.specs.Transactions.{AreFrom, IsKeyLocked, IsRowLocked, IsUnderOther, MakesKey, laid_over, names_row, names_table, rows_differ, view};
 
 /// Rows in order are what they answer, and stay in order once changes are laid over them.
@@ -99,6 +102,60 @@ pub fn keys_differ_by_points()
         → ((final : Final) (key : List Cell) (other : RowNo) → Contains finals final → final.table ≡ table → HasKey places key (row_at table final.row (laid_all rows finals)) → ¬ IsUnderOther places key table (laid_all rows finals) final.row other)
         → KeysDiffer places table (laid_all rows finals) }
     ensures viewed { (places : List ℕ) (table : TableName) (rows : List Row) → KeysDiffer places table (rows_in table rows) ↔ KeysDiffer places table rows }
+{}
+
+/// Whether keys differ once changes of different rows are made is told before they are: where none
+/// of the changes clashes, keys that differ still do; where one does, two rows have one key then;
+/// and where two rows have one key then that differed before, a change clashes.
+pub fn clashes_are_told_before()
+    ensures stated { (places : List ℕ) (table : TableName) (rows : List Row) (changes : List RowChange) → KeysDiffer places table rows
+        → ¬ Clashes places table rows changes → KeysDiffer places table (laid_over rows changes) }
+    ensures broken { (places : List ℕ) (table : TableName) (rows : List Row) (changes : List RowChange) → IsTrue (rows_differ changes)
+        → Clashes places table rows changes → AreDoubled places table (laid_over rows changes) }
+    ensures traced { (places : List ℕ) (table : TableName) (rows : List Row) (changes : List RowChange) → places ≢ [] → KeysDiffer places table rows
+        → AreDoubled places table (laid_over rows changes) → Clashes places table rows changes }
+    ensures doubled { (places : List ℕ) (table : TableName) (rows : List Row) → places ≢ [] → AreDoubled places table rows → ¬ KeysDiffer places table rows }
+{}
+
+/// A content has one key: what it has at the places of a table's key columns.
+pub fn contents_have_one_key()
+    ensures { (places : List ℕ) (key other : List Cell) (content : Option (List Cell)) → HasKey places key content → HasKey places other content → key ≡ other }
+{}
+
+/// Once a table and its rows are gone, the rows of the other tables answer what they did, in order,
+/// and keys that differed still do.
+pub fn tables_go_with_their_rows()
+    ensures left { (table other : TableName) (number : RowNo) (rows : List Row)
+        → row_at other number (filter (λ row. not (is_in table row)) rows) ≡ (if same_table other table then None else row_at other number rows) }
+    ensures left_ordered { (table : TableName) (rows : List Row) → IsTrue (are_in_order rows) → IsTrue (are_in_order (filter (λ row. not (is_in table row)) rows)) }
+    ensures keys { (places : List ℕ) (table other : TableName) (rows : List Row) → KeysDiffer places other rows → KeysDiffer places other (filter (λ row. not (is_in table row)) rows) }
+{}
+
+/// A client that alone has changes meets no lock: so does whoever lays rows as client 0 while no
+/// other client has a list.
+pub fn lone_clients_meet_no_lock()
+    ensures row { (transactions : ClientNo → List RowChange) (client : ClientNo) (table : TableName) (row : RowNo)
+        → ((other : ClientNo) → other.0 ≢ client.0 → transactions other ≡ []) → ¬ IsRowLocked transactions client table row }
+    ensures key { (places : List ℕ) (transactions : ClientNo → List RowChange) (client : ClientNo) (table : TableName) (key : List Cell)
+        → ((other : ClientNo) → other.0 ≢ client.0 → transactions other ≡ []) → ¬ IsKeyLocked places transactions client table key }
+    ensures replay { (desk : Contents) (table : TableName) (row : RowNo)
+        → ((other : ClientNo) → other.0 ≢ 0 → changes_of other desk.logs ≡ []) → ¬ IsRowLocked (open_of desk) replayer table row }
+{}
+
+/// Rows as triples of table, number and cells: each form gives the other back, and both stand in
+/// the same order. A row that goes, and a table's rows that do, go in both.
+pub fn rows_are_triples()
+    ensures back { (rows : List Row) → map of_triple (map triple_of rows) ≡ rows }
+    ensures forth { (triples : List (TableName × RowNo × List Cell)) → map triple_of (map of_triple triples) ≡ triples }
+    ensures ordered { (rows : List Row) → is_in_order fields_before (map (λ (row : TableName × RowNo × List Cell). place_of row.0 row.1) (map triple_of rows)) ≡ are_in_order rows }
+    ensures gone { (table : TableName) (number : RowNo) (rows : List Row)
+        → map triple_of (without table number rows) ≡ filter (λ (row : TableName × RowNo × List Cell). not (same_table row.0 table && (row.1.0 == number.0))) (map triple_of rows) }
+    ensures left { (table : TableName) (rows : List Row)
+        → map triple_of (filter (λ row. not (is_in table row)) rows) ≡ filter (λ (row : TableName × RowNo × List Cell). not (same_table row.0 table)) (map triple_of rows) }
+    ensures put { (table : TableName) (number : RowNo) (cells : List Cell) (rows : List Row)
+        → map triple_of (with_content table number (Some cells) rows)
+        ≡ filter (λ (row : TableName × RowNo × List Cell). is_lt (slice_cmp (slice_cmp nat_cmp) (place_of row.0 row.1) (place_of table number))) (map triple_of rows)
+        ++ (table, number, cells) ∷ filter (λ (row : TableName × RowNo × List Cell). is_gt (slice_cmp (slice_cmp nat_cmp) (place_of row.0 row.1) (place_of table number))) (map triple_of rows) }
 {}
 
 /// The discipline of keys of a desk: it stands where no client has changes and keys differ, as once

@@ -16,8 +16,9 @@ pub use change::RowChange;
 pub use desk::Desk;
 pub use finals::Final;
 pub use laws::{
-    desks_stay_keyed, finals_settle, keys_differ_by_points, keys_stay, laid_rows_answer,
-    rows_are_what_they_answer, rows_stand_by_tables,
+    clashes_are_told_before, contents_have_one_key, desks_stay_keyed, finals_settle,
+    keys_differ_by_points, keys_stay, laid_rows_answer, lone_clients_meet_no_lock,
+    rows_are_triples, rows_are_what_they_answer, rows_stand_by_tables, tables_go_with_their_rows,
 };
 pub use log::Log;
 pub use view::View;

@@ -134,6 +134,7 @@ pub(crate) fn append_for(logs: &mut Vec<Log>, client: ClientNo, changes: Vec<Row
     ensures own { changes_of client logs.new.items ≡ changes_of client logs.old.items ++ changes.items }
     ensures others { (q : Client) → q.0 ≢ client.0 → changes_of q logs.new.items ≡ changes_of q logs.old.items }
     ensures room { room_of client logs.old.items ≤ room_of client logs.new.items + vec_len changes }
+    ensures rooms { (q : Client) → q.0 ≢ client.0 → room_of q logs.new.items ≡ room_of q logs.old.items }
 {
     if let Some(at) = find_log(logs, client) {
         logs[at].append(changes);
@@ -146,6 +147,7 @@ pub(crate) fn clear_for(logs: &mut Vec<Log>, client: ClientNo)
     ensures own { changes_of client logs.new.items ≡ [] }
     ensures others { (q : Client) → q.0 ≢ client.0 → changes_of q logs.new.items ≡ changes_of q logs.old.items }
     ensures room { room_of client logs.old.items ≤ room_of client logs.new.items }
+    ensures rooms { (q : Client) → q.0 ≢ client.0 → room_of q logs.new.items ≡ room_of q logs.old.items }
 {
     if let Some(at) = find_log(logs, client) {
         logs[at].clear();

@@ -7,7 +7,9 @@
 //! - `put|CLIENT|TABLE|ROW|CELLS`, `gone|CLIENT|TABLE|ROW`: a change of the client
 //! - `two|CLIENT|TABLE|ROW|CELLS|ROW|CELLS`: two changes in one write, `gone` for the cells of a row
 //!   that goes
-//! - `many|CLIENT|TABLE|COUNT`: so many rows, from number 1 on, in one transaction
+//! - `three|CLIENT|TABLE|ROW|CELLS|ROW|CELLS|ROW|CELLS`: three
+//! - `many|CLIENT|TABLE|COUNT`, `many from|CLIENT|TABLE|FIRST|COUNT`: so many rows, from number 1 or
+//!   the first on, in one transaction; `many gone|CLIENT|TABLE|FIRST|COUNT`: so many that go
 //! - `commit|CLIENT`, `roll back|CLIENT`, `forget|CLIENT`
 //! - `lay|TABLE|ROW|CELLS`, `keep laid`, `drop laid`: what replay does as client 0
 //! - `view|CLIENT|TABLE`, `count|CLIENT|TABLE`, `under|CLIENT|TABLE|KEY`,
@@ -18,6 +20,8 @@
 //! A table is its owner and its name with a point between them; cells and places have commas
 //! between them, and `-` is NULL.
 #![tactic(auto)]
+
+ghost use Rattle.std.specs.Prelude.{◌+◌, ◌<◌, ◌^◌};
 
 mod asking;
 mod case;
@@ -56,7 +60,19 @@ fn changed(alloc: Global, desk: &mut Desk, case: &Case<'_>) -> Result<Option<&'s
             let content = content_at(alloc, case, 2)?.map(List::into_vec);
             Ok(Some(changing::lay(desk, &table, row, content)?))
         }
-        "many" => Ok(Some(changing::put_many(alloc, desk, case.client(0)?, case)?)),
+        "three" => Ok(Some(three(alloc, desk, case)?)),
+        "many" => {
+            let rows = (1, case.number(2)?);
+            Ok(Some(changing::change_many(alloc, desk, case, rows, false)?))
+        }
+        "many from" => {
+            let rows = (case.number(2)?, case.number(3)?);
+            Ok(Some(changing::change_many(alloc, desk, case, rows, false)?))
+        }
+        "many gone" => {
+            let rows = (case.number(2)?, case.number(3)?);
+            Ok(Some(changing::change_many(alloc, desk, case, rows, true)?))
+        }
         _ => ended(desk, case),
     }
 }
@@ -69,16 +85,29 @@ fn content_at(alloc: Global, case: &Case<'_>, place: usize) -> Result<Option<Lis
     Ok(Some(case.cells(alloc, place)?))
 }
 
+// The row at a place from 0, and its content behind it.
+fn wanted_at(alloc: Global, case: &Case<'_>, place: usize) -> Result<Wanted, Fault>
+    requires { place + 1 < 2 ^ 64 }
+{
+    Ok(Wanted {
+        row: case.row(place)?,
+        new: content_at(alloc, case, place + 1)?,
+    })
+}
+
+// What comes of three changes in one write.
+fn three(alloc: Global, desk: &mut Desk, case: &Case<'_>) -> Result<&'static str, Fault> {
+    let first = wanted_at(alloc, case, 2)?;
+    let second = wanted_at(alloc, case, 4)?;
+    let third = wanted_at(alloc, case, 6)?;
+    let (client, table) = (case.client(0)?, case.table(alloc, 1)?);
+    changing::change_three(alloc, desk, client, &table, (first, second, third))
+}
+
 // What comes of two changes in one write.
 fn two(alloc: Global, desk: &mut Desk, case: &Case<'_>) -> Result<&'static str, Fault> {
-    let first = Wanted {
-        row: case.row(2)?,
-        new: content_at(alloc, case, 3)?,
-    };
-    let second = Wanted {
-        row: case.row(4)?,
-        new: content_at(alloc, case, 5)?,
-    };
+    let first = wanted_at(alloc, case, 2)?;
+    let second = wanted_at(alloc, case, 4)?;
     let (client, table) = (case.client(0)?, case.table(alloc, 1)?);
     changing::change_two(alloc, desk, client, table, (first, second))
 }

@@ -1,12 +1,15 @@
-use Rattle.std.proofs.Common.{◌≡◌, ◌∙◌, ℕ, ap, sym, filter, length, map, set, subst, None, arith}
+use Rattle.std.proofs.Common.{◌≡◌, ◌∙◌, ℕ, ap, sym, filter, length, map, nat_eq, set, subst, List, Option, None, arith}
+use Rattle.indexmap.specs.IndexMap.{get}
 use Rattle.std.specs.List.{count_by}
 use Rattle.au_base.specs.declared.numbers.RowNo.{RowNo}
 use Rattle.au_rows.specs.Held.{is_elsewhere, number_of, owner_of}
-use Rattle.au_rows.specs.Kept.{held_of, place_elsewhere, place_shown}
+use Rattle.au_rows.specs.declared.table.Table.{Table}
+use Rattle.au_rows.specs.Kept.{AreKnown, held_of, place_elsewhere, place_shown}
 use Rattle.au_rows.proofs.ApartLemmas.{apart-gone}
 use Rattle.au_rows.proofs.DropLemmas.{all-same-contents, count-filter, gone-changes, gone-held, gone-open, gone-sound, shorter}
 use Rattle.au_rows.proofs.IndexLemmas.{indexed-gone}
-use Rattle.au_rows.proofs.PutLemmas.{spare-kept}
+use Rattle.au_rows.proofs.KnownLemmas.{known-gone}
+use Rattle.au_rows.proofs.PutLemmas.{spare-gone}
 use Rattle.au_rows.proofs.rows.Rows.drop_table.Goals as goal
 
 pub invariant_of-self : goal.invariant_of-self
@@ -25,6 +28,7 @@ invariant_of-self c =
           (gone-sound c.number_of-number.result c.self.inside.versions.slots c.drop_rows.new.versions.slots c.drop_rows.ensures.others places c.self.inside.unsettled.listed c.self.invariant.0 settled_here c.drop_rows.ensures.frees c.drop_rows.ensures.freed)
           (gone-open c.number_of-number.result c.self.inside.tables.items places c.self.invariant.1) c.drop_rows.ensures.frees c.self.invariant.3,
       apart-gone c.self.inside.tables.items c.number_of-number.result c.self.invariant.4,
+      subst (λ (tables : List (Option Table)). AreKnown tables (get nat_eq c.forget_name.new.guesses.numbers)) c.deref-2.ensures.value c.forget_name.ensures.known,
     )
 
 pub returns-clause-rest : goal.returns-clause-rest
@@ -48,4 +52,10 @@ returns-clause-spare c =
     let counted = ap (count_by place_shown) c.drop_rows.ensures.items in
     let short = shorter (place_elsewhere c.number_of-number.result) places in
     let kept = ap length c.drop_rows.ensures.items in
-    rw (← c.self.view_is) (spare-kept _ _ _ _ _ _ _ _ _ _ _ _ (omega arith) (omega arith) c.drop_rows.ensures.room (omega arith))
+    rw (← c.self.view_is) (spare-gone _ _ _ _ _ _ _ _ _ _ _ _ _ c.forget_name.ensures.room (omega arith) (omega arith) c.drop_rows.ensures.room (omega arith))
+
+pub forget_name-requires : goal.forget_name-requires
+forget_name-requires c = record {
+  known = subst (λ (tables : List (Option Table)). AreKnown tables (get nat_eq c.self.inside.guesses.numbers)) (sym c.deref-2.ensures.value)
+      (known-gone c.self.inside.tables.items c.number_of-number.result (get nat_eq c.self.inside.guesses.numbers) c.self.invariant.5);
+}

@@ -45,6 +45,7 @@ invariant_of-self c =
       omega arith,
       c.self.invariant.3,
       c.self.invariant.4,
+      c.self.invariant.5,
     )
 
 pub returns-clause-rest : goal.returns-clause-rest

@@ -1,9 +1,11 @@
-use Rattle.std.proofs.Common.{◌∙◌, ◌≤◌, ℕ, ap, filter, length, map, arith}
+use Rattle.std.proofs.Common.{◌∙◌, ◌≤◌, ℕ, ap, cond, filter, length, map, nat_eq, arith, Some}
+use Rattle.indexmap.specs.IndexMap.{get}
 use Rattle.au_rows.specs.declared.table.Table.{Table}
 use Rattle.au_rows.specs.Held.{is_of, number_of}
 use Rattle.au_rows.specs.Kept.{held_of}
 use Rattle.au_rows.proofs.ApartLemmas.{apart-open}
 use Rattle.au_rows.proofs.IndexLemmas.{indexed-open}
+use Rattle.au_rows.proofs.KnownLemmas.{known-open}
 use Rattle.au_rows.proofs.TableLemmas.{all-open, named-there, none-of, is-its-name}
 use Rattle.au_rows.proofs.rows.Rows.open_table.Goals as goal
 
@@ -17,6 +19,8 @@ invariant_of-self c =
       c.self.invariant.2,
       indexed-open c.self.inside.tables.items (record { name = c.args.table; key = c.from_vec-key.result }) c.self.inside.places.items c.self.inside.versions.slots c.self.inside.unsettled.listed c.self.invariant.0 c.self.invariant.1 c.self.invariant.3,
       apart-open c.self.inside.tables.items (record { name = c.args.table; key = c.from_vec-key.result }) c.self.invariant.4 none,
+      known-open c.self.inside.tables.items (record { name = c.args.table; key = c.from_vec-key.result }) (get nat_eq c.self.inside.guesses.numbers) (get nat_eq c.insert.new.self.numbers) c.add_table-number.result c.self.invariant.5
+          (λ hash. c.insert.ensures.numbers hash ∙ ap (λ (h : ℕ). cond (nat_eq h hash) (Some c.add_table-number.result) (get nat_eq c.self.inside.guesses.numbers hash)) c.name_hash-name.ensures),
     )
 
 pub returns-clause-empty : goal.returns-clause-empty

@@ -30,6 +30,7 @@ invariant_of-self c =
       omega arith,
       indexed-put tables c.self.inside.versions.slots c.insert-slot.new.self.slots c.insert-slot.result _ puts hash c.self.invariant.3,
       c.self.invariant.4,
+      c.self.invariant.5,
     )
 
 pub returns-clause-rest : goal.returns-clause-rest
