@@ -21,4 +21,5 @@ pub mod Statements
 pub mod Symbols
 pub mod TableStatements
 pub mod Tables
+pub mod Trees
 pub mod UserStatements
