@@ -3,7 +3,7 @@ use Rattle.std.proofs.Common.{◌≡◌, ℕ, zero, suc, ◌+◌, ◌≤◌, Lis
 use Rattle.std.specs.Prelude.{◌↔◌}
 use Rattle.sql_lex.specs.declared.token.Kind.{Kind}
 use Rattle.sql_lex.specs.declared.token.Token.{Token}
-use Rattle.sql_lex.specs.Scan.{gap, lexeme}
+use Rattle.sql_lex.specs.descent.Scan.{gap, lexeme}
 use Rattle.sql_lex.specs.Tokens as g
 use Rattle.sql_lex.specs.Tokens.{AreTokens, IsGap, LeadsTo, Spells, StartsGap, StartsNoGap, StartsToken}
 use Rattle.sql_lex.specs.descent.Cutting as cut

@@ -8,7 +8,7 @@ use Rattle.sql_lex.specs.descent.Cutting.{tokens_of}
 use Rattle.sql_ast.specs.declared.expression.Expr.{Expr}
 use Rattle.sql_parse.specs.Symbols.{kinds}
 use Rattle.sql_parse.specs.Conditions.{HasNoCondition, ReadsCondition}
-use Rattle.sql_parse.specs.Answers.{condition}
+use Rattle.sql_parse.specs.descent.Answers.{condition}
 use Rattle.sql_parse.specs.Trees.{or_null, tree_of, tree_or_null}
 use Rattle.sql_parse.proofs.Exact.{bind_some}
 use Rattle.sql_parse.proofs.ConditionLaws.{condition_is, condition_read}

@@ -4,8 +4,8 @@ use Rattle.sql_lex.specs.descent.Cutting.{tokens_of}
 use Rattle.sql_ast.specs.declared.expression.Expr.{Expr}
 use Rattle.sql_ast.specs.declared.expression.Expr.TheVariants.{Null}
 use Rattle.sql_parse.specs.Symbols.{kinds}
-use Rattle.sql_parse.specs.Reading.{◌>>=◌}
-use Rattle.sql_parse.specs.Answers.{condition}
+use Rattle.sql_parse.specs.descent.Reading.{◌>>=◌}
+use Rattle.sql_parse.specs.descent.Answers.{condition}
 
 -- The tree that a text is read as, where it is one condition by itself, in which no more than 100 parentheses are open at
 -- once, or else none. `ReadsCondition` says what that is; `tree_is_condition` is the law that both agree, in both directions.

@@ -2,11 +2,11 @@
 ghost use Rattle.std.specs.Prelude.{◌≡◌, ◌↔◌, ◌^◌, ◌<◌, List, ℕ, Some, None, IfOk, MatchOption, length};
 ghost use Rattle.sql_ast.specs.declared.expression.Expr.{Expr};
 ghost use Rattle.sql_parse.specs.Symbols.{kinds};
-ghost use Rattle.sql_parse.specs.Reading.{Gives};
+ghost use Rattle.sql_parse.specs.descent.Reading.{Gives};
 ghost use Rattle.sql_parse.specs.Conditions.{HasNoCondition, IsCondition, ReadsCondition};
 ghost use Rattle.sql_parse.specs.Conditions as spec;
 ghost use Rattle.sql_parse.specs.Trees.{tree_of, tree_or_null};
-ghost use Rattle.sql_parse.specs.Answers as answers;
+ghost use Rattle.sql_parse.specs.descent.Answers as answers;
 
 use crate::cursor::all_of;
 use crate::expression::cond;

@@ -3,7 +3,7 @@
 use Rattle.std.specs.Prelude.{ℕ, zero, suc, ◌+◌, ◌-◌, List, [], ◌∷◌, length, Option, Some, None}
 use Rattle.sql_lex.specs.declared.token.Kind.{Kind}
 use Rattle.sql_lex.specs.declared.token.Token.{Token}
-use Rattle.sql_lex.specs.Scan.{gap, lexeme}
+use Rattle.sql_lex.specs.descent.Scan.{gap, lexeme}
 
 -- the place behind the bytes that stand before these
 abbrev pub place_behind : ℕ → List ℕ → List ℕ → ℕ
