@@ -3,7 +3,7 @@ use Rattle.std.proofs.Common.{◌≡◌, ℕ, Bool, true, false, cond, ◌&&◌,
 use Rattle.std.specs.Prelude.{◌⊎◌}
 use Rattle.std.proofs.lemmas.Bool.{eqb-true}
 use Rattle.sql_lex.specs.Bytes.{begins_with}
-use Rattle.sql_lex.specs.Scan.{behind}
+use Rattle.sql_lex.specs.descent.Scan.{behind}
 
 abbrev pub given : {A : Type 0} → A → Option A
 given x = Some x

@@ -6,7 +6,7 @@ use Rattle.std.proofs.lemmas.Bool.Decides.{nat_tests}
 use Rattle.std.proofs.lemmas.Str.{IsUtf8-from_is_utf8, is_utf8-from_IsUtf8}
 use Rattle.au_base.specs.Naming.{IsName}
 use Rattle.sql_lex.specs.Bytes.{is_digit, is_letter, is_word_byte}
-use Rattle.sql_lex.specs.Scan.{is_name}
+use Rattle.sql_lex.specs.descent.Scan.{is_name}
 use Rattle.sql_lex.proofs.Choices.{both}
 
 pub at_most : (a b : ℕ) → nat_le a b ≡ true → a ≤ b

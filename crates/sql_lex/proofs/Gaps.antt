@@ -6,8 +6,8 @@ use Rattle.std.proofs.lemmas.Bool.{eqb-true}
 use Rattle.std.proofs.lemmas.List.{take_at, drop_at, take-append-drop}
 use Rattle.std.proofs.lemmas.Str.{IsUtf8-from_is_utf8, is_utf8-from_IsUtf8}
 use Rattle.sql_lex.specs.Bytes.{is_blank, is_line_byte, begins_with}
-use Rattle.sql_lex.specs.Scan as read
-use Rattle.sql_lex.specs.Scan.{behind}
+use Rattle.sql_lex.specs.descent.Scan as read
+use Rattle.sql_lex.specs.descent.Scan.{behind}
 use Rattle.sql_lex.specs.Tokens as g
 use Rattle.sql_lex.specs.Tokens.{has_no_end, StartsGap, StartsNoGap, IsGap}
 use Rattle.sql_lex.proofs.Choices.{given, some_is, chosen, guard, both, begins_is}

@@ -11,8 +11,8 @@ use Rattle.au_base.specs.Naming.{IsName}
 use Rattle.sql_lex.specs.declared.token.Kind.{Kind}
 use Rattle.sql_lex.specs.declared.token.Kind.TheVariants as kind
 use Rattle.sql_lex.specs.Bytes.{is_digit, is_letter, is_quotable, is_word_byte, begins, begins_with}
-use Rattle.sql_lex.specs.Scan as read
-use Rattle.sql_lex.specs.Scan.{behind, front, past, is_name}
+use Rattle.sql_lex.specs.descent.Scan as read
+use Rattle.sql_lex.specs.descent.Scan.{behind, front, past, is_name}
 use Rattle.sql_lex.specs.Tokens as g
 use Rattle.sql_lex.specs.Tokens.{doubled, Spells, StartsToken, StartsNoToken}
 use Rattle.sql_lex.proofs.Choices.{given, some_is, chosen, guard, guard_not, begins_is}

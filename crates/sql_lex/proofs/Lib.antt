@@ -8,3 +8,4 @@ pub mod Marks
 pub mod Lexemes
 pub mod Leading
 pub mod Unique
+pub mod Cutting

@@ -7,7 +7,7 @@ use Rattle.sql_lex.specs.declared.token.Kind.TheVariants as kind
 use Rattle.sql_lex.specs.declared.token.Mark.{Mark}
 use Rattle.sql_lex.specs.declared.token.Mark.TheVariants as mark
 use Rattle.sql_lex.specs.Bytes.{begins, begins_with}
-use Rattle.sql_lex.specs.Scan as read
+use Rattle.sql_lex.specs.descent.Scan as read
 use Rattle.sql_lex.specs.Tokens as g
 use Rattle.sql_lex.specs.Tokens.{lengthens, spelling, StartsToken}
 use Rattle.sql_lex.proofs.Choices.{given, some_is, chosen, guard, guard_not, both}

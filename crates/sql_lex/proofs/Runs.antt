@@ -3,7 +3,7 @@ use Rattle.std.proofs.Common.{◌≡◌, ℕ, Bool, true, false, cond, List, [],
 use Rattle.std.specs.List.{list_all, prefix_len}
 use Rattle.std.proofs.lemmas.List.{take_at, drop_at}
 use Rattle.sql_lex.specs.Bytes.{begins}
-use Rattle.sql_lex.specs.Scan.{front, past}
+use Rattle.sql_lex.specs.descent.Scan.{front, past}
 use Rattle.sql_lex.specs.Tokens.{IsRun}
 use Rattle.sql_lex.proofs.Choices.{both}
 

@@ -1,3 +1,3 @@
 pub mod Bytes
-pub mod Scan
 pub mod Tokens
+pub mod descent

@@ -1,6 +1,6 @@
 //! What parts tokens: blanks and comments.
 ghost use Rattle.std.specs.Prelude.{◌≡◌, ◌+◌, Some, None, MatchOption, IfSome, ◌≤◌, length};
-ghost use Rattle.sql_lex.specs.Scan as spec;
+ghost use Rattle.sql_lex.specs.descent.Scan as spec;
 ghost use Rattle.sql_lex.specs.Tokens.{StartsGap, StartsNoGap};
 
 use crate::run::{begins_with, behind, is_blank, is_utf8, split_line};
@@ -15,7 +15,7 @@ pub fn past_gap(bytes: &[u8]) -> Option<&[u8]>
     }
 }
 
-#[tactic(auto, unfolding(crate::specs::Scan::gap))]
+#[tactic(auto, unfolding(crate::specs::descent::Scan::gap))]
 fn gap(bytes: &[u8]) -> Option<&[u8]>
     ensures { MatchOption result (spec.gap bytes.now ≡ None) (λ rest. spec.gap bytes.now ≡ Some rest.now) }
 {
@@ -34,7 +34,7 @@ fn gap(bytes: &[u8]) -> Option<&[u8]>
 }
 
 // What stands behind a comment whose `--` came before.
-#[tactic(auto, unfolding(crate::specs::Scan::line))]
+#[tactic(auto, unfolding(crate::specs::descent::Scan::line))]
 fn line(bytes: &[u8]) -> Option<&[u8]>
     ensures { MatchOption result (spec.line bytes.now ≡ None) (λ rest. spec.line bytes.now ≡ Some rest.now) }
 {
@@ -43,7 +43,7 @@ fn line(bytes: &[u8]) -> Option<&[u8]>
 }
 
 // What stands behind a comment whose `/*` came before.
-#[tactic(auto, unfolding(crate::specs::Scan::block))]
+#[tactic(auto, unfolding(crate::specs::descent::Scan::block))]
 fn block(bytes: &[u8]) -> Option<&[u8]>
     ensures { MatchOption result (spec.block bytes.now ≡ None) (λ rest. spec.block bytes.now ≡ Some rest.now) }
 {
@@ -60,7 +60,7 @@ fn block(bytes: &[u8]) -> Option<&[u8]>
 }
 
 // How many bytes stand before the first `*/`.
-#[tactic(auto, unfolding(crate::specs::Scan::comment_len))]
+#[tactic(auto, unfolding(crate::specs::descent::Scan::comment_len))]
 fn comment_len(bytes: &[u8]) -> Option<usize>
     ensures value { result ≡ spec.comment_len 0 bytes.now }
     ensures inside { IfSome result (λ len. len + 2 ≤ length bytes.now) }

@@ -3,7 +3,7 @@ ghost use Rattle.std.specs.Prelude.{◌≡◌, ◌^◌, ◌<◌, ◌≤◌, true
 ghost use Rattle.std.specs.List.{list_all};
 ghost use Rattle.std.specs.Str.Parse.{digits_value};
 ghost use Rattle.sql_lex.specs.Bytes as class;
-ghost use Rattle.sql_lex.specs.Scan as spec;
+ghost use Rattle.sql_lex.specs.descent.Scan as spec;
 ghost use Rattle.sql_lex.specs.Tokens.{StartsNoToken, StartsToken};
 
 use crate::mark::mark_at;
@@ -26,7 +26,7 @@ pub fn token_at(alloc: Global, bytes: &[u8]) -> Result<Option<(Kind, &[u8])>, Me
     }
 }
 
-#[tactic(auto, unfolding(crate::specs::Scan::lexeme))]
+#[tactic(auto, unfolding(crate::specs::descent::Scan::lexeme))]
 fn lexeme(alloc: Global, bytes: &[u8]) -> Result<Option<(Kind, &[u8])>, Memory>
     ensures { IfOk result (λ found. MatchOption found (spec.lexeme bytes.now ≡ None) (λ x. spec.lexeme bytes.now ≡ Some (x.0, x.1.now))) }
 {
@@ -46,7 +46,7 @@ fn lexeme(alloc: Global, bytes: &[u8]) -> Result<Option<(Kind, &[u8])>, Memory>
     }
 }
 
-#[tactic(auto, unfolding(crate::specs::Scan::word))]
+#[tactic(auto, unfolding(crate::specs::descent::Scan::word))]
 fn word(alloc: Global, bytes: &[u8]) -> Result<Option<(Kind, &[u8])>, Memory>
     ensures { IfOk result (λ found. MatchOption found (spec.word bytes.now ≡ None) (λ x. spec.word bytes.now ≡ Some (x.0, x.1.now))) }
 {
@@ -60,7 +60,7 @@ fn word(alloc: Global, bytes: &[u8]) -> Result<Option<(Kind, &[u8])>, Memory>
 }
 
 // A name whose first `"` came before.
-#[tactic(auto, unfolding(crate::specs::Scan::quoted))]
+#[tactic(auto, unfolding(crate::specs::descent::Scan::quoted))]
 fn quoted(alloc: Global, bytes: &[u8]) -> Result<Option<(Kind, &[u8])>, Memory>
     ensures { IfOk result (λ found. MatchOption found (spec.quoted bytes.now ≡ None) (λ x. spec.quoted bytes.now ≡ Some (x.0, x.1.now))) }
 {
@@ -74,7 +74,7 @@ fn quoted(alloc: Global, bytes: &[u8]) -> Result<Option<(Kind, &[u8])>, Memory>
     }
 }
 
-#[tactic(auto, unfolding(crate::specs::Scan::number))]
+#[tactic(auto, unfolding(crate::specs::descent::Scan::number))]
 fn number(bytes: &[u8]) -> Option<(Kind, &[u8])>
     ensures { MatchOption result (spec.number bytes.now ≡ None) (λ x. spec.number bytes.now ≡ Some (x.0, x.1.now)) }
 {
@@ -105,7 +105,7 @@ fn value_of(digits: &[u8]) -> Option<i64>
 }
 
 // A text whose first quote came before.
-#[tactic(auto, unfolding(crate::specs::Scan::literal))]
+#[tactic(auto, unfolding(crate::specs::descent::Scan::literal))]
 fn literal(alloc: Global, bytes: &[u8]) -> Result<Option<(Kind, &[u8])>, Memory>
     ensures { IfOk result (λ found. MatchOption found (spec.literal bytes.now ≡ None) (λ x. spec.literal bytes.now ≡ Some (x.0, x.1.now))) }
 {
@@ -130,7 +130,7 @@ fn text_before<'t>(
 }
 
 // The bytes up to the closing quote, with one quote for two, and what stands behind it.
-#[tactic(auto, unfolding(crate::specs::Scan::quoting))]
+#[tactic(auto, unfolding(crate::specs::descent::Scan::quoting))]
 fn quoting(alloc: Global, mut bytes: &[u8]) -> Result<Option<(Vec<u8>, &[u8])>, Memory>
     ensures { IfOk result (λ found. MatchOption found (spec.quoting false [] bytes.entry.now ≡ None)
         (λ x. spec.quoting false [] bytes.entry.now ≡ Some (x.0.items, x.1.now))) }

@@ -8,5 +8,5 @@ mod run;
 mod scan;
 mod token;
 
-pub use scan::{one_way, tokens};
+pub use scan::{cut_as_told, one_way, tokens};
 pub use token::{Kind, LexFault, Mark, Token};

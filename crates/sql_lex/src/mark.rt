@@ -1,13 +1,13 @@
 //! Marks.
 ghost use Rattle.std.specs.Prelude.{◌≡◌, Some, None, MatchOption};
-ghost use Rattle.sql_lex.specs.Scan as spec;
+ghost use Rattle.sql_lex.specs.descent.Scan as spec;
 
 use crate::run::{begins_with, behind};
 use crate::token::{Kind, Mark};
 
 /// The longest mark of a byte and those behind it, and what stands behind the mark. `--` begins a
 /// comment and is none.
-#[tactic(auto, unfolding(crate::specs::Scan::mark_at))]
+#[tactic(auto, unfolding(crate::specs::descent::Scan::mark_at))]
 pub fn mark_at(first: u8, rest: &[u8]) -> Option<(Kind, &[u8])>
     ensures { MatchOption result (spec.mark_at first rest.now ≡ None) (λ x. spec.mark_at first rest.now ≡ Some (x.0, x.1.now)) }
 {
@@ -32,7 +32,7 @@ fn double_at(first: u8, rest: &[u8]) -> Option<Mark>
     }
 }
 
-#[tactic(auto, unfolding(crate::specs::Scan::double_mark))]
+#[tactic(auto, unfolding(crate::specs::descent::Scan::double_mark))]
 fn double_mark(first: u8, second: u8) -> Option<Mark>
     ensures { result ≡ spec.double_mark first second }
 {
@@ -46,7 +46,7 @@ fn double_mark(first: u8, second: u8) -> Option<Mark>
     }
 }
 
-#[tactic(auto, unfolding(crate::specs::Scan::single_mark))]
+#[tactic(auto, unfolding(crate::specs::descent::Scan::single_mark))]
 fn single_mark(byte: u8) -> Option<Mark>
     ensures { result ≡ spec.single_mark byte }
 {

@@ -3,7 +3,7 @@ ghost use Rattle.std.specs.Prelude.{◌≡◌};
 ghost use Rattle.std.specs.List.{prefix_len};
 ghost use Rattle.std.specs.Str as utf8;
 ghost use Rattle.sql_lex.specs.Bytes as class;
-ghost use Rattle.sql_lex.specs.Scan as spec;
+ghost use Rattle.sql_lex.specs.descent.Scan as spec;
 
 use std::str;
 

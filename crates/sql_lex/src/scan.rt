@@ -1,7 +1,8 @@
 //! A whole text.
-ghost use Rattle.std.specs.Prelude.{◌≡◌, List, ℕ, ◌^◌, ◌<◌, length, IfOk, MatchResult};
+ghost use Rattle.std.specs.Prelude.{◌≡◌, ◌↔◌, List, ℕ, ◌^◌, ◌<◌, length, IfOk, MatchResult, Some, None};
 ghost use Rattle.sql_lex.specs.declared.token.Token.{Token};
 ghost use Rattle.sql_lex.specs.Tokens.{AreTokens, IsStuckAt, StandInOrder};
+ghost use Rattle.sql_lex.specs.descent.Cutting.{tokens_of};
 
 use crate::gap::past_gap;
 use crate::lexeme::token_at;
@@ -44,4 +45,10 @@ pub fn one_way()
     ensures tokens { (text : List ℕ) (ts us : List Token) → AreTokens text ts → AreTokens text us → ts ≡ us }
     ensures fault { (text : List ℕ) (place : ℕ) (ts : List Token) → IsStuckAt text place → ¬ (AreTokens text ts) }
     ensures places { (text : List ℕ) (ts : List Token) → AreTokens text ts → StandInOrder 0 ts (length text) }
+{}
+
+/// `tokens_of` gives the tokens that a text is, and none where it has none.
+pub fn cut_as_told()
+    ensures some { (text : List ℕ) (ts : List Token) → (tokens_of text ≡ Some ts) ↔ AreTokens text ts }
+    ensures none { (text : List ℕ) → (tokens_of text ≡ None) ↔ ((ts : List Token) → ¬ (AreTokens text ts)) }
 {}

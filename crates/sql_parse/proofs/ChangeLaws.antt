@@ -13,10 +13,10 @@ use Rattle.sql_parse.specs.Rules.{After, after, Before, Optional, Parted}
 use Rattle.sql_parse.specs.Expressions.{Cond, Sum}
 use Rattle.sql_parse.specs.Tables as rules
 use Rattle.sql_parse.specs.Changes as g
-use Rattle.sql_parse.specs.Reading as read
-use Rattle.sql_parse.specs.Reading.{◌>>=◌, under, behind, expect}
-use Rattle.sql_parse.specs.ReadTables as tables
-use Rattle.sql_parse.specs.ReadChanges as changes
+use Rattle.sql_parse.specs.descent.Reading as read
+use Rattle.sql_parse.specs.descent.Reading.{◌>>=◌, under, behind, expect}
+use Rattle.sql_parse.specs.descent.ReadTables as tables
+use Rattle.sql_parse.specs.descent.ReadChanges as changes
 use Rattle.sql_parse.proofs.Exact.{bind_some, under_some, expect_is, Exact, Above, parted_exact}
 use Rattle.sql_parse.proofs.Follow.{OneOf, unseen, above, WHERE, LAST, Anywhere, clause_first, clause_sound, clause_complete, past_sound, past_complete, closed_exact}
 use Rattle.sql_parse.proofs.TableLaws.{name_exact, names_exact, NoComma, table_exact, table_unseen}

@@ -3,14 +3,14 @@ use Rattle.std.proofs.Common.{◌≡◌, List, [], ◌∷◌, Option, Some, None
 use Rattle.sql_lex.specs.declared.token.Kind.{Kind}
 use Rattle.sql_ast.specs.declared.expression.Expr.{Expr}
 use Rattle.sql_parse.specs.Expressions.{Within}
-use Rattle.sql_parse.specs.Reading as read
+use Rattle.sql_parse.specs.descent.Reading as read
 use Rattle.std.specs.Prelude.{ℕ, Result, Ok, Err, IfOk, MatchOption}
 use Rattle.au_base.specs.declared.memory.Memory.{Memory}
 use Rattle.sql_lex.specs.declared.token.Token.{Token}
 use Rattle.sql_lex.specs.Tokens.{AreTokens}
 use Rattle.sql_parse.specs.Symbols.{kinds}
 use Rattle.sql_parse.specs.Conditions.{HasNoCondition, IsCondition, ReadsCondition, limit, opens_few}
-use Rattle.sql_parse.specs.Answers.{condition}
+use Rattle.sql_parse.specs.descent.Answers.{condition}
 use Rattle.sql_parse.proofs.Exact.{some_is, given, guard}
 use Rattle.sql_parse.proofs.ExpressionLaws.{cond_exact, inside_exact}
 use Rattle.sql_parse.proofs.Depth.{at_limit}

@@ -10,8 +10,8 @@ use Rattle.sql_lex.specs.declared.token.Mark.{Mark as MarkName}
 use Rattle.sql_lex.specs.declared.token.Mark.TheVariants as mark
 use Rattle.sql_parse.specs.Symbols.{mark_number, same, sees, level, level_at}
 use Rattle.sql_parse.specs.Rules.{After, after, Many, none, more, Parted, parted}
-use Rattle.sql_parse.specs.Reading as read
-use Rattle.sql_parse.specs.Reading.{◌>>=◌, under, behind, many}
+use Rattle.sql_parse.specs.descent.Reading as read
+use Rattle.sql_parse.specs.descent.Reading.{◌>>=◌, under, behind, many}
 
 -- the value of a step that gave one
 pub bind_some : {A B : Type 0} (o : Option A) (f : A → Option B) (y : B) → (o >>= f) ≡ Some y → (x : A) × (o ≡ Some x) × (f x ≡ Some y)

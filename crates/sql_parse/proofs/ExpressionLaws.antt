@@ -12,13 +12,13 @@ use Rattle.sql_ast.specs.declared.expression.Relation.TheVariants as relation
 use Rattle.std.specs.Prelude.{◌&&◌, ◌⊎◌}
 use Rattle.sql_lex.specs.declared.token.Mark.{Mark as MarkName}
 use Rattle.sql_lex.specs.declared.token.Mark.TheVariants as mark
-use Rattle.sql_parse.specs.MomentReading.{moment_read}
+use Rattle.sql_parse.specs.descent.MomentReading.{moment_read}
 use Rattle.sql_parse.proofs.MomentLaws.{moment_sound, moment_complete}
 use Rattle.sql_parse.specs.Symbols.{mark_number, same, sees, opening, closing, star, plus, comma, minus, dot, is_free, is_reserved, level, level_at}
 use Rattle.sql_parse.specs.Rules.{Parted, parted}
 use Rattle.sql_parse.specs.Expressions as g
-use Rattle.sql_parse.specs.Reading as read
-use Rattle.sql_parse.specs.Reading.{◌>>=◌, under, behind, expect}
+use Rattle.sql_parse.specs.descent.Reading as read
+use Rattle.sql_parse.specs.descent.Reading.{◌>>=◌, under, behind, expect}
 use Rattle.sql_parse.proofs.Exact.{bind_some, under_some, some_is, same_is, mark_is, chosen, guard, guard_not, sees_is, expect_is, not_seen, Exact, Above, Repeats, parted_exact, many_sound, many_complete, many_follows, many_shorter}
 
 -- ---- names

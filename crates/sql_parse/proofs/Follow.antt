@@ -7,9 +7,9 @@ use Rattle.sql_lex.specs.declared.token.Kind.{Kind}
 use Rattle.sql_lex.specs.declared.token.Kind.TheVariants.{Word}
 use Rattle.sql_parse.specs.Symbols.{same, sees, closing, semicolon, level}
 use Rattle.sql_parse.specs.Rules.{After, after, Before, before, Maybe, without, written, Optional, absent, present}
-use Rattle.sql_parse.specs.Reading as read
-use Rattle.sql_parse.specs.Reading.{◌>>=◌, under, behind, expect, name_of}
-use Rattle.sql_parse.specs.ReadTables.{clause, closed, past}
+use Rattle.sql_parse.specs.descent.Reading as read
+use Rattle.sql_parse.specs.descent.Reading.{◌>>=◌, under, behind, expect, name_of}
+use Rattle.sql_parse.specs.descent.ReadTables.{clause, closed, past}
 use Rattle.sql_parse.proofs.Exact.{bind_some, under_some, some_is, chosen, same_is, sees_is, expect_is, Exact, Above}
 
 -- nothing comes next, or one of these tokens

@@ -9,4 +9,5 @@ pub mod QueryLaws
 pub mod RowStatementDepth
 pub mod RowStatementLaws
 pub mod TableLaws
+pub mod TreeLaws
 pub mod Turns

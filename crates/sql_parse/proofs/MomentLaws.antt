@@ -7,7 +7,7 @@ use Rattle.std.proofs.lemmas.Slice.Eq.{bytes_eq-Decides}
 use Rattle.au_base.specs.declared.calendar.Civil.{Civil}
 use Rattle.au_base.specs.Calendar.{IsCivil, moment_of, month_days}
 use Rattle.au_base.specs.Moments.{TellsMoment, TellsNoMoment, fraction_of, front}
-use Rattle.sql_parse.specs.MomentReading.{moment_read, moment_at, civil_in, civil_with, is_civil}
+use Rattle.sql_parse.specs.descent.MomentReading.{moment_read, moment_at, civil_in, civil_with, is_civil}
 
 some_is : {A : Type 0} (x y : A) → Some x ≡ Some y → x ≡ y
 some_is x y e = cc

@@ -21,11 +21,11 @@ use Rattle.sql_parse.specs.Rules.{After, after, Many, Maybe, without, written, O
 use Rattle.sql_parse.specs.Expressions.{Cond, IsName, Sum, quoted, word}
 use Rattle.sql_parse.specs.Tables as rules
 use Rattle.sql_parse.specs.Queries as g
-use Rattle.sql_parse.specs.Reading as read
-use Rattle.sql_parse.specs.Reading.{◌>>=◌, under, behind, expect}
-use Rattle.sql_parse.specs.ReadTables as tables
-use Rattle.sql_parse.specs.ReadChanges as changes
-use Rattle.sql_parse.specs.ReadQueries as queries
+use Rattle.sql_parse.specs.descent.Reading as read
+use Rattle.sql_parse.specs.descent.Reading.{◌>>=◌, under, behind, expect}
+use Rattle.sql_parse.specs.descent.ReadTables as tables
+use Rattle.sql_parse.specs.descent.ReadChanges as changes
+use Rattle.sql_parse.specs.descent.ReadQueries as queries
 use Rattle.sql_parse.proofs.Exact.{bind_some, under_some, some_is, given, chosen, sees_is, expect_is, Exact, Above, Repeats, parted_exact, many_sound, many_complete, many_follows}
 use Rattle.sql_parse.proofs.Follow.{OneOf, unseen, above, no_name, WHERE, ORDER, LAST, clause_first, clause_sound, clause_complete, past_sound}
 use Rattle.sql_parse.proofs.TableLaws.{qualified_exact, AliasEnds, alias_sound, aliased_exact, name_unseen}

@@ -12,14 +12,14 @@ use Rattle.sql_parse.specs.Expressions.{Within}
 use Rattle.sql_parse.specs.Changes as change
 use Rattle.sql_parse.specs.Queries as query
 use Rattle.sql_parse.specs.RowStatements as g
-use Rattle.sql_parse.specs.Reading as read
-use Rattle.sql_parse.specs.Reading.{under, behind}
-use Rattle.sql_parse.specs.ReadTables.{past}
-use Rattle.sql_parse.specs.ReadChanges as changes
-use Rattle.sql_parse.specs.ReadQueries as queries
-use Rattle.sql_parse.specs.ReadStatements as statements
+use Rattle.sql_parse.specs.descent.Reading as read
+use Rattle.sql_parse.specs.descent.Reading.{under, behind}
+use Rattle.sql_parse.specs.descent.ReadTables.{past}
+use Rattle.sql_parse.specs.descent.ReadChanges as changes
+use Rattle.sql_parse.specs.descent.ReadQueries as queries
+use Rattle.sql_parse.specs.descent.ReadStatements as statements
 use Rattle.sql_parse.specs.Conditions.{limit, opens_few}
-use Rattle.sql_parse.specs.Answers.{row_statement}
+use Rattle.sql_parse.specs.descent.Answers.{row_statement}
 use Rattle.sql_parse.proofs.Exact.{some_is, under_some, chosen, guard, sees_is, Exact, Above}
 use Rattle.sql_parse.proofs.Follow.{OneOf, unseen, LAST, past_sound, past_complete}
 use Rattle.sql_parse.proofs.ExpressionLaws.{inside_exact}

@@ -8,9 +8,9 @@ use Rattle.sql_parse.specs.Symbols.{sees, comma, dot, is_reserved}
 use Rattle.sql_parse.specs.Rules.{Optional, absent, present, Parted}
 use Rattle.sql_parse.specs.Expressions.{IsName, quoted, word}
 use Rattle.sql_parse.specs.Tables as g
-use Rattle.sql_parse.specs.Reading as read
-use Rattle.sql_parse.specs.Reading.{◌>>=◌, under, behind}
-use Rattle.sql_parse.specs.ReadTables as tables
+use Rattle.sql_parse.specs.descent.Reading as read
+use Rattle.sql_parse.specs.descent.Reading.{◌>>=◌, under, behind}
+use Rattle.sql_parse.specs.descent.ReadTables as tables
 use Rattle.sql_parse.proofs.Exact.{bind_some, under_some, some_is, chosen, sees_is, Exact, parted_exact}
 use Rattle.sql_parse.proofs.Follow.{Anywhere}
 use Rattle.sql_parse.proofs.ExpressionLaws.{no_clash, name_sound, name_complete}

@@ -1,19 +1,12 @@
-pub mod Answers
 pub mod AuditStatements
 pub mod CallStatements
 pub mod Changes
 pub mod Conditions
 pub mod Expressions
 pub mod Grants
-pub mod MomentReading
 pub mod PolicyStatements
 pub mod Privileges
 pub mod Queries
-pub mod ReadChanges
-pub mod ReadQueries
-pub mod ReadStatements
-pub mod ReadTables
-pub mod Reading
 pub mod RightsStatements
 pub mod RowStatements
 pub mod Rules
@@ -21,4 +14,6 @@ pub mod Statements
 pub mod Symbols
 pub mod TableStatements
 pub mod Tables
+pub mod Trees
 pub mod UserStatements
+pub mod descent

@@ -1,10 +1,10 @@
 //! What a word begins in an expression.
 ghost use Rattle.std.specs.Prelude.{◌≡◌, Some};
 ghost use Rattle.sql_parse.specs.Expressions.{upper};
-ghost use Rattle.sql_parse.specs.MomentReading.{moment_read};
+ghost use Rattle.sql_parse.specs.descent.MomentReading.{moment_read};
 ghost use Rattle.sql_parse.specs.Symbols.{kinds};
-ghost use Rattle.sql_parse.specs.Reading.{Gives};
-ghost use Rattle.sql_parse.specs.Reading as spec;
+ghost use Rattle.sql_parse.specs.descent.Reading.{Gives};
+ghost use Rattle.sql_parse.specs.descent.Reading as spec;
 
 use crate::cursor::{behind, expect_mark, sees_mark, sees_word};
 use crate::names::column;
@@ -15,7 +15,7 @@ use sql_lex::{Kind, Mark, Token};
 use std::alloc::Global;
 
 /// An atom that begins with a word.
-#[tactic(auto, unfolding(crate::specs::Reading::worded_atom))]
+#[tactic(auto, unfolding(crate::specs::descent::Reading::worded_atom))]
 pub fn worded_atom(alloc: Global, tokens: &[Token]) -> Result<(Expr, &[Token]), Stop>
     ensures { Gives (λ x. (x.0, kinds x.1.now)) result (spec.worded_atom (kinds tokens.now)) }
 {
@@ -36,7 +36,7 @@ pub fn worded_atom(alloc: Global, tokens: &[Token]) -> Result<(Expr, &[Token]), 
 }
 
 // The text literal that comes next.
-#[tactic(auto, unfolding(crate::specs::Reading::literal))]
+#[tactic(auto, unfolding(crate::specs::descent::Reading::literal))]
 fn literal(tokens: &[Token]) -> Result<(&Text, &[Token]), Stop>
     ensures { Gives (λ x. (x.0.now, kinds x.1.now)) result (spec.literal (kinds tokens.now)) }
 {
@@ -50,7 +50,7 @@ fn literal(tokens: &[Token]) -> Result<(&Text, &[Token]), Stop>
 }
 
 // A moment whose TIMESTAMP came before.
-#[tactic(auto, unfolding(crate::specs::Reading::moment))]
+#[tactic(auto, unfolding(crate::specs::descent::Reading::moment))]
 fn moment(tokens: &[Token]) -> Result<(Expr, &[Token]), Stop>
     ensures { Gives (λ x. (x.0, kinds x.1.now)) result (spec.moment (kinds tokens.now)) }
 {
@@ -68,7 +68,7 @@ fn moment_of(text: &Text) -> Result<u64, Stop>
 }
 
 // A call of SYS_CONTEXT whose opening parenthesis came before.
-#[tactic(auto, unfolding(crate::specs::Reading::context))]
+#[tactic(auto, unfolding(crate::specs::descent::Reading::context))]
 fn context(tokens: &[Token]) -> Result<(Expr, &[Token]), Stop>
     ensures { Gives (λ x. (x.0, kinds x.1.now)) result (spec.context (kinds tokens.now)) }
 {

@@ -1,7 +1,7 @@
 //! INSERT, UPDATE and DELETE.
 ghost use Rattle.sql_parse.specs.Symbols.{kinds};
-ghost use Rattle.sql_parse.specs.Reading.{Gives, inside};
-ghost use Rattle.sql_parse.specs.ReadChanges as spec;
+ghost use Rattle.sql_parse.specs.descent.Reading.{Gives, inside};
+ghost use Rattle.sql_parse.specs.descent.ReadChanges as spec;
 
 use crate::cursor::{behind, expect_mark, expect_word, past_word, sees_mark, sees_word};
 use crate::expression::{cond, sum, sums};
@@ -25,7 +25,7 @@ pub fn filter(alloc: Global, depth: u32, tokens: &[Token]) -> Result<(Option<Exp
 }
 
 /// An INSERT whose first word came before.
-#[tactic(auto, unfolding(crate::specs::ReadChanges::insert))]
+#[tactic(auto, unfolding(crate::specs::descent::ReadChanges::insert))]
 pub fn insert(alloc: Global, depth: u32, tokens: &[Token]) -> Result<(Insert, &[Token]), Stop>
     ensures { Gives (λ x. (x.0, kinds x.1.now)) result (spec.insert (inside depth) (kinds tokens.now)) }
 {
@@ -44,7 +44,7 @@ pub fn insert(alloc: Global, depth: u32, tokens: &[Token]) -> Result<(Insert, &[
 }
 
 // The columns that are listed, if they are.
-#[tactic(auto, unfolding(crate::specs::ReadChanges::columns))]
+#[tactic(auto, unfolding(crate::specs::descent::ReadChanges::columns))]
 fn columns(alloc: Global, tokens: &[Token]) -> Result<(Option<List<Name>>, &[Token]), Stop>
     ensures { Gives (λ x. (x.0, kinds x.1.now)) result (spec.columns (kinds tokens.now)) }
 {
@@ -57,7 +57,7 @@ fn columns(alloc: Global, tokens: &[Token]) -> Result<(Option<List<Name>>, &[Tok
 }
 
 // The values whose opening parenthesis came before.
-#[tactic(auto, unfolding(crate::specs::ReadChanges::values))]
+#[tactic(auto, unfolding(crate::specs::descent::ReadChanges::values))]
 fn values(alloc: Global, depth: u32, tokens: &[Token]) -> Result<(List<Expr>, &[Token]), Stop>
     ensures { Gives (λ x. (x.0, kinds x.1.now)) result (spec.values (inside depth) (kinds tokens.now)) }
 {
@@ -67,7 +67,7 @@ fn values(alloc: Global, depth: u32, tokens: &[Token]) -> Result<(List<Expr>, &[
 }
 
 /// An UPDATE whose first word came before.
-#[tactic(auto, unfolding(crate::specs::ReadChanges::update))]
+#[tactic(auto, unfolding(crate::specs::descent::ReadChanges::update))]
 pub fn update(alloc: Global, depth: u32, tokens: &[Token]) -> Result<(Update, &[Token]), Stop>
     ensures { Gives (λ x. (x.0, kinds x.1.now)) result (spec.update (inside depth) (kinds tokens.now)) }
 {
@@ -83,7 +83,7 @@ pub fn update(alloc: Global, depth: u32, tokens: &[Token]) -> Result<(Update, &[
     Ok((found, rest))
 }
 
-#[tactic(auto, using(crate::proofs::Turns::turns), unfolding(crate::specs::ReadChanges::assignments, crate::specs::Reading::parted))]
+#[tactic(auto, using(crate::proofs::Turns::turns), unfolding(crate::specs::descent::ReadChanges::assignments, crate::specs::descent::Reading::parted))]
 fn assignments(
     alloc: Global,
     depth: u32,
@@ -105,7 +105,7 @@ fn assignments(
     Ok((parts, rest))
 }
 
-#[tactic(auto, unfolding(crate::specs::ReadChanges::assignment))]
+#[tactic(auto, unfolding(crate::specs::descent::ReadChanges::assignment))]
 fn assignment(alloc: Global, depth: u32, tokens: &[Token]) -> Result<(Assignment, &[Token]), Stop>
     ensures { Gives (λ x. (x.0, kinds x.1.now)) result (spec.assignment (inside depth) (kinds tokens.now)) }
 {
@@ -116,7 +116,7 @@ fn assignment(alloc: Global, depth: u32, tokens: &[Token]) -> Result<(Assignment
 }
 
 /// A DELETE whose first word came before.
-#[tactic(auto, unfolding(crate::specs::ReadChanges::delete))]
+#[tactic(auto, unfolding(crate::specs::descent::ReadChanges::delete))]
 pub fn delete(alloc: Global, depth: u32, tokens: &[Token]) -> Result<(Delete, &[Token]), Stop>
     ensures { Gives (λ x. (x.0, kinds x.1.now)) result (spec.delete (inside depth) (kinds tokens.now)) }
 {

@@ -1,30 +1,33 @@
 //! Conditions by themselves.
-ghost use Rattle.std.specs.Prelude.{◌≡◌, ◌^◌, ◌<◌, List, ℕ, IfOk, MatchOption, length};
+ghost use Rattle.std.specs.Prelude.{◌≡◌, ◌↔◌, ◌^◌, ◌<◌, List, ℕ, Some, None, IfOk, MatchOption, length};
 ghost use Rattle.sql_ast.specs.declared.expression.Expr.{Expr};
 ghost use Rattle.sql_parse.specs.Symbols.{kinds};
-ghost use Rattle.sql_parse.specs.Reading.{Gives};
+ghost use Rattle.sql_parse.specs.descent.Reading.{Gives};
 ghost use Rattle.sql_parse.specs.Conditions.{HasNoCondition, IsCondition, ReadsCondition};
 ghost use Rattle.sql_parse.specs.Conditions as spec;
-ghost use Rattle.sql_parse.specs.Answers as answers;
+ghost use Rattle.sql_parse.specs.Trees.{tree_of, tree_or_null};
+ghost use Rattle.sql_parse.specs.descent.Answers as answers;
 
 use crate::cursor::all_of;
 use crate::expression::cond;
 use crate::stop::Stop;
 use au_base::{Memory, limits};
 use sql_ast::Expr;
-use sql_lex::{Kind, Mark, Token, one_way, tokens};
+use sql_lex::{Kind, Mark, Token, cut_as_told, one_way, tokens};
 use std::alloc::Global;
 
 /// How many parentheses may be open at once.
 pub const LIMIT: u32 = limits::OPEN_PARENTHESES as u32;
 
 /// The condition that a text is, as that of an audit policy: one condition without `;`, in which no
-/// more than 100 parentheses are open at once. `None` where it is none.
+/// more than 100 parentheses are open at once. `None` where it is none. That is the text's tree.
 pub fn condition(alloc: Global, text: &[u8]) -> Result<Option<Expr>, Memory>
     requires { length text.now < 2 ^ 32 }
-    ensures { IfOk result (λ found. MatchOption found (HasNoCondition text.now) (ReadsCondition text.now)) }
+    ensures reads { IfOk result (λ found. MatchOption found (HasNoCondition text.now) (ReadsCondition text.now)) }
+    ensures tree { IfOk result (λ found. found ≡ tree_of text.now) }
 {
     one_way();
+    tree_is_condition();
     match tokens(alloc, text)? {
         Ok(tokens) => condition_of(alloc, &tokens),
         Err(_) => Ok(None),
@@ -36,6 +39,15 @@ pub fn one_condition()
     ensures { (text : List ℕ) (x y : Expr) → ReadsCondition text x → ReadsCondition text y → x ≡ y }
 {
     one_way();
+}
+
+/// `tree_of` gives the condition that a text is, and none where it is none.
+pub fn tree_is_condition()
+    ensures some { (text : List ℕ) (x : Expr) → (tree_of text ≡ Some x) ↔ ReadsCondition text x }
+    ensures none { (text : List ℕ) → (tree_of text ≡ None) ↔ HasNoCondition text }
+    ensures tree { (text : List ℕ) (x : Expr) → ReadsCondition text x → tree_or_null text ≡ x }
+{
+    cut_as_told();
 }
 
 fn condition_of(alloc: Global, tokens: &[Token]) -> Result<Option<Expr>, Memory>

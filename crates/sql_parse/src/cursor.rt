@@ -2,8 +2,8 @@
 
 ghost use Rattle.std.specs.Prelude.{◌≡◌, ◌==◌, Some};
 ghost use Rattle.sql_parse.specs.Symbols.{kinds, sees, mark_number};
-ghost use Rattle.sql_parse.specs.Reading.{Gives, behind, expect, whole};
-ghost use Rattle.sql_parse.specs.ReadTables.{past};
+ghost use Rattle.sql_parse.specs.descent.Reading.{Gives, behind, expect, whole};
+ghost use Rattle.sql_parse.specs.descent.ReadTables.{past};
 
 use crate::stop::Stop;
 use sql_lex::{Kind, Mark, Token};

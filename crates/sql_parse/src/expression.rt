@@ -1,8 +1,8 @@
 //! Conditions and expressions, by descent.
 ghost use Rattle.std.specs.Prelude.{◌≡◌};
 ghost use Rattle.sql_parse.specs.Symbols.{comma, kinds};
-ghost use Rattle.sql_parse.specs.Reading.{Gives};
-ghost use Rattle.sql_parse.specs.Reading as spec;
+ghost use Rattle.sql_parse.specs.descent.Reading.{Gives};
+ghost use Rattle.sql_parse.specs.descent.Reading as spec;
 
 use crate::atom::worded_atom;
 use crate::cursor::{behind, expect_mark, expect_word, sees_mark, sees_word};
@@ -28,7 +28,7 @@ fn relation_of(mark: Mark) -> Option<Relation>
 }
 
 // What the comparison is that comes next.
-#[tactic(auto, unfolding(crate::specs::Reading::relation_at))]
+#[tactic(auto, unfolding(crate::specs::descent::Reading::relation_at))]
 fn relation_at(tokens: &[Token]) -> Option<Relation>
     ensures { result ≡ spec.relation_at (kinds tokens.now) }
 {
@@ -69,7 +69,7 @@ fn sole<T: Drop>(parts: List<T>) -> Result<T, List<T>>
 
 /// What stands within parentheses. The number counts how many more may be open.
 #[cycle(expression)]
-#[tactic(auto, unfolding(crate::specs::Reading::inside))]
+#[tactic(auto, unfolding(crate::specs::descent::Reading::inside))]
 fn inside(alloc: Global, depth: u32, tokens: &[Token]) -> Result<(Expr, &[Token]), Stop>
     ensures { Gives (λ x. (x.0, kinds x.1.now)) result (spec.inside depth (kinds tokens.now)) }
 {
@@ -80,7 +80,7 @@ fn inside(alloc: Global, depth: u32, tokens: &[Token]) -> Result<(Expr, &[Token]
 }
 
 #[cycle(expression)]
-#[tactic(auto, unfolding(crate::specs::Reading::atom))]
+#[tactic(auto, unfolding(crate::specs::descent::Reading::atom))]
 fn atom(alloc: Global, depth: u32, tokens: &[Token]) -> Result<(Expr, &[Token]), Stop>
     ensures { Gives (λ x. (x.0, kinds x.1.now)) result (spec.atom (spec.inside depth) (kinds tokens.now)) }
 {
@@ -102,7 +102,7 @@ fn atom(alloc: Global, depth: u32, tokens: &[Token]) -> Result<(Expr, &[Token]),
 }
 
 #[cycle(expression)]
-#[tactic(auto, unfolding(crate::specs::Reading::factor))]
+#[tactic(auto, unfolding(crate::specs::descent::Reading::factor))]
 fn factor(alloc: Global, depth: u32, tokens: &[Token]) -> Result<(Expr, &[Token]), Stop>
     ensures { Gives (λ x. (x.0, kinds x.1.now)) result (spec.factor (spec.inside depth) (kinds tokens.now)) }
 {
@@ -114,7 +114,7 @@ fn factor(alloc: Global, depth: u32, tokens: &[Token]) -> Result<(Expr, &[Token]
 }
 
 #[cycle(expression)]
-#[tactic(auto, using(crate::proofs::Turns::turns), unfolding(crate::specs::Reading::term, crate::specs::Reading::parted))]
+#[tactic(auto, using(crate::proofs::Turns::turns), unfolding(crate::specs::descent::Reading::term, crate::specs::descent::Reading::parted))]
 fn term(alloc: Global, depth: u32, tokens: &[Token]) -> Result<(Expr, &[Token]), Stop>
     ensures { Gives (λ x. (x.0, kinds x.1.now)) result (spec.term (spec.inside depth) (kinds tokens.now)) }
 {
@@ -136,7 +136,7 @@ fn term(alloc: Global, depth: u32, tokens: &[Token]) -> Result<(Expr, &[Token]),
 }
 
 #[cycle(expression)]
-#[tactic(auto, using(crate::proofs::Turns::turns), unfolding(crate::specs::Reading::sum, crate::specs::Reading::summands))]
+#[tactic(auto, using(crate::proofs::Turns::turns), unfolding(crate::specs::descent::Reading::sum, crate::specs::descent::Reading::summands))]
 pub fn sum(alloc: Global, depth: u32, tokens: &[Token]) -> Result<(Expr, &[Token]), Stop>
     ensures { Gives (λ x. (x.0, kinds x.1.now)) result (spec.sum (spec.inside depth) (kinds tokens.now)) }
 {
@@ -159,7 +159,7 @@ pub fn sum(alloc: Global, depth: u32, tokens: &[Token]) -> Result<(Expr, &[Token
 }
 
 #[cycle(expression)]
-#[tactic(auto, using(crate::proofs::Turns::turns), unfolding(crate::specs::Reading::parted))]
+#[tactic(auto, using(crate::proofs::Turns::turns), unfolding(crate::specs::descent::Reading::parted))]
 pub fn sums(alloc: Global, depth: u32, tokens: &[Token]) -> Result<(List<Expr>, &[Token]), Stop>
     ensures { Gives (λ x. (x.0, kinds x.1.now)) result (spec.parted comma (spec.sum (spec.inside depth)) (kinds tokens.now)) }
 {
@@ -179,7 +179,7 @@ pub fn sums(alloc: Global, depth: u32, tokens: &[Token]) -> Result<(List<Expr>, 
 
 // What follows a sum in a test.
 #[cycle(expression)]
-#[tactic(auto, unfolding(crate::specs::Reading::tested, crate::specs::Reading::within, crate::specs::Reading::between))]
+#[tactic(auto, unfolding(crate::specs::descent::Reading::tested, crate::specs::descent::Reading::within, crate::specs::descent::Reading::between))]
 fn tested(alloc: Global, depth: u32, left: Expr, tokens: &[Token]) -> Result<(Expr, &[Token]), Stop>
     ensures { Gives (λ x. (x.0, kinds x.1.now)) result (spec.tested (spec.inside depth) left (kinds tokens.entry.now)) }
 {
@@ -222,7 +222,7 @@ fn tested(alloc: Global, depth: u32, left: Expr, tokens: &[Token]) -> Result<(Ex
 }
 
 #[cycle(expression)]
-#[tactic(auto, unfolding(crate::specs::Reading::unit, crate::specs::Reading::testing))]
+#[tactic(auto, unfolding(crate::specs::descent::Reading::unit, crate::specs::descent::Reading::testing))]
 fn unit(alloc: Global, depth: u32, tokens: &[Token]) -> Result<(Expr, &[Token]), Stop>
     ensures { Gives (λ x. (x.0, kinds x.1.now)) result (spec.unit (spec.inside depth) (kinds tokens.now)) }
 {
@@ -236,7 +236,7 @@ fn unit(alloc: Global, depth: u32, tokens: &[Token]) -> Result<(Expr, &[Token]),
 }
 
 #[cycle(expression)]
-#[tactic(auto, using(crate::proofs::Turns::turns), unfolding(crate::specs::Reading::conj, crate::specs::Reading::parted))]
+#[tactic(auto, using(crate::proofs::Turns::turns), unfolding(crate::specs::descent::Reading::conj, crate::specs::descent::Reading::parted))]
 fn conj(alloc: Global, depth: u32, tokens: &[Token]) -> Result<(Expr, &[Token]), Stop>
     ensures { Gives (λ x. (x.0, kinds x.1.now)) result (spec.conj (spec.inside depth) (kinds tokens.now)) }
 {
@@ -258,7 +258,7 @@ fn conj(alloc: Global, depth: u32, tokens: &[Token]) -> Result<(Expr, &[Token]),
 }
 
 #[cycle(expression)]
-#[tactic(auto, using(crate::proofs::Turns::turns), unfolding(crate::specs::Reading::cond, crate::specs::Reading::parted))]
+#[tactic(auto, using(crate::proofs::Turns::turns), unfolding(crate::specs::descent::Reading::cond, crate::specs::descent::Reading::parted))]
 pub fn cond(alloc: Global, depth: u32, tokens: &[Token]) -> Result<(Expr, &[Token]), Stop>
     ensures { Gives (λ x. (x.0, kinds x.1.now)) result (spec.cond (spec.inside depth) (kinds tokens.now)) }
 {

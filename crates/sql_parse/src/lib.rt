@@ -13,6 +13,6 @@ mod row_statements;
 mod stop;
 pub mod tables;
 
-pub use conditions::{condition, one_condition, opens_few};
+pub use conditions::{condition, one_condition, opens_few, tree_is_condition};
 pub use row_statements::{one_row_statement, row_statement};
 pub use stop::Stop;

@@ -3,8 +3,8 @@ ghost use Rattle.std.specs.Prelude.{◌≡◌, map};
 ghost use Rattle.std.specs.Str.{bytes_eq};
 ghost use Rattle.std.specs.List.{list_any};
 ghost use Rattle.sql_parse.specs.Symbols.{kinds, is_free, is_reserved};
-ghost use Rattle.sql_parse.specs.Reading.{Gives};
-ghost use Rattle.sql_parse.specs.Reading as spec;
+ghost use Rattle.sql_parse.specs.descent.Reading.{Gives};
+ghost use Rattle.sql_parse.specs.descent.Reading as spec;
 
 use crate::cursor::{behind, sees_mark};
 use crate::stop::Stop;
@@ -117,7 +117,7 @@ fn name_of(alloc: Global, kind: &Kind) -> Result<Name, Stop>
     }
 }
 
-#[tactic(auto, unfolding(crate::specs::Reading::name))]
+#[tactic(auto, unfolding(crate::specs::descent::Reading::name))]
 pub fn name(alloc: Global, tokens: &[Token]) -> Result<(Name, &[Token]), Stop>
     ensures { Gives (λ x. (x.0, kinds x.1.now)) result (spec.name (kinds tokens.now)) }
 {
@@ -127,7 +127,7 @@ pub fn name(alloc: Global, tokens: &[Token]) -> Result<(Name, &[Token]), Stop>
     }
 }
 
-#[tactic(auto, unfolding(crate::specs::Reading::column))]
+#[tactic(auto, unfolding(crate::specs::descent::Reading::column))]
 pub fn column(alloc: Global, tokens: &[Token]) -> Result<(Expr, &[Token]), Stop>
     ensures { Gives (λ x. (x.0, kinds x.1.now)) result (spec.column (kinds tokens.now)) }
 {

@@ -1,8 +1,8 @@
 //! SELECT.
 ghost use Rattle.std.specs.Prelude.{◌≡◌};
 ghost use Rattle.sql_parse.specs.Symbols.{kinds};
-ghost use Rattle.sql_parse.specs.Reading.{Gives, inside};
-ghost use Rattle.sql_parse.specs.ReadQueries as spec;
+ghost use Rattle.sql_parse.specs.descent.Reading.{Gives, inside};
+ghost use Rattle.sql_parse.specs.descent.ReadQueries as spec;
 
 use crate::changes::filter;
 use crate::cursor::{behind, expect_mark, expect_word, past_word, sees_mark, sees_word};
@@ -16,7 +16,7 @@ use sql_lex::{Mark, Token};
 use std::alloc::Global;
 
 /// A SELECT whose first word came before.
-#[tactic(auto, unfolding(crate::specs::ReadQueries::select))]
+#[tactic(auto, unfolding(crate::specs::descent::ReadQueries::select))]
 pub fn select(alloc: Global, depth: u32, tokens: &[Token]) -> Result<(Select, &[Token]), Stop>
     ensures { Gives (λ x. (x.0, kinds x.1.now)) result (spec.select (inside depth) (kinds tokens.now)) }
 {
@@ -42,7 +42,7 @@ pub fn counts(tokens: &[Token]) -> bool
 }
 
 /// What follows SELECT COUNT and its opening parenthesis.
-#[tactic(auto, unfolding(crate::specs::ReadQueries::count))]
+#[tactic(auto, unfolding(crate::specs::descent::ReadQueries::count))]
 pub fn count(alloc: Global, depth: u32, tokens: &[Token]) -> Result<(Count, &[Token]), Stop>
     ensures { Gives (λ x. (x.0, kinds x.1.now)) result (spec.count (inside depth) (kinds tokens.now)) }
 {
@@ -54,7 +54,7 @@ pub fn count(alloc: Global, depth: u32, tokens: &[Token]) -> Result<(Count, &[To
     Ok((Count { table, condition }, rest))
 }
 
-#[tactic(auto, using(crate::proofs::Turns::turns), unfolding(crate::specs::ReadQueries::items_at, crate::specs::Reading::parted))]
+#[tactic(auto, using(crate::proofs::Turns::turns), unfolding(crate::specs::descent::ReadQueries::items_at, crate::specs::descent::Reading::parted))]
 fn items(alloc: Global, depth: u32, tokens: &[Token]) -> Result<(Items, &[Token]), Stop>
     ensures { Gives (λ x. (x.0, kinds x.1.now)) result (spec.items_at (inside depth) (kinds tokens.now)) }
 {
@@ -75,7 +75,7 @@ fn items(alloc: Global, depth: u32, tokens: &[Token]) -> Result<(Items, &[Token]
     Ok((Items::Listed(parts), rest))
 }
 
-#[tactic(auto, unfolding(crate::specs::ReadQueries::item))]
+#[tactic(auto, unfolding(crate::specs::descent::ReadQueries::item))]
 fn item(alloc: Global, depth: u32, tokens: &[Token]) -> Result<(Item, &[Token]), Stop>
     ensures { Gives (λ x. (x.0, kinds x.1.now)) result (spec.item (inside depth) (kinds tokens.now)) }
 {
@@ -92,7 +92,7 @@ fn item(alloc: Global, depth: u32, tokens: &[Token]) -> Result<(Item, &[Token]),
     Ok((Item { value, alias }, rest))
 }
 
-#[tactic(auto, unfolding(crate::specs::ReadQueries::from_clause))]
+#[tactic(auto, unfolding(crate::specs::descent::ReadQueries::from_clause))]
 fn from_clause(alloc: Global, depth: u32, tokens: &[Token]) -> Result<(FromClause, &[Token]), Stop>
     ensures { Gives (λ x. (x.0, kinds x.1.now)) result (spec.from_clause (inside depth) (kinds tokens.now)) }
 {
@@ -102,7 +102,7 @@ fn from_clause(alloc: Global, depth: u32, tokens: &[Token]) -> Result<(FromClaus
 }
 
 // The tables behind the first.
-#[tactic(auto, using(crate::proofs::Turns::turns), unfolding(crate::specs::ReadQueries::furthers))]
+#[tactic(auto, using(crate::proofs::Turns::turns), unfolding(crate::specs::descent::ReadQueries::furthers))]
 fn furthers(alloc: Global, depth: u32, tokens: &[Token]) -> Result<(List<Join>, &[Token]), Stop>
     ensures { Gives (λ x. (x.0, kinds x.1.now)) result (spec.furthers (inside depth) (kinds tokens.now)) }
 {
@@ -125,7 +125,7 @@ fn goes_on(tokens: &[Token]) -> bool
     sees_mark(tokens, Mark::Comma) || sees_word(tokens, b"INNER") || sees_word(tokens, b"JOIN")
 }
 
-#[tactic(auto, unfolding(crate::specs::ReadQueries::further))]
+#[tactic(auto, unfolding(crate::specs::descent::ReadQueries::further))]
 fn further(alloc: Global, depth: u32, tokens: &[Token]) -> Result<(Join, &[Token]), Stop>
     ensures { Gives (λ x. (x.0, kinds x.1.now)) result (spec.further (inside depth) (kinds tokens.now)) }
 {
@@ -138,7 +138,7 @@ fn further(alloc: Global, depth: u32, tokens: &[Token]) -> Result<(Join, &[Token
 }
 
 // A table whose JOIN came before.
-#[tactic(auto, unfolding(crate::specs::ReadQueries::joined))]
+#[tactic(auto, unfolding(crate::specs::descent::ReadQueries::joined))]
 fn joined(alloc: Global, depth: u32, tokens: &[Token]) -> Result<(Join, &[Token]), Stop>
     ensures { Gives (λ x. (x.0, kinds x.1.now)) result (spec.joined (inside depth) (kinds tokens.now)) }
 {
@@ -160,7 +160,7 @@ fn sorted(alloc: Global, tokens: &[Token]) -> Result<(Option<List<SortKey>>, &[T
 }
 
 // The keys whose ORDER came before.
-#[tactic(auto, using(crate::proofs::Turns::turns), unfolding(crate::specs::ReadQueries::orders, crate::specs::Reading::parted))]
+#[tactic(auto, using(crate::proofs::Turns::turns), unfolding(crate::specs::descent::ReadQueries::orders, crate::specs::descent::Reading::parted))]
 fn orders(alloc: Global, tokens: &[Token]) -> Result<(List<SortKey>, &[Token]), Stop>
     ensures { Gives (λ x. (x.0, kinds x.1.now)) result (spec.orders (kinds tokens.now)) }
 {
@@ -179,7 +179,7 @@ fn orders(alloc: Global, tokens: &[Token]) -> Result<(List<SortKey>, &[Token]), 
     Ok((parts, rest))
 }
 
-#[tactic(auto, unfolding(crate::specs::ReadQueries::order))]
+#[tactic(auto, unfolding(crate::specs::descent::ReadQueries::order))]
 fn order(alloc: Global, tokens: &[Token]) -> Result<(SortKey, &[Token]), Stop>
     ensures { Gives (λ x. (x.0, kinds x.1.now)) result (spec.order (kinds tokens.now)) }
 {

@@ -3,10 +3,10 @@ ghost use Rattle.std.specs.Prelude.{◌≡◌, List, IfOk, MatchOption};
 ghost use Rattle.sql_lex.specs.declared.token.Kind.{Kind as TokenKind};
 ghost use Rattle.sql_ast.specs.declared.statement.Statement.{Statement as Tree};
 ghost use Rattle.sql_parse.specs.Symbols.{kinds};
-ghost use Rattle.sql_parse.specs.Reading.{Gives, inside};
-ghost use Rattle.sql_parse.specs.ReadStatements as spec;
+ghost use Rattle.sql_parse.specs.descent.Reading.{Gives, inside};
+ghost use Rattle.sql_parse.specs.descent.ReadStatements as spec;
 ghost use Rattle.sql_parse.specs.RowStatements.{IsNoRowStatement, IsRowStatement};
-ghost use Rattle.sql_parse.specs.Answers as answers;
+ghost use Rattle.sql_parse.specs.descent.Answers as answers;
 
 use crate::changes::{delete, insert, update};
 use crate::conditions::{LIMIT, opens_few};
@@ -45,7 +45,7 @@ fn read(alloc: Global, tokens: &[Token]) -> Result<Statement, Stop>
     all_of(found, past_mark(rest, Mark::Semicolon))
 }
 
-#[tactic(auto, unfolding(crate::specs::ReadStatements::row_statement))]
+#[tactic(auto, unfolding(crate::specs::descent::ReadStatements::row_statement))]
 fn statement(alloc: Global, depth: u32, tokens: &[Token]) -> Result<(Statement, &[Token]), Stop>
     ensures { Gives (λ x. (x.0, kinds x.1.now)) result (spec.row_statement (inside depth) (kinds tokens.now)) }
 {
@@ -80,7 +80,7 @@ fn change(alloc: Global, depth: u32, tokens: &[Token]) -> Result<(Statement, &[T
 }
 
 // A query whose SELECT came before.
-#[tactic(auto, unfolding(crate::specs::ReadStatements::query))]
+#[tactic(auto, unfolding(crate::specs::descent::ReadStatements::query))]
 fn query(alloc: Global, depth: u32, tokens: &[Token]) -> Result<(Statement, &[Token]), Stop>
     ensures { Gives (λ x. (x.0, kinds x.1.now)) result (spec.query (inside depth) (kinds tokens.now)) }
 {

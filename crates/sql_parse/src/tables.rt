@@ -1,7 +1,7 @@
 //! Tables, their aliases, and lists of names.
 ghost use Rattle.sql_parse.specs.Symbols.{kinds};
-ghost use Rattle.sql_parse.specs.Reading.{Gives};
-ghost use Rattle.sql_parse.specs.ReadTables as spec;
+ghost use Rattle.sql_parse.specs.descent.Reading.{Gives};
+ghost use Rattle.sql_parse.specs.descent.ReadTables as spec;
 
 use crate::cursor::{behind, sees_mark};
 use crate::names::name;
@@ -12,7 +12,7 @@ use sql_lex::{Mark, Token};
 use std::alloc::Global;
 
 /// `[name .] name`
-#[tactic(auto, unfolding(crate::specs::ReadTables::qualified))]
+#[tactic(auto, unfolding(crate::specs::descent::ReadTables::qualified))]
 pub fn qualified(alloc: Global, tokens: &[Token]) -> Result<((Option<Name>, Name), &[Token]), Stop>
     ensures { Gives (λ x. (x.0, kinds x.1.now)) result (spec.qualified (kinds tokens.now)) }
 {
@@ -25,7 +25,7 @@ pub fn qualified(alloc: Global, tokens: &[Token]) -> Result<((Option<Name>, Name
 }
 
 /// `table = [name .] name`
-#[tactic(auto, unfolding(crate::specs::ReadTables::table))]
+#[tactic(auto, unfolding(crate::specs::descent::ReadTables::table))]
 pub fn table(alloc: Global, tokens: &[Token]) -> Result<(TableReference, &[Token]), Stop>
     ensures { Gives (λ x. (x.0, kinds x.1.now)) result (spec.table (kinds tokens.now)) }
 {
@@ -45,7 +45,7 @@ pub fn alias(alloc: Global, tokens: &[Token]) -> Result<(Option<Name>, &[Token])
 }
 
 /// `tref = table [name]`
-#[tactic(auto, unfolding(crate::specs::ReadTables::aliased))]
+#[tactic(auto, unfolding(crate::specs::descent::ReadTables::aliased))]
 pub fn aliased(alloc: Global, tokens: &[Token]) -> Result<(AliasedTable, &[Token]), Stop>
     ensures { Gives (λ x. (x.0, kinds x.1.now)) result (spec.aliased (kinds tokens.now)) }
 {
@@ -55,7 +55,7 @@ pub fn aliased(alloc: Global, tokens: &[Token]) -> Result<(AliasedTable, &[Token
 }
 
 /// `name {, name}`
-#[tactic(auto, using(crate::proofs::Turns::turns), unfolding(crate::specs::ReadTables::names, crate::specs::Reading::parted))]
+#[tactic(auto, using(crate::proofs::Turns::turns), unfolding(crate::specs::descent::ReadTables::names, crate::specs::descent::Reading::parted))]
 pub fn names(alloc: Global, tokens: &[Token]) -> Result<(List<Name>, &[Token]), Stop>
     ensures { Gives (λ x. (x.0, kinds x.1.now)) result (spec.names (kinds tokens.now)) }
 {

@@ -10,8 +10,8 @@ use Rattle.sql_lex.specs.declared.token.Kind.TheVariants.{Word}
 use Rattle.sql_ast.specs.declared.administration.ActionPart.{ActionPart}
 use Rattle.sql_parse.specs.Symbols.{sees, comma, dot}
 use Rattle.sql_parse.specs.Rules.{Parted}
-use Rattle.sql_parse.specs.Reading.{under, behind}
-use Rattle.sql_parse.specs.ReadTables as tables
+use Rattle.sql_parse.specs.descent.Reading.{under, behind}
+use Rattle.sql_parse.specs.descent.ReadTables as tables
 use Rattle.sql_parse.proofs.Exact.{bind_some, under_some, some_is, chosen, guard, sees_is, Exact, parted_exact}
 use Rattle.sql_parse.proofs.Follow.{OneOf, unseen, LAST, Anywhere}
 use Rattle.sql_parse.proofs.TableLaws.{NoComma, table_exact}

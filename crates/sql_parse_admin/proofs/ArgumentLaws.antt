@@ -11,9 +11,9 @@ use Rattle.sql_parse.specs.Symbols.{sees, comma, dot, is_reserved}
 use Rattle.sql_parse.specs.Rules.{Parted}
 use Rattle.sql_parse.specs.Expressions.{IsName, quoted, word}
 use Rattle.sql_parse.specs.Tables.{Name, name}
-use Rattle.sql_parse.specs.Reading as read
-use Rattle.sql_parse.specs.Reading.{◌>>=◌, under, behind, expect}
-use Rattle.sql_parse.specs.MomentReading.{moment_read}
+use Rattle.sql_parse.specs.descent.Reading as read
+use Rattle.sql_parse.specs.descent.Reading.{◌>>=◌, under, behind, expect}
+use Rattle.sql_parse.specs.descent.MomentReading.{moment_read}
 use Rattle.sql_parse.proofs.MomentLaws.{moment_sound, moment_complete}
 use Rattle.sql_parse.proofs.Exact.{bind_some, under_some, some_is, chosen, sees_is, expect_is, Exact, parted_exact}
 use Rattle.sql_parse.proofs.Follow.{Anywhere}

@@ -12,8 +12,8 @@ use Rattle.sql_lex.specs.declared.token.Kind.TheVariants.{Word}
 use Rattle.sql_parse.specs.Symbols.{sees, comma}
 use Rattle.sql_parse.specs.Rules.{after, none, more, Parted, parted}
 use Rattle.sql_parse.specs.Tables.{Table}
-use Rattle.sql_parse.specs.Reading.{◌>>=◌, under, behind, expect}
-use Rattle.sql_parse.specs.ReadTables as tables
+use Rattle.sql_parse.specs.descent.Reading.{◌>>=◌, under, behind, expect}
+use Rattle.sql_parse.specs.descent.ReadTables as tables
 use Rattle.sql_parse.proofs.Exact.{bind_some, under_some, some_is, chosen, sees_is, expect_is}
 use Rattle.sql_parse.proofs.Follow.{OneOf, unseen, LAST}
 use Rattle.sql_parse.proofs.TableLaws.{names_exact, NoComma, table_exact}

@@ -14,10 +14,10 @@ use Rattle.sql_parse.specs.Rules.{Maybe, without, written, Parted}
 use Rattle.sql_parse.specs.Tables.{Name}
 use Rattle.sql_parse.specs.Grants.{Names}
 use Rattle.sql_parse.specs.Privileges.{IsPrivilege}
-use Rattle.sql_parse.specs.Reading as read
-use Rattle.sql_parse.specs.Reading.{◌>>=◌, under, behind, expect}
-use Rattle.sql_parse.specs.ReadTables as tables
-use Rattle.sql_parse.specs.ReadStatements.{past_end}
+use Rattle.sql_parse.specs.descent.Reading as read
+use Rattle.sql_parse.specs.descent.Reading.{◌>>=◌, under, behind, expect}
+use Rattle.sql_parse.specs.descent.ReadTables as tables
+use Rattle.sql_parse.specs.descent.ReadStatements.{past_end}
 use Rattle.sql_parse.specs.Conditions.{opens_few}
 use Rattle.sql_parse.proofs.Exact.{bind_some, under_some, some_is, chosen, guard, sees_is, expect_is, Exact}
 use Rattle.sql_parse.proofs.Follow.{OneOf, unseen, LAST, Anywhere, clause_first, clause_sound, clause_complete}

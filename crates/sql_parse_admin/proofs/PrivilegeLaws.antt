@@ -13,9 +13,9 @@ use Rattle.sql_parse.specs.Symbols.{sees, comma, is_reserved}
 use Rattle.sql_parse.specs.Rules.{without, written, Parted}
 use Rattle.sql_parse.specs.Expressions.{IsName}
 use Rattle.sql_parse.specs.Tables as rules
-use Rattle.sql_parse.specs.Reading as read
-use Rattle.sql_parse.specs.Reading.{under, behind}
-use Rattle.sql_parse.specs.ReadTables.{past}
+use Rattle.sql_parse.specs.descent.Reading as read
+use Rattle.sql_parse.specs.descent.Reading.{under, behind}
+use Rattle.sql_parse.specs.descent.ReadTables.{past}
 use Rattle.sql_parse.proofs.Exact.{under_some, some_is, chosen, guard, sees_is, Exact, parted_exact}
 use Rattle.sql_parse.proofs.Follow.{OneOf, unseen, Anywhere, past_sound, past_complete}
 use Rattle.sql_parse.proofs.TableLaws.{name_exact, NoComma, name_unseen}

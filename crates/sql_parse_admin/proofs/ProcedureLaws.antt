@@ -12,8 +12,8 @@ use Rattle.sql_ast.specs.declared.call.Procedure.TheVariants as f
 use Rattle.sql_parse.specs.Symbols.{sees, dot}
 use Rattle.sql_parse.specs.Expressions.{IsName, quoted, word}
 use Rattle.sql_parse.specs.Tables.{Name, name}
-use Rattle.sql_parse.specs.Reading as read
-use Rattle.sql_parse.specs.Reading.{◌>>=◌, under, behind, expect}
+use Rattle.sql_parse.specs.descent.Reading as read
+use Rattle.sql_parse.specs.descent.Reading.{◌>>=◌, under, behind, expect}
 use Rattle.sql_parse.proofs.Exact.{bind_some, under_some, some_is, chosen, sees_is, expect_is, Exact}
 use Rattle.sql_parse.proofs.Follow.{Anywhere}
 use Rattle.sql_parse.proofs.TableLaws.{name_exact}

@@ -7,10 +7,10 @@ use Rattle.sql_ast.specs.declared.statement.Statement.{Statement}
 use Rattle.sql_ast.specs.declared.statement.Statement.TheVariants as statement
 use Rattle.sql_parse.specs.Symbols.{sees, dot, semicolon}
 use Rattle.sql_parse.specs.Rules.{after, Maybe, without, written}
-use Rattle.sql_parse.specs.Reading as read
-use Rattle.sql_parse.specs.Reading.{◌>>=◌, under, behind, expect}
-use Rattle.sql_parse.specs.ReadTables as tables
-use Rattle.sql_parse.specs.ReadStatements.{past_end}
+use Rattle.sql_parse.specs.descent.Reading as read
+use Rattle.sql_parse.specs.descent.Reading.{◌>>=◌, under, behind, expect}
+use Rattle.sql_parse.specs.descent.ReadTables as tables
+use Rattle.sql_parse.specs.descent.ReadStatements.{past_end}
 use Rattle.sql_parse.specs.Conditions.{opens_few}
 use Rattle.sql_parse.proofs.Exact.{bind_some, under_some, some_is, chosen, guard, sees_is, expect_is}
 use Rattle.sql_parse.proofs.Follow.{OneOf, unseen, LAST}

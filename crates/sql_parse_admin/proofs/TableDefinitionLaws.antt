@@ -15,11 +15,11 @@ use Rattle.sql_ast.specs.declared.table.Element.TheVariants as element
 use Rattle.sql_parse.specs.Symbols.{same, sees, opening, closing, comma, semicolon, is_reserved}
 use Rattle.sql_parse.specs.Rules.{Before, before, Maybe, without, written, Parted}
 use Rattle.sql_parse.specs.Tables as rules
-use Rattle.sql_parse.specs.Reading as read
-use Rattle.sql_parse.specs.Reading.{◌>>=◌, under, behind, expect}
-use Rattle.sql_parse.specs.ReadTables as tables
-use Rattle.sql_parse.specs.ReadTables.{closed, past}
-use Rattle.sql_parse.specs.ReadStatements.{past_end}
+use Rattle.sql_parse.specs.descent.Reading as read
+use Rattle.sql_parse.specs.descent.Reading.{◌>>=◌, under, behind, expect}
+use Rattle.sql_parse.specs.descent.ReadTables as tables
+use Rattle.sql_parse.specs.descent.ReadTables.{closed, past}
+use Rattle.sql_parse.specs.descent.ReadStatements.{past_end}
 use Rattle.sql_parse.specs.Conditions.{opens_few}
 use Rattle.sql_parse.proofs.Exact.{bind_some, under_some, some_is, chosen, guard, sees_is, expect_is, Exact, parted_exact}
 use Rattle.sql_parse.proofs.Follow.{OneOf, unseen, LAST, Anywhere, past_sound, past_complete, closed_exact}

@@ -13,9 +13,9 @@ use Rattle.sql_ast.specs.declared.statement.Statement.TheVariants as statement
 use Rattle.sql_parse.specs.Symbols.{kinds, sees, semicolon}
 use Rattle.sql_parse.specs.Rules.{Maybe, without, written}
 use Rattle.sql_parse.specs.Expressions.{IsName}
-use Rattle.sql_parse.specs.Reading as read
-use Rattle.sql_parse.specs.Reading.{◌>>=◌, behind, expect}
-use Rattle.sql_parse.specs.ReadStatements.{past_end}
+use Rattle.sql_parse.specs.descent.Reading as read
+use Rattle.sql_parse.specs.descent.Reading.{◌>>=◌, behind, expect}
+use Rattle.sql_parse.specs.descent.ReadStatements.{past_end}
 use Rattle.sql_parse.specs.Conditions.{opens_few}
 use Rattle.sql_parse.proofs.Exact.{bind_some, some_is, chosen, guard, expect_is}
 use Rattle.sql_parse.proofs.ExpressionLaws.{name_sound, name_complete}

@@ -5,7 +5,7 @@ use Rattle.sql_lex.specs.declared.token.Kind.TheVariants.{Word}
 use Rattle.sql_lex.specs.declared.token.Token.{Token}
 use Rattle.sql_ast.specs.declared.statement.Statement.{Statement}
 use Rattle.sql_parse.specs.Symbols.{kinds, sees}
-use Rattle.sql_parse.specs.Reading.{behind}
+use Rattle.sql_parse.specs.descent.Reading.{behind}
 use Rattle.sql_parse.specs.RowStatements.{IsRowStatement}
 use Rattle.sql_parse.specs.TableStatements.{IsTableStatement}
 use Rattle.sql_parse.specs.UserStatements.{IsUserStatement}

@@ -9,9 +9,9 @@ use Rattle.sql_ast.specs.declared.administration.Whenever.TheVariants as wheneve
 use Rattle.sql_ast.specs.declared.statement.Statement.{Statement}
 use Rattle.sql_ast.specs.declared.statement.Statement.TheVariants as statement
 use Rattle.sql_parse.specs.Symbols.{sees}
-use Rattle.sql_parse.specs.Reading.{Reader, ◌>>=◌, under, behind, expect, name, whole}
-use Rattle.sql_parse.specs.ReadTables.{clause, names}
-use Rattle.sql_parse.specs.ReadStatements.{past_end}
+use Rattle.sql_parse.specs.descent.Reading.{Reader, ◌>>=◌, under, behind, expect, name, whole}
+use Rattle.sql_parse.specs.descent.ReadTables.{clause, names}
+use Rattle.sql_parse.specs.descent.ReadStatements.{past_end}
 use Rattle.sql_parse.specs.Conditions.{opens_few}
 
 abbrev pub by : List (List ℕ) → Option AuditedUsers

@@ -15,9 +15,9 @@ use Rattle.sql_ast.specs.declared.call.Value.TheVariants as values
 use Rattle.sql_ast.specs.declared.statement.Statement.{Statement}
 use Rattle.sql_ast.specs.declared.statement.Statement.TheVariants as statement
 use Rattle.sql_parse.specs.Symbols.{sees, opening, closing, comma, dot, semicolon}
-use Rattle.sql_parse.specs.Reading.{Reader, ◌>>=◌, under, behind, expect, parted, name, literal, whole}
-use Rattle.sql_parse.specs.MomentReading.{moment_read}
-use Rattle.sql_parse.specs.ReadStatements.{past_end}
+use Rattle.sql_parse.specs.descent.Reading.{Reader, ◌>>=◌, under, behind, expect, parted, name, literal, whole}
+use Rattle.sql_parse.specs.descent.MomentReading.{moment_read}
+use Rattle.sql_parse.specs.descent.ReadStatements.{past_end}
 use Rattle.sql_parse.specs.Conditions.{opens_few}
 use Rattle.sql_parse.specs.CallStatements.{package_of, procedure_name, parameter_name, are_taken}
 

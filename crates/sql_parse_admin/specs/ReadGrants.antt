@@ -12,8 +12,8 @@ use Rattle.au_base.specs.declared.table.TableReference.{TableReference}
 use Rattle.sql_lex.specs.declared.token.Kind.{Kind}
 use Rattle.sql_lex.specs.declared.token.Kind.TheVariants.{Word}
 use Rattle.sql_parse.specs.Symbols.{sees, comma}
-use Rattle.sql_parse.specs.Reading.{Reader, ◌>>=◌, under, behind, expect, parted, name}
-use Rattle.sql_parse.specs.ReadTables.{names, past, table}
+use Rattle.sql_parse.specs.descent.Reading.{Reader, ◌>>=◌, under, behind, expect, parted, name}
+use Rattle.sql_parse.specs.descent.ReadTables.{names, past, table}
 use Rattle.sql_parse.specs.Privileges.{words_of}
 
 -- past all of the words, where they come next

@@ -15,9 +15,9 @@ use Rattle.sql_ast.specs.declared.statement.Statement.{Statement}
 use Rattle.sql_ast.specs.declared.statement.Statement.TheVariants as statement
 use Rattle.sql_parse.specs.Symbols.{sees, comma}
 use Rattle.sql_parse.specs.PolicyStatements.{words_of_action}
-use Rattle.sql_parse.specs.Reading.{Reader, ◌>>=◌, under, behind, expect, parted, literal, name, whole}
-use Rattle.sql_parse.specs.ReadTables.{clause, names, table}
-use Rattle.sql_parse.specs.ReadStatements.{past_end}
+use Rattle.sql_parse.specs.descent.Reading.{Reader, ◌>>=◌, under, behind, expect, parted, literal, name, whole}
+use Rattle.sql_parse.specs.descent.ReadTables.{clause, names, table}
+use Rattle.sql_parse.specs.descent.ReadStatements.{past_end}
 use Rattle.sql_parse.specs.Conditions.{opens_few}
 use Rattle.sql_parse_admin.specs.ReadGrants.{past_words, privilege}
 

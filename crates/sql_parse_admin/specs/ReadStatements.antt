@@ -5,9 +5,9 @@ use Rattle.sql_lex.specs.declared.token.Kind.TheVariants.{Word}
 use Rattle.sql_ast.specs.declared.statement.Statement.{Statement}
 use Rattle.sql_ast.specs.declared.statement.Statement.TheVariants as statement
 use Rattle.sql_parse.specs.Symbols.{sees}
-use Rattle.sql_parse.specs.Reading.{Reader, ◌>>=◌, under, behind, expect, name, whole}
-use Rattle.sql_parse.specs.ReadTables.{table}
-use Rattle.sql_parse.specs.ReadStatements.{past_end}
+use Rattle.sql_parse.specs.descent.Reading.{Reader, ◌>>=◌, under, behind, expect, name, whole}
+use Rattle.sql_parse.specs.descent.ReadTables.{table}
+use Rattle.sql_parse.specs.descent.ReadStatements.{past_end}
 use Rattle.sql_parse.specs.Conditions.{opens_few}
 use Rattle.sql_parse_admin.specs.ReadGrants.{grant, revoke}
 

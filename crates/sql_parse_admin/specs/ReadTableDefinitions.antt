@@ -11,9 +11,9 @@ use Rattle.sql_ast.specs.declared.statement.Statement.TheVariants as statement
 use Rattle.sql_ast.specs.declared.table.Element.{Element}
 use Rattle.sql_ast.specs.declared.table.Element.TheVariants as element
 use Rattle.sql_parse.specs.Symbols.{sees, opening, closing, comma}
-use Rattle.sql_parse.specs.Reading.{Reader, ◌>>=◌, under, behind, expect, parted, name, whole}
-use Rattle.sql_parse.specs.ReadTables.{closed, names, past, table}
-use Rattle.sql_parse.specs.ReadStatements.{past_end}
+use Rattle.sql_parse.specs.descent.Reading.{Reader, ◌>>=◌, under, behind, expect, parted, name, whole}
+use Rattle.sql_parse.specs.descent.ReadTables.{closed, names, past, table}
+use Rattle.sql_parse.specs.descent.ReadStatements.{past_end}
 use Rattle.sql_parse.specs.Conditions.{opens_few}
 use Rattle.sql_parse.specs.TableStatements.{is_column}
 

@@ -8,8 +8,8 @@ use Rattle.sql_ast.specs.declared.administration.Password.{Password}
 use Rattle.sql_ast.specs.declared.statement.Statement.{Statement}
 use Rattle.sql_ast.specs.declared.statement.Statement.TheVariants as statement
 use Rattle.sql_parse.specs.Symbols.{kinds, sees}
-use Rattle.sql_parse.specs.Reading.{Reader, ◌>>=◌, expect, name, whole}
-use Rattle.sql_parse.specs.ReadStatements.{past_end}
+use Rattle.sql_parse.specs.descent.Reading.{Reader, ◌>>=◌, expect, name, whole}
+use Rattle.sql_parse.specs.descent.ReadStatements.{past_end}
 use Rattle.sql_parse.specs.Conditions.{opens_few}
 use Rattle.sql_parse.specs.UserStatements.{part}
 

@@ -1,7 +1,7 @@
 //! The actions of audit policies.
 ghost use Rattle.std.specs.Prelude.{◌≡◌, map};
 ghost use Rattle.sql_parse.specs.Symbols.{kinds};
-ghost use Rattle.sql_parse.specs.Reading.{Gives};
+ghost use Rattle.sql_parse.specs.descent.Reading.{Gives};
 ghost use Rattle.sql_parse.specs.PolicyStatements.{words_of_action};
 ghost use Rattle.sql_parse_admin.specs.ReadPolicies as spec;
 

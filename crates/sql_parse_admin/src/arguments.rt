@@ -1,7 +1,7 @@
 //! The arguments of a call.
-ghost use Rattle.sql_parse.specs.MomentReading.{moment_read};
+ghost use Rattle.sql_parse.specs.descent.MomentReading.{moment_read};
 ghost use Rattle.sql_parse.specs.Symbols.{kinds};
-ghost use Rattle.sql_parse.specs.Reading.{Gives};
+ghost use Rattle.sql_parse.specs.descent.Reading.{Gives};
 ghost use Rattle.sql_parse_admin.specs.ReadCalls as spec;
 
 use crate::literals::literal;
@@ -14,7 +14,7 @@ use sql_parse::cursor::{behind, expect_mark, sees_mark, sees_word};
 use std::alloc::Global;
 
 /// `argument {, argument}`
-#[tactic(auto, using(sql_parse::proofs::Turns::turns), unfolding(crate::specs::ReadCalls::arguments, sql_parse::specs::Reading::parted))]
+#[tactic(auto, using(sql_parse::proofs::Turns::turns), unfolding(crate::specs::ReadCalls::arguments, sql_parse::specs::descent::Reading::parted))]
 pub fn arguments(alloc: Global, tokens: &[Token]) -> Result<(List<Argument>, &[Token]), Stop>
     ensures { Gives (λ x. (x.0, kinds x.1.now)) result (spec.arguments (kinds tokens.now)) }
 {

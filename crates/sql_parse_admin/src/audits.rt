@@ -3,7 +3,7 @@ ghost use Rattle.std.specs.Prelude.{◌≡◌, List, IfOk, MatchOption};
 ghost use Rattle.sql_lex.specs.declared.token.Kind.{Kind};
 ghost use Rattle.sql_ast.specs.declared.statement.Statement.{Statement as Tree};
 ghost use Rattle.sql_parse.specs.Symbols.{kinds};
-ghost use Rattle.sql_parse.specs.Reading.{Gives};
+ghost use Rattle.sql_parse.specs.descent.Reading.{Gives};
 ghost use Rattle.sql_parse.specs.AuditStatements.{IsAuditStatement, IsNoAuditStatement};
 ghost use Rattle.sql_parse_admin.specs.ReadAudits as spec;
 

@@ -1,6 +1,6 @@
 //! GRANT and REVOKE.
 ghost use Rattle.sql_parse.specs.Symbols.{kinds};
-ghost use Rattle.sql_parse.specs.Reading.{Gives};
+ghost use Rattle.sql_parse.specs.descent.Reading.{Gives};
 ghost use Rattle.sql_parse_admin.specs.ReadGrants as spec;
 
 use crate::privileges::{is_object_right, object_right, right};
@@ -104,7 +104,7 @@ fn admin_option(tokens: &[Token]) -> Result<(bool, &[Token]), Stop>
     Ok((true, rest))
 }
 
-#[tactic(auto, using(sql_parse::proofs::Turns::turns), unfolding(crate::specs::ReadGrants::rights, sql_parse::specs::Reading::parted))]
+#[tactic(auto, using(sql_parse::proofs::Turns::turns), unfolding(crate::specs::ReadGrants::rights, sql_parse::specs::descent::Reading::parted))]
 fn rights(alloc: Global, tokens: &[Token]) -> Result<(List<Right>, &[Token]), Stop>
     ensures { Gives (λ x. (x.0, kinds x.1.now)) result (spec.rights (kinds tokens.now)) }
 {
@@ -122,7 +122,7 @@ fn rights(alloc: Global, tokens: &[Token]) -> Result<(List<Right>, &[Token]), St
     Ok((parts, rest))
 }
 
-#[tactic(auto, using(sql_parse::proofs::Turns::turns), unfolding(crate::specs::ReadGrants::object_rights, sql_parse::specs::Reading::parted))]
+#[tactic(auto, using(sql_parse::proofs::Turns::turns), unfolding(crate::specs::ReadGrants::object_rights, sql_parse::specs::descent::Reading::parted))]
 fn object_rights(alloc: Global, tokens: &[Token]) -> Result<(List<ObjectRight>, &[Token]), Stop>
     ensures { Gives (λ x. (x.0, kinds x.1.now)) result (spec.object_rights (kinds tokens.now)) }
 {

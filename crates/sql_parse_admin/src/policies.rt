@@ -3,7 +3,7 @@ ghost use Rattle.std.specs.Prelude.{◌≡◌, List, IfOk, MatchOption};
 ghost use Rattle.sql_lex.specs.declared.token.Kind.{Kind as Lexeme};
 ghost use Rattle.sql_ast.specs.declared.statement.Statement.{Statement as Tree};
 ghost use Rattle.sql_parse.specs.Symbols.{kinds};
-ghost use Rattle.sql_parse.specs.Reading.{Gives};
+ghost use Rattle.sql_parse.specs.descent.Reading.{Gives};
 ghost use Rattle.sql_parse.specs.PolicyStatements.{IsNoPolicyStatement, IsPolicyStatement};
 ghost use Rattle.sql_parse_admin.specs.ReadPolicies as spec;
 
@@ -175,7 +175,7 @@ fn evaluated_per(tokens: &[Token]) -> Result<(Evaluation, &[Token]), Stop>
     }
 }
 
-#[tactic(auto, using(sql_parse::proofs::Turns::turns), unfolding(crate::specs::ReadPolicies::privileges, sql_parse::specs::Reading::parted))]
+#[tactic(auto, using(sql_parse::proofs::Turns::turns), unfolding(crate::specs::ReadPolicies::privileges, sql_parse::specs::descent::Reading::parted))]
 fn privileges(alloc: Global, tokens: &[Token]) -> Result<(List<Privilege>, &[Token]), Stop>
     ensures { Gives (λ x. (x.0, kinds x.1.now)) result (spec.privileges (kinds tokens.now)) }
 {
@@ -193,7 +193,7 @@ fn privileges(alloc: Global, tokens: &[Token]) -> Result<(List<Privilege>, &[Tok
     Ok((parts, rest))
 }
 
-#[tactic(auto, using(sql_parse::proofs::Turns::turns), unfolding(crate::specs::ReadPolicies::parts, sql_parse::specs::Reading::parted))]
+#[tactic(auto, using(sql_parse::proofs::Turns::turns), unfolding(crate::specs::ReadPolicies::parts, sql_parse::specs::descent::Reading::parted))]
 fn parts(alloc: Global, tokens: &[Token]) -> Result<(List<ActionPart>, &[Token]), Stop>
     ensures { Gives (λ x. (x.0, kinds x.1.now)) result (spec.parts (kinds tokens.now)) }
 {

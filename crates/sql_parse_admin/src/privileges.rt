@@ -1,7 +1,7 @@
 //! What is granted: system privileges, roles, and rights on a table.
 ghost use Rattle.std.specs.Prelude.{◌≡◌, map};
 ghost use Rattle.sql_parse.specs.Symbols.{kinds};
-ghost use Rattle.sql_parse.specs.Reading.{Gives};
+ghost use Rattle.sql_parse.specs.descent.Reading.{Gives};
 ghost use Rattle.sql_parse.specs.Privileges.{words_of};
 ghost use Rattle.sql_parse_admin.specs.ReadGrants as spec;
 

@@ -2,7 +2,7 @@
 ghost use Rattle.std.specs.Prelude.{◌≡◌, ◌==◌, ◌++◌, map, find};
 ghost use Rattle.std.specs.List.{list_all};
 ghost use Rattle.sql_parse.specs.Symbols.{kinds};
-ghost use Rattle.sql_parse.specs.Reading.{Gives};
+ghost use Rattle.sql_parse.specs.descent.Reading.{Gives};
 ghost use Rattle.sql_parse.specs.CallStatements as call;
 ghost use Rattle.sql_parse_admin.specs.ReadCalls as spec;
 

@@ -3,7 +3,7 @@ ghost use Rattle.std.specs.Prelude.{◌≡◌, List, IfOk, MatchOption};
 ghost use Rattle.std.specs.List.{list_any};
 ghost use Rattle.sql_ast.specs.declared.statement.Statement.{Statement as Tree};
 ghost use Rattle.sql_parse.specs.Symbols.{kinds};
-ghost use Rattle.sql_parse.specs.Reading.{Gives};
+ghost use Rattle.sql_parse.specs.descent.Reading.{Gives};
 ghost use Rattle.sql_parse.specs.TableStatements.{is_column, IsTableStatement, IsNoTableStatement};
 ghost use Rattle.sql_parse_admin.specs.ReadTableDefinitions as spec;
 
@@ -94,7 +94,7 @@ fn is_column(element: &Element) -> bool
     }
 }
 
-#[tactic(auto, using(sql_parse::proofs::Turns::turns), unfolding(crate::specs::ReadTableDefinitions::elements, sql_parse::specs::Reading::parted))]
+#[tactic(auto, using(sql_parse::proofs::Turns::turns), unfolding(crate::specs::ReadTableDefinitions::elements, sql_parse::specs::descent::Reading::parted))]
 fn elements(alloc: Global, tokens: &[Token]) -> Result<(List<Element>, &[Token]), Stop>
     ensures { Gives (λ x. (x.0, kinds x.1.now)) result (spec.elements (kinds tokens.now)) }
 {

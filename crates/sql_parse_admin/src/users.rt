@@ -3,7 +3,7 @@ ghost use Rattle.std.specs.Prelude.{◌≡◌, List, ℕ, drop, IfOk, MatchOptio
 ghost use Rattle.sql_lex.specs.declared.token.Token.{Token as Lexeme};
 ghost use Rattle.sql_ast.specs.declared.statement.Statement.{Statement as Tree};
 ghost use Rattle.sql_parse.specs.Symbols.{kinds};
-ghost use Rattle.sql_parse.specs.Reading.{Gives};
+ghost use Rattle.sql_parse.specs.descent.Reading.{Gives};
 ghost use Rattle.sql_parse_admin.specs.ReadUsers as spec;
 ghost use Rattle.sql_parse.specs.UserStatements.{IsNoUserStatement, IsUserStatement};
 

@@ -1,5 +1,5 @@
 use Rattle.std.proofs.Common.{◌≡◌, ◌+◌, length}
-use Rattle.sql_lex.specs.Scan.{comment_len}
+use Rattle.sql_lex.specs.descent.Scan.{comment_len}
 use Rattle.sql_lex.proofs.gap.comment_len.Given as goal
 
 abbrev pub invariant-loop-rest : goal.invariant-loop-rest

@@ -1,5 +1,5 @@
 use Rattle.std.proofs.Common.{rules}
-use Rattle.sql_lex.specs.Scan.{quoted}
+use Rattle.sql_lex.specs.descent.Scan.{quoted}
 use Rattle.sql_lex.proofs.Decisions.{name_test, no_name}
 use Rattle.sql_lex.proofs.lexeme.quoted.Goals as goal
 

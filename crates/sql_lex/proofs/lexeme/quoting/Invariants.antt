@@ -1,5 +1,5 @@
 use Rattle.std.proofs.Common.{◌≡◌, false, [], length}
-use Rattle.sql_lex.specs.Scan.{quoting}
+use Rattle.sql_lex.specs.descent.Scan.{quoting}
 use Rattle.sql_lex.proofs.lexeme.quoting.Given as goal
 
 abbrev pub invariant-loop-bytes : goal.invariant-loop-bytes

@@ -1,7 +1,7 @@
 use Rattle.std.proofs.Common.{◌≡◌, ◌-◌}
 use Rattle.sql_parse.specs.Symbols.{kinds, sees, comma}
-use Rattle.sql_parse.specs.Reading.{inside, many, after}
-use Rattle.sql_parse.specs.ReadChanges as spec
+use Rattle.sql_parse.specs.descent.Reading.{inside, many, after}
+use Rattle.sql_parse.specs.descent.ReadChanges as spec
 use Rattle.sql_parse.proofs.changes.assignments.Given as goal
 
 abbrev pub invariant-loop-turn : goal.invariant-loop-turn

@@ -2,8 +2,8 @@ use Rattle.std.proofs.Common.{◌≡◌, ◌+◌, ◌-◌, ◌*◌}
 use Rattle.std.specs.Prelude.{codes}
 use Rattle.sql_lex.specs.declared.token.Kind.TheVariants.{Word}
 use Rattle.sql_parse.specs.Symbols.{kinds, sees, star, comma}
-use Rattle.sql_parse.specs.Reading.{◌>>=◌, many, after, parted, signed, summand}
-use Rattle.sql_parse.specs.Reading as spec
+use Rattle.sql_parse.specs.descent.Reading.{◌>>=◌, many, after, parted, signed, summand}
+use Rattle.sql_parse.specs.descent.Reading as spec
 use Rattle.sql_parse.proofs.expression.+expression.Given as goal
 
 abbrev pub decreases-inside : goal.decreases-inside

@@ -1,7 +1,7 @@
 use Rattle.std.proofs.Common.{◌≡◌, ◌-◌}
 use Rattle.sql_parse.specs.Symbols.{kinds}
-use Rattle.sql_parse.specs.Reading.{inside, many}
-use Rattle.sql_parse.specs.ReadQueries as spec
+use Rattle.sql_parse.specs.descent.Reading.{inside, many}
+use Rattle.sql_parse.specs.descent.ReadQueries as spec
 use Rattle.sql_parse.proofs.queries.furthers.Given as goal
 
 abbrev pub invariant-loop-turn : goal.invariant-loop-turn

@@ -1,7 +1,7 @@
 use Rattle.std.proofs.Common.{◌≡◌, ◌-◌}
 use Rattle.sql_parse.specs.Symbols.{kinds, sees, comma}
-use Rattle.sql_parse.specs.Reading.{many, after}
-use Rattle.sql_parse.specs.ReadQueries as spec
+use Rattle.sql_parse.specs.descent.Reading.{many, after}
+use Rattle.sql_parse.specs.descent.ReadQueries as spec
 use Rattle.sql_parse.proofs.queries.orders.Given as goal
 
 abbrev pub invariant-loop-turn : goal.invariant-loop-turn

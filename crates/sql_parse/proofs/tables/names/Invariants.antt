@@ -1,7 +1,7 @@
 use Rattle.std.proofs.Common.{◌≡◌, ◌-◌}
 use Rattle.sql_parse.specs.Symbols.{kinds, sees, comma}
-use Rattle.sql_parse.specs.Reading.{many, after, name}
-use Rattle.sql_parse.specs.ReadTables as spec
+use Rattle.sql_parse.specs.descent.Reading.{many, after, name}
+use Rattle.sql_parse.specs.descent.ReadTables as spec
 use Rattle.sql_parse.proofs.tables.names.Given as goal
 
 abbrev pub invariant-loop-turn : goal.invariant-loop-turn

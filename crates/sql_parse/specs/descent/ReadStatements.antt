@@ -6,10 +6,10 @@ use Rattle.sql_ast.specs.declared.expression.Expr.{Expr}
 use Rattle.sql_ast.specs.declared.statement.Statement.{Statement}
 use Rattle.sql_ast.specs.declared.statement.Statement.TheVariants as statement
 use Rattle.sql_parse.specs.Symbols.{sees, semicolon}
-use Rattle.sql_parse.specs.Reading.{Reader, under, behind}
-use Rattle.sql_parse.specs.ReadTables.{past}
-use Rattle.sql_parse.specs.ReadChanges.{delete, insert, update}
-use Rattle.sql_parse.specs.ReadQueries.{count, counts, select}
+use Rattle.sql_parse.specs.descent.Reading.{Reader, under, behind}
+use Rattle.sql_parse.specs.descent.ReadTables.{past}
+use Rattle.sql_parse.specs.descent.ReadChanges.{delete, insert, update}
+use Rattle.sql_parse.specs.descent.ReadQueries.{count, counts, select}
 
 -- past the `;`, if one comes next
 abbrev pub past_end : {A : Type 0} → Option (A × List Kind) → Option (A × List Kind)

@@ -12,9 +12,9 @@ use Rattle.sql_ast.specs.declared.query.Join.{Join}
 use Rattle.sql_ast.specs.declared.query.Select.{Select}
 use Rattle.sql_ast.specs.declared.query.SortKey.{SortKey}
 use Rattle.sql_parse.specs.Symbols.{sees, opening, closing, star, comma}
-use Rattle.sql_parse.specs.Reading.{Reader, ◌>>=◌, under, behind, expect, many, parted, name, sum, cond}
-use Rattle.sql_parse.specs.ReadTables.{alias, aliased, clause, past, qualified}
-use Rattle.sql_parse.specs.ReadChanges.{filter}
+use Rattle.sql_parse.specs.descent.Reading.{Reader, ◌>>=◌, under, behind, expect, many, parted, name, sum, cond}
+use Rattle.sql_parse.specs.descent.ReadTables.{alias, aliased, clause, past, qualified}
+use Rattle.sql_parse.specs.descent.ReadChanges.{filter}
 
 abbrev pub key_of : Option (List ℕ) × List ℕ → Bool → SortKey
 key_of q d = record { table = q.0; column = q.1; descending = d }

@@ -13,7 +13,7 @@ use Rattle.sql_parse.specs.Symbols.{mark_number, sees, opening, closing, star, p
 use Rattle.sql_lex.specs.declared.token.Mark.{Mark as MarkName}
 use Rattle.sql_lex.specs.declared.token.Mark.TheVariants as mark
 use Rattle.sql_parse.specs.Expressions.{joined, summed, upper}
-use Rattle.sql_parse.specs.MomentReading.{moment_read}
+use Rattle.sql_parse.specs.descent.MomentReading.{moment_read}
 
 abbrev pub Reader : Type 0 → Type 0
 Reader A = List Kind → Option (A × List Kind)

@@ -8,8 +8,8 @@ use Rattle.sql_ast.specs.declared.rows.Delete.{Delete}
 use Rattle.sql_ast.specs.declared.rows.Insert.{Insert}
 use Rattle.sql_ast.specs.declared.rows.Update.{Update}
 use Rattle.sql_parse.specs.Symbols.{opening, comma, equal}
-use Rattle.sql_parse.specs.Reading.{Reader, ◌>>=◌, under, expect, parted, name, sum, cond}
-use Rattle.sql_parse.specs.ReadTables.{clause, closed, names, past, table}
+use Rattle.sql_parse.specs.descent.Reading.{Reader, ◌>>=◌, under, expect, parted, name, sum, cond}
+use Rattle.sql_parse.specs.descent.ReadTables.{clause, closed, names, past, table}
 
 -- the columns of an INSERT, if they are listed
 unfoldable pub columns : Reader (Option (List (List ℕ)))

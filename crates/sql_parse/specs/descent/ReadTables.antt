@@ -4,7 +4,7 @@ use Rattle.au_base.specs.declared.table.TableReference.{TableReference}
 use Rattle.sql_lex.specs.declared.token.Kind.{Kind}
 use Rattle.sql_ast.specs.declared.query.AliasedTable.{AliasedTable}
 use Rattle.sql_parse.specs.Symbols.{sees, closing, comma, dot}
-use Rattle.sql_parse.specs.Reading.{Reader, ◌>>=◌, under, behind, expect, parted, name}
+use Rattle.sql_parse.specs.descent.Reading.{Reader, ◌>>=◌, under, behind, expect, parted, name}
 use Rattle.sql_parse.specs.Tables.{table_of}
 
 -- past the token, if it comes next
