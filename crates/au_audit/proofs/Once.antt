@@ -1,10 +1,9 @@
 -- Names that are kept once: one more name is kept where it isn't among those that are.
-use Rattle.std.proofs.Common.{◌≡◌, ◌∙◌, ℕ, Bool, true, false, not, ◌||◌, cond, if◌then◌else◌, ◌+◌, Some, List, [], ◌∷◌, ◌++◌, take, refl, sym, ap}
-use Rattle.std.specs.List.{filter, list_any, slice_get}
+use Rattle.std.proofs.Common.{◌≡◌, ◌∙◌, ℕ, Bool, true, false, not, ◌||◌, cond, if◌then◌else◌, ◌+◌, ◌<◌, List, [], ◌∷◌, ◌++◌, get_or, length, take, refl, sym, ap}
+use Rattle.std.specs.List.{filter, list_any}
 use Rattle.std.specs.Str.{bytes_eq}
 use Rattle.std.proofs.lemmas.List.{append-nil, take_more}
 use Rattle.std.proofs.lemmas.List.Elements.{filter-append}
-use Rattle.std.proofs.lemmas.Option.{get_or_from_slice_get, slice_get_within}
 use Rattle.std.proofs.lemmas.Slice.Eq.{bytes_eq-Decides}
 use Rattle.au_entries.specs.Enabling.{each_once, is_among}
 
@@ -65,9 +64,8 @@ once_more (x ∷ xs) name =
     ∙ once_step x name (each_once xs) (is_among (each_once xs) name) (bytes_eq name x || is_among (but x (each_once xs)) name) refl refl
 
 -- the same in a loop over the names
-pub once_pushed : (names once after : List (List ℕ)) (i : ℕ) (name : List ℕ) → slice_get names i ≡ Some name → once ≡ each_once (take i names)
+pub once_pushed : (names once after : List (List ℕ)) (i : ℕ) (name : List ℕ) → i < length names → name ≡ get_or names i name → once ≡ each_once (take i names)
     → after ≡ (if is_among once name then once else once ++ name ∷ []) → after ≡ each_once (take (i + 1) names)
-once_pushed names once after i name at before pushed =
+once_pushed names once after i name within at before pushed =
     pushed ∙ ap (λ (o : List (List ℕ)). if is_among o name then o else o ++ name ∷ []) before ∙ sym (once_more (take i names) name)
-    ∙ ap (λ (last : List ℕ). each_once (take i names ++ last ∷ [])) (sym (get_or_from_slice_get names i name name at))
-    ∙ ap each_once (sym (take_more names i name (slice_get_within names i name at)))
+    ∙ ap (λ (last : List ℕ). each_once (take i names ++ last ∷ [])) at ∙ ap each_once (sym (take_more names i name within))

@@ -1,7 +1,7 @@
 //! What AUDIT and NOAUDIT make of an enablement.
 ghost use Rattle.std.specs.Prelude.{◌≡◌, ◌++◌, ◌∷◌, [], if◌then◌else◌, IfOk, OnOk, map, not};
 ghost use Rattle.std.specs.List.{filter};
-ghost use Rattle.au_entries.specs.Enabling.{audit_made, audited_by, audited_except, each_once, for_users, is_among, is_listed, newly_listed, noaudit_made, noaudited, noaudited_by, outcomes_named, widened, with_outcomes, with_users};
+ghost use Rattle.au_entries.specs.Enabling.{audit_made, audited_by, audited_except, each_once, for_users, is_among, is_listed, newly_listed, noaudit_made, noaudited, noaudited_by, outcomes_named, widened, with_outcomes, with_users, without_users};
 ghost use Rattle.au_entries.specs.declared.policy.Outcomes.{Outcomes};
 
 use au_base::{Code, List, Memory, Name};
@@ -81,7 +81,6 @@ fn is_among(names: &[Name], name: &Name) -> bool
 }
 
 // The names as they are first written, each once.
-#[tactic(auto, using(crate::proofs::Once::once_pushed))]
 fn each_once(alloc: Global, names: &[Name]) -> Result<Vec<Name>, Memory>
     ensures { IfOk result (λ once. once.items ≡ each_once names.now) }
 {
@@ -174,7 +173,7 @@ fn unlisting(
     users: &[Name],
     listed: &[(Name, Outcomes)],
 ) -> Result<Enabled, Memory>
-    ensures { IfOk result (λ made. made ≡ for_users (filter (λ entry. not (is_among users.now entry.0)) listed.now)) }
+    ensures { IfOk result (λ made. made ≡ for_users (without_users users.now listed.now)) }
 {
     Ok(for_users(without_users(alloc, users, listed)?))
 }
@@ -262,7 +261,7 @@ fn without_users(
     users: &[Name],
     listed: &[(Name, Outcomes)],
 ) -> Result<Vec<(Name, Outcomes)>, Memory>
-    ensures { IfOk result (λ left. left.items ≡ filter (λ entry. not (is_among users.now entry.0)) listed.now) }
+    ensures { IfOk result (λ left. left.items ≡ without_users users.now listed.now) }
 {
     let mut left = Vec::new(alloc);
     for entry in listed {

@@ -1,3 +1,4 @@
+pub mod Settling
 pub use Rattle.au_entries.specs.Changing
 pub use Rattle.au_entries.specs.Demand
 pub use Rattle.au_entries.specs.Enabling

@@ -2,10 +2,13 @@
 #![tactic(auto)]
 
 mod catalog;
+mod laws;
 
+pub use au_audit::as_row;
 pub use au_entries::{
     AuditPolicy, Busy, Change, Condition, Decision, Demanded, Enabled, Evaluate, Facts, FgaName,
     FgaPolicy, Kept, KeptResults, Outcomes, ReadCondition, Record, RecordKind, Table, enabled_for,
     matches,
 };
 pub use catalog::Catalog;
+pub use laws::catalogues_change_by_their_parts;

@@ -1,8 +1,7 @@
 -- When a frame of the journal goes on from what is kept, and what it makes of it (which changes go on is this project's
 -- profile).
-use Rattle.std.specs.Prelude.{◌≡◌, ◌≢◌, ◌≤◌, ◌<◌, ℕ, Bool, true, false, not, ◌||◌, IsTrue, List, [], ◌∷◌, ◌++◌, map, length, None, ◌⊎◌}
-use Rattle.std.specs.List.{list_all, list_any}
-use Rattle.std.specs.Str.{bytes_eq}
+use Rattle.std.specs.Prelude.{◌≡◌, ◌≢◌, ◌≤◌, ◌<◌, ℕ, Bool, true, false, not, IsTrue, List, [], ◌∷◌, ◌++◌, length, None, ◌⊎◌}
+use Rattle.std.specs.List.{list_all}
 use Rattle.au_base.specs.Limits.{CATALOG_OBJECTS, GRANTS, INSTANCES}
 use Rattle.au_base.specs.declared.numbers.Stamp.{Stamp}
 use Rattle.au_base.specs.BuiltIn.{sys}
@@ -10,33 +9,16 @@ use Rattle.au_entries.specs.declared.change.Change.{Change}
 use Rattle.au_entries.specs.declared.change.Change.TheVariants.{User, Role, SysGrant, RoleGrant, Policy, Enable, Start}
 use Rattle.au_entries.specs.declared.kept.Kept.{Kept}
 use Rattle.au_entries.specs.declared.policy.AuditPolicy.{AuditPolicy}
-use Rattle.au_entries.specs.declared.policy.Enabled.{Enabled}
-use Rattle.au_entries.specs.declared.policy.Enabled.TheVariants.{Off, By, Except}
 use Rattle.au_entries.specs.declared.trail_record.Record.{Record}
 use Rattle.au_entries.specs.Changing.{changed, changed_all}
-use Rattle.au_grants.specs.declared.grants.Grants.{Grants}
-use Rattle.au_grants.specs.Rights.{IsHolder, grant_count}
+pub use Rattle.au_entries.specs.Replaying.{has_grantee, has_role, has_user, named_users}
+use Rattle.au_priv.specs.declared.grants.Grants.{Grants}
+use Rattle.au_priv.specs.Rights.{IsHolder, grant_count}
 use Rattle.rec_codec.specs.declared.frame.Frame.{Frame}
 use Rattle.rec_codec.specs.declared.frame.Frame.TheVariants.{Image, Event, Purge}
 use Rattle.au_engine.specs.Deciding.{has_policy}
 use Rattle.au_engine.specs.Lawful.{ora_mandatory}
 use Rattle.au_engine.specs.Step.{unread_condition}
-
--- a user, a role, or either of this name is there
-abbrev pub has_user : Kept → List ℕ → Bool
-has_user kept name = list_any (λ user. bytes_eq user.0 name) kept.users
-
-abbrev pub has_role : Kept → List ℕ → Bool
-has_role kept name = list_any (λ role. bytes_eq role name) kept.roles
-
-abbrev pub has_grantee : Kept → List ℕ → Bool
-has_grantee kept name = has_user kept name || has_role kept name
-
--- the users that an enablement names
-abbrev pub named_users : Enabled → List (List ℕ)
-named_users Off = []
-named_users (By users) = map (λ user. user.0) users
-named_users (Except users outcomes) = users
 
 -- The change goes on from what is kept before it. What it stands on is there: the grantee, the role that is granted, the
 -- policy that is enabled and the users that this names. A role is new, and a role grant closes no circle. No policy has

@@ -104,10 +104,14 @@ noaudited Off = Err NOT_ENABLED_SO
 noaudited (By listed) = Err NOT_ENABLED_SO
 noaudited (Except excepted standing) = Ok Off
 
+-- the listed users but these
+abbrev pub without_users : List (List ℕ) → List (List ℕ × Outcomes) → List (List ℕ × Outcomes)
+without_users users listed = filter (λ entry. not (is_among users entry.0)) listed
+
 -- NOAUDIT BY takes the users out of those that are listed; a user who isn't listed changes nothing
 abbrev pub noaudited_by : List (List ℕ) → Enabled → Result Enabled Code
 noaudited_by users Off = Err NOT_ENABLED_SO
-noaudited_by users (By listed) = Ok (for_users (filter (λ entry. not (is_among users entry.0)) listed))
+noaudited_by users (By listed) = Ok (for_users (without_users users listed))
 noaudited_by users (Except excepted standing) = Err NOT_ENABLED_SO
 
 -- what NOAUDIT makes of an enablement, or the code by which it is refused
