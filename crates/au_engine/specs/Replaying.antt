@@ -12,8 +12,8 @@ use Rattle.au_entries.specs.declared.policy.AuditPolicy.{AuditPolicy}
 use Rattle.au_entries.specs.declared.trail_record.Record.{Record}
 use Rattle.au_entries.specs.Changing.{changed, changed_all}
 pub use Rattle.au_entries.specs.Replaying.{has_grantee, has_role, has_user, named_users}
-use Rattle.au_priv.specs.declared.grants.Grants.{Grants}
-use Rattle.au_priv.specs.Rights.{IsHolder, grant_count}
+use Rattle.au_grants.specs.declared.grants.Grants.{Grants}
+use Rattle.au_grants.specs.Rights.{IsHolder, grant_count}
 use Rattle.rec_codec.specs.declared.frame.Frame.{Frame}
 use Rattle.rec_codec.specs.declared.frame.Frame.TheVariants.{Image, Event, Purge}
 use Rattle.au_engine.specs.Deciding.{has_policy}

@@ -3,7 +3,7 @@
 use crate::fault::Fault;
 use au_base::{List, Name, Privilege};
 use au_entries::{AuditPolicy, Enabled};
-use au_priv::{GrantChange, GrantDraft, Grants};
+use au_grants::{GrantChange, GrantDraft, Grants};
 use std::alloc::Global;
 use std::mem;
 
