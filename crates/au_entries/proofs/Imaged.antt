@@ -156,8 +156,11 @@ system_lead : ComeBack → (cs : Conditions) (k : Kept) → IsLawful cs k → Le
 system_lead back cs k h =
     let at : List SystemEntry → Grants = λ gs. record { system = gs; role = []; object = [] } in
     group cs system_before system_change (λ gs. with_grants (stage2 k) gs [] []) (λ g. IsTrue (has_grantee k g.0)) k.grants.system
-    (λ done g rest split front p. (p, ap (λ (gs : Grants). record (stage2 k) { grants = gs })
-    (one_more system_grant at done g (back.system (at done) (front_in_order system_before done (g ∷ []) front, refl, refl)) (back.system (at (done ++ g ∷ [])) (front, refl, refl)))))
+    (λ done g rest split front p. (
+      p,
+      ap (λ (gs : Grants). record (stage2 k) { grants = gs })
+          (one_more system_grant at done g (back.system (at done) (front_in_order system_before done (g ∷ []) front, refl, refl)) (back.system (at (done ++ g ∷ [])) (front, refl, refl))),
+    ))
     h.ordered.grants.0 h.founded.system
 
 -- chains of grants of roles
@@ -188,8 +191,11 @@ role_grants_lead back cs k h =
     let system = k.grants.system in
     let at : List RoleEntry → Grants = λ gs. record { system = system; role = gs; object = [] } in
     group cs role_before role_grant_change (λ gs. with_grants (stage2 k) system gs []) (λ g. IsTrue (has_grantee k g.0) × IsTrue (has_role k g.1)) k.grants.role
-    (λ done g rest split front p. ((p.0, p.1, closes_none k.grants.role done rest g split h.founded.no_circle), ap (λ (gs : Grants). record (stage2 k) { grants = gs })
-    (one_more role_grant at done g (back.role (at done) (h.ordered.grants.0, front_in_order role_before done (g ∷ []) front, refl)) (back.role (at (done ++ g ∷ [])) (h.ordered.grants.0, front, refl)))))
+    (λ done g rest split front p. (
+      (p.0, p.1, closes_none k.grants.role done rest g split h.founded.no_circle),
+      ap (λ (gs : Grants). record (stage2 k) { grants = gs })
+          (one_more role_grant at done g (back.role (at done) (h.ordered.grants.0, front_in_order role_before done (g ∷ []) front, refl)) (back.role (at (done ++ g ∷ [])) (h.ordered.grants.0, front, refl))),
+    ))
     h.ordered.grants.1 h.founded.role
 
 objects_lead : ComeBack → (cs : Conditions) (k : Kept) → IsLawful cs k → Leads cs (stage6 k) (map object_change k.grants.object) (stage7 k)
@@ -198,8 +204,11 @@ objects_lead back cs k h =
     let role = k.grants.role in
     let at : List ObjectEntry → Grants = λ gs. record { system = system; role = role; object = gs } in
     group cs object_before object_change (λ gs. with_grants (stage6 k) system role gs) (λ g. IsTrue (has_grantee k g.0) × IsTrue (has_table k g.1)) k.grants.object
-    (λ done g rest split front p. (p, ap (λ (gs : Grants). record (stage6 k) { grants = gs })
-    (one_more object_grant at done g (back.object (at done) (h.ordered.grants.0, h.ordered.grants.1, front_in_order object_before done (g ∷ []) front)) (back.object (at (done ++ g ∷ [])) (h.ordered.grants.0, h.ordered.grants.1, front)))))
+    (λ done g rest split front p. (
+      p,
+      ap (λ (gs : Grants). record (stage6 k) { grants = gs })
+          (one_more object_grant at done g (back.object (at done) (h.ordered.grants.0, h.ordered.grants.1, front_in_order object_before done (g ∷ []) front)) (back.object (at (done ++ g ∷ [])) (h.ordered.grants.0, h.ordered.grants.1, front))),
+    ))
     h.ordered.grants.2 h.founded.object
 
 -- ---- tables and rows
@@ -242,7 +251,7 @@ policies_lead cs k h =
     (λ done p rest split front is. (
       (is.0, audit_goes cs p.when is.1),
       ap (λ (w : Option (Evaluate × Condition)). at (put_in_order (λ x. by_name x.name p.name) (record p { when = w }) done)) (audit_again cs p.when is.1)
-      ∙ ap at (put_last (λ x. by_name x.name p.name) p done (before_last before done p front)),
+          ∙ ap at (put_last (λ x. by_name x.name p.name) p done (before_last before done p front)),
     ))
     (by_keys name_before (λ p. p.name) k.policies h.ordered.policies)
     (both (λ p. p.name ≢ ora_mandatory) (λ p. IsAuditTruth cs p.when) k.policies h.ordered.unreserved h.truths.audit)
@@ -297,7 +306,7 @@ fga_lead cs k h =
     let there = table_there p.name.table k.tables is.0 in (
       (there.0, (there.1, there.2), fga_goes cs k p.name.table there.0 p.condition (there.1, there.2) is.1),
       ap (λ (c : Option Condition). at (put_in_order (λ x. by_fields (fields x) (fields p)) (record p { condition = c }) done)) (fga_again cs k p.name.table p.condition is.1)
-      ∙ ap at (put_last (λ x. by_fields (fields x) (fields p)) p done (before_last before done p front)),
+          ∙ ap at (put_last (λ x. by_fields (fields x) (fields p)) p done (before_last before done p front)),
     ))
     (by_keys fields_before fields k.fga h.ordered.fga)
     (both (λ p. IsTrue (has_table k p.name.table)) (λ p. IsFgaTruth cs k p.name.table p.condition) k.fga h.founded.fga h.truths.fga)

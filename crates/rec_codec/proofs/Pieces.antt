@@ -64,14 +64,14 @@ change_held old new c spellable left same bytes last done told h =
     let t = to_be_bytes w32 n in
     let d = flat_map change.spelled done in
     let front : old.bytes ≡ begun last n done = h.bytes_are
-        ∙ ap (λ (k : ℕ). begun last k done ++ (count_behind old.changes (old.records + length told) ++ flat_map trail_record.spelled told)) all
-        ∙ ap (λ (rs : List Record). begun last n done ++ (count_behind old.changes (old.records + length rs) ++ flat_map trail_record.spelled rs)) none
-        ∙ ap (λ (k : ℕ). begun last n done ++ (count_behind k (old.records + 0) ++ [])) more_left
-        ∙ append-nil (begun last n done) in
+    ∙ ap (λ (k : ℕ). begun last k done ++ (count_behind old.changes (old.records + length told) ++ flat_map trail_record.spelled told)) all
+    ∙ ap (λ (rs : List Record). begun last n done ++ (count_behind old.changes (old.records + length rs) ++ flat_map trail_record.spelled rs)) none
+    ∙ ap (λ (k : ℕ). begun last n done ++ (count_behind k (old.records + 0) ++ [])) more_left
+    ∙ append-nil (begun last n done) in
     let joined : begun last n done ++ change.spelled c ≡ begun last n (done ++ c ∷ []) =
-        ap (λ (r : List ℕ). 1 ∷ r)
-        (append_assoc s (t ++ d) (change.spelled c)
-        ∙ ap (λ (r : List ℕ). s ++ r) (append_assoc t d (change.spelled c) ∙ ap (λ (r : List ℕ). t ++ r) (sym (one_more change.spelled done c)))) in
+    ap (λ (r : List ℕ). 1 ∷ r)
+    (append_assoc s (t ++ d) (change.spelled c)
+    ∙ ap (λ (r : List ℕ). s ++ r) (append_assoc t d (change.spelled c) ∙ ap (λ (r : List ℕ). t ++ r) (sym (one_more change.spelled done c)))) in
     let counted : new.records ≡ new.records + length (told ++ []) = omega (arith, ap (λ (rs : List Record). length (rs ++ [])) none) in
     record {
       moment = h.moment;
@@ -107,8 +107,8 @@ record_held old new r spellable none same left bytes last done told h =
     let t = flat_map trail_record.spelled told in
     let b = begun last (new.changes + length done) done in
     let front : old.bytes ≡ b ++ (count_behind new.changes m ++ t) = h.bytes_are
-        ∙ ap (λ (n : ℕ). begun last (n + length done) done ++ (count_behind n (old.records + length told) ++ t)) (sym same)
-        ∙ ap (λ (n : ℕ). b ++ (count_behind new.changes n ++ t)) all in
+    ∙ ap (λ (n : ℕ). begun last (n + length done) done ++ (count_behind n (old.records + length told) ++ t)) (sym same)
+    ∙ ap (λ (n : ℕ). b ++ (count_behind new.changes n ++ t)) all in
     let c = count_behind new.changes m in
     let held : Holds new last done (told ++ r ∷ []) = record {
       moment = h.moment;
