@@ -2,6 +2,8 @@ mod AllOf
 mod Bounds
 mod DemandedNames
 mod Founded
+mod Groups
+mod Imaged
 mod Members
 mod Ordered
 mod Rising

@@ -6,6 +6,7 @@ mod change;
 mod decision;
 mod facts;
 mod fine_grained;
+mod images;
 mod kept;
 mod laws;
 mod matching;
@@ -18,6 +19,7 @@ pub use change::Change;
 pub use decision::{Busy, Decision, ReadCondition};
 pub use facts::{Demanded, Facts};
 pub use fine_grained::{FgaName, FgaPolicy};
+pub use images::images_come_back;
 pub use kept::Kept;
 pub use laws::{
     changes_keep_bounds, changes_keep_laws, changes_keep_order, demanded_names_stand_in_order,

@@ -1,6 +1,7 @@
 pub mod Changes
 pub mod Frames
 pub mod Given
+pub mod ImageLaws
 pub mod Images
 pub mod Parts
 pub mod Records

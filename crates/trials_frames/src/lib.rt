@@ -1,5 +1,0 @@
-//! Trials of the bodies of frames, byte by byte.
-#![tactic(auto)]
-
-#[cfg(test)]
-mod bodies;
