@@ -28,11 +28,11 @@ use Rattle.au_entries.proofs.Groups.{Leads, before_last, by_keys, front_in_order
 use Rattle.au_entries.specs.Imaging.{archive_changes, enablement_change, fga_change, image_changes, nothing, object_change, policy_change, role_change, role_grant_change, row_change, system_change, table_change, user_change, written_condition, written_text}
 use Rattle.au_entries.specs.Lawful.{IsAuditTruth, IsFgaTruth, IsLawful, IsRowFounded, IsTableFounded}
 use Rattle.au_entries.specs.Replaying.{AllGoOn, Conditions, GoesOn, IsArchive, IsFgaCondition, IsKeptTable, IsPolicyCondition, has_grantee, has_policy, has_role, has_table, has_user, named_users}
-use Rattle.au_priv.specs.declared.change.GrantChange.{GrantChange}
-use Rattle.au_priv.specs.Changing.{applied, applied_all, object_grant, role_grant, system_grant, without}
-use Rattle.au_priv.specs.Order.{AreInOrder, object_before, role_before, system_before}
+use Rattle.au_grants.specs.declared.change.GrantChange.{GrantChange}
+use Rattle.au_grants.specs.Changing.{applied, applied_all, object_grant, role_grant, system_grant, without}
+use Rattle.au_grants.specs.Order.{AreInOrder, object_before, role_before, system_before}
 use Rattle.sql_ast.specs.declared.expression.Expr.{Expr}
-use Rattle.au_priv.specs.Rights.{Grants, HasNoCircle, HoldsRole, IsChain, IsHolder, IsRoleGranted, ObjectEntry, RoleEntry, SystemEntry}
+use Rattle.au_grants.specs.Rights.{Grants, HasNoCircle, HoldsRole, IsChain, IsHolder, IsRoleGranted, ObjectEntry, RoleEntry, SystemEntry}
 
 -- that grants in order come back where they are granted in turn, as `grants_in_order_come_back` says it
 pub record ComeBack : Type 0 where

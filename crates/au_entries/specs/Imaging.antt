@@ -15,7 +15,7 @@ use Rattle.au_entries.specs.declared.policy.Enabled.{Enabled}
 use Rattle.au_entries.specs.declared.policy.Evaluate.{Evaluate}
 use Rattle.au_entries.specs.declared.table.Table.{Table as AnyTable}
 use Rattle.au_entries.specs.Changing.{KeptRow}
-use Rattle.au_priv.specs.Rights.{ObjectEntry, RoleEntry, SystemEntry}
+use Rattle.au_grants.specs.Rights.{ObjectEntry, RoleEntry, SystemEntry}
 
 -- nothing is kept, and no instance has begun
 abbrev pub nothing : Kept

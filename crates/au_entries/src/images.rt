@@ -13,5 +13,5 @@ pub fn images_come_back()
     ensures goes { (conditions : Conditions) (kept : AnyKept) → IsLawful conditions kept → AllGoOn conditions true nothing (image_changes kept) }
     ensures back { (conditions : Conditions) (kept : AnyKept) → IsLawful conditions kept → changed_all conditions.tree (image_changes kept) nothing ≡ record kept { trail = []; last = record { 0 = 0 } } }
 {
-    au_priv::grants_in_order_come_back();
+    au_grants::grants_in_order_come_back();
 }
