@@ -21,6 +21,7 @@ pub use fine_grained::{FgaName, FgaPolicy};
 pub use kept::Kept;
 pub use laws::{
     changes_keep_bounds, changes_keep_laws, changes_keep_order, demanded_names_stand_in_order,
+    frames_keep_laws,
 };
 pub use matching::{enabled_for, matches};
 pub use policy::{AuditPolicy, Condition, Enabled, Evaluate, Outcomes};
