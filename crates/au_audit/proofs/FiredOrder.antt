@@ -72,7 +72,7 @@ names_apart test (policy ∷ policies) up =
     first_apart all other has =
         let found = mapped (λ (p : FgaPolicy). p.name) (filter test policies) other has in
         λ same. apart_by_fields policy found.0
-          (all_from (fields_before (fields_of policy)) (map fields_of policies) all (fields_of found.0) (mapped_to fields_of policies found.0 (kept test policies found.0 found.1))) (same ∙ sym found.2)
+        (all_from (fields_before (fields_of policy)) (map fields_of policies) all (fields_of found.0) (mapped_to fields_of policies found.0 (kept test policies found.0 found.1))) (same ∙ sym found.2)
 
     one : (b : Bool) → list_all (fields_before (fields_of policy)) (map fields_of policies) ≡ true → Apart (map (λ (p : FgaPolicy). p.name) (filter test policies))
         → Apart (map (λ (p : FgaPolicy). p.name) (cond b (policy ∷ filter test policies) (filter test policies)))

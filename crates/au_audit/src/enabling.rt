@@ -101,11 +101,7 @@ fn push_once(once: &mut Vec<Name>, name: &Name) -> Result<(), Memory>
     Ok(())
 }
 
-fn audited_except(
-    users: Vec<Name>,
-    outcomes: Outcomes,
-    enabled: &Enabled,
-) -> Result<Enabled, Code>
+fn audited_except(users: Vec<Name>, outcomes: Outcomes, enabled: &Enabled) -> Result<Enabled, Code>
     ensures { result ≡ audited_except users.items outcomes enabled.now }
 {
     match enabled {
@@ -168,11 +164,7 @@ fn listing(
 }
 
 // The enablement for the listed users but these.
-fn unlisting(
-    alloc: Global,
-    users: &[Name],
-    listed: &[(Name, Outcomes)],
-) -> Result<Enabled, Memory>
+fn unlisting(alloc: Global, users: &[Name], listed: &[(Name, Outcomes)]) -> Result<Enabled, Memory>
     ensures { IfOk result (λ made. made ≡ for_users (without_users users.now listed.now)) }
 {
     Ok(for_users(without_users(alloc, users, listed)?))

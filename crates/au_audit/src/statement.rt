@@ -66,11 +66,7 @@ pub fn tables_of(
     }
 }
 
-fn one_table(
-    alloc: Global,
-    user: &Name,
-    table: &TableReference,
-) -> Result<List<TableName>, Memory>
+fn one_table(alloc: Global, user: &Name, table: &TableReference) -> Result<List<TableName>, Memory>
     ensures { IfOk result (λ tables. tables ≡ resolved_table user.now table.now ∷ []) }
 {
     let mut tables = List::new(alloc);

@@ -130,9 +130,13 @@ table_at conditions image before (User name verifier) goes old x has =
     let is = old x has in
     (is.0, is.1, users_stay (User name verifier) before.users x.name.owner tt is.2, is.3)
 table_at conditions image before (UserGone gone) goes old x has =
-    let is = old x has in
-    (is.0, is.1, users_stay (UserGone gone) before.users x.name.owner
-    (λ same. none_pass (λ (table : AnyTable). bytes_eq table.name.owner gone) before.tables x goes.1 has (is_name x.name.owner gone (sym same))) is.2, is.3)
+    let is = old x has in (
+      is.0,
+      is.1,
+      users_stay (UserGone gone) before.users x.name.owner
+          (λ same. none_pass (λ (table : AnyTable). bytes_eq table.name.owner gone) before.tables x goes.1 has (is_name x.name.owner gone (sym same))) is.2,
+      is.3,
+    )
 table_at conditions image before (Table name columns key) goes old x has =
     elim (put_cases (λ (table : AnyTable). by_fields (table_fields table.name) (table_fields name)) (record { name = name; columns = columns; key = key }) before.tables x has) [
       | inl same ↦ subst (IsTableFounded before) same (goes.1, goes.2, goes.3, goes.4)
@@ -249,9 +253,11 @@ enabled_at conditions image before (Policy name privileges actions roles when) g
     let is = old x has in
     (policies_stay conditions.tree (Policy name privileges actions roles when) before.policies x.0 (λ same. (let e : true ≡ false = ap is_gone same in cc)) is.0, is.1)
 enabled_at conditions image before (PolicyGone gone) goes old x has =
-    let is = old x has in
-    (policies_stay conditions.tree (PolicyGone gone) before.policies x.0
-    (λ same. none_pass (λ (entry : Entry). bytes_eq entry.0 gone) before.enabled x goes.1 has (is_name x.0 gone (ap gone_name same))) is.0, is.1)
+    let is = old x has in (
+      policies_stay conditions.tree (PolicyGone gone) before.policies x.0
+          (λ same. none_pass (λ (entry : Entry). bytes_eq entry.0 gone) before.enabled x goes.1 has (is_name x.0 gone (ap gone_name same))) is.0,
+      is.1,
+    )
 enabled_at conditions image before _ goes old x has = old x has
 
 -- ---- fine-grained policies
@@ -266,7 +272,7 @@ fga_at conditions image before (TableGone gone) goes old x has =
 fga_at conditions image before (Fga table policy condition columns all types enabled) goes old x has =
     elim (put_cases (λ (y : FgaPolicy). by_fields (fga_fields y.name.table y.name.policy) (fga_fields table policy)) _ before.fga x has) [
       | inl same ↦ subst (λ (y : FgaPolicy). IsTrue (has_table before y.name.table)) same
-        (any_to (λ (other : AnyTable). same_table other.name table) before.tables goes.0 goes.1.0 (is_table_name goes.0.name table goes.1.1))
+          (any_to (λ (other : AnyTable). same_table other.name table) before.tables goes.0 goes.1.0 (is_table_name goes.0.name table goes.1.1))
       | inr there ↦ old x there
     ]
 fga_at conditions image before (FgaGone table policy) goes old x has = old x (kept (λ (y : FgaPolicy). not (is_fga table policy y)) before.fga x has)

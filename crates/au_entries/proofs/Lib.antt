@@ -1,3 +1,4 @@
+mod AfterFrames
 mod AllOf
 mod Bounds
 mod DemandedNames

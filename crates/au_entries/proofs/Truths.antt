@@ -93,7 +93,7 @@ fga_truth_at : (conditions : Conditions) (image : Bool) (kept : Kept) (change : 
 fga_truth_at conditions image before (Fga table policy condition columns all types enabled) ordered goes founded old x has =
     elim (put_cases (λ (y : FgaPolicy). by_fields (fga_fields y.name.table y.name.policy) (fga_fields table policy)) _ before.fga x has) [
       | inl same ↦ subst (IsTruth conditions before) same
-        (new_fga conditions before table goes.0 condition (rises by_fields (λ (t : AnyTable). table_fields t.name) before.tables ordered.tables) goes.1 goes.2)
+          (new_fga conditions before table goes.0 condition (rises by_fields (λ (t : AnyTable). table_fields t.name) before.tables ordered.tables) goes.1 goes.2)
       | inr there ↦ old x there
     ]
 fga_truth_at conditions image before (FgaGone table policy) ordered goes founded old x has = old x (kept (λ (y : FgaPolicy). not (is_fga table policy y)) before.fga x has)
@@ -129,7 +129,7 @@ one_lawful keeps conditions image before change h goes = record {
   truths = record {
     audit = all_of (λ (policy : AuditPolicy). IsAuditTruth conditions policy.when) _ (audit_at conditions image before change goes (all_at (λ (policy : AuditPolicy). IsAuditTruth conditions policy.when) before.policies h.truths.audit));
     fga = all_of (IsTruth conditions (changed conditions.tree change before)) _
-    (fga_truth_at conditions image before change h.ordered goes (all_at (λ (policy : FgaPolicy). IsTrue (has_table before policy.name.table)) before.fga h.founded.fga) (all_at (IsTruth conditions before) before.fga h.truths.fga));
+        (fga_truth_at conditions image before change h.ordered goes (all_at (λ (policy : FgaPolicy). IsTrue (has_table before policy.name.table)) before.fga h.founded.fga) (all_at (IsTruth conditions before) before.fga h.truths.fga));
   };
   last = h.last;
   archive = archive_bounded conditions image before change h.archive goes;

@@ -1,9 +1,10 @@
 //! Laws of what changes make of what is kept, and of what policies demand.
-ghost use Rattle.std.specs.Prelude.{◌≡◌, ◌≢◌, ◌≤◌, ◌+◌, ◌⊎◌, ℕ, Bool, IsTrue, List, length, map};
+ghost use Rattle.std.specs.Prelude.{◌≡◌, ◌≢◌, ◌≤◌, ◌+◌, ◌⊎◌, ℕ, Bool, IsTrue, List, Option, length, map};
 ghost use Rattle.std.specs.List.{AllByRecursion, Contains};
 ghost use Rattle.au_base.specs.BuiltIn.{ora_mandatory};
-ghost use Rattle.au_base.specs.Limits.{INSTANCES};
+ghost use Rattle.au_base.specs.Limits.{INSTANCES, LAST_MOMENT};
 ghost use Rattle.au_base.specs.Order.{is_in_order, name_before};
+ghost use Rattle.au_base.specs.declared.numbers.Stamp.{Stamp};
 ghost use Rattle.au_entries.specs.declared.change.Change.{Change};
 ghost use Rattle.au_entries.specs.declared.facts.Facts.{Facts};
 ghost use Rattle.au_entries.specs.declared.kept.Kept.{Kept};
@@ -11,7 +12,9 @@ ghost use Rattle.au_entries.specs.declared.policy.AuditPolicy.{AuditPolicy};
 ghost use Rattle.au_entries.specs.declared.policy.Enabled.{Enabled};
 ghost use Rattle.au_entries.specs.Changing.{changed, changed_all};
 ghost use Rattle.au_entries.specs.Demand.{demanded};
-ghost use Rattle.au_entries.specs.Lawful.{IsLawful, IsOrdered};
+ghost use Rattle.au_entries.specs.declared.trail_record.Record.{Record};
+ghost use Rattle.au_entries.specs.Frames.{PartsGoOn, after_parts};
+ghost use Rattle.au_entries.specs.Lawful.{IsLawful, IsOrdered, IsWhole};
 ghost use Rattle.au_entries.specs.Replaying.{AllGoOn, Conditions, GoesOn, IsArchive};
 ghost use Rattle.au_grants.specs.declared.grants.Grants.{Grants};
 
@@ -31,6 +34,19 @@ pub fn changes_keep_order()
 pub fn changes_keep_laws()
     ensures one { (conditions : Conditions) (image : Bool) (kept : Kept) (change : Change) → IsLawful conditions kept → GoesOn conditions image kept change → IsLawful conditions (changed conditions.tree change kept) }
     ensures all { (conditions : Conditions) (image : Bool) (kept : Kept) (changes : List Change) → IsLawful conditions kept → AllGoOn conditions image kept changes → IsLawful conditions (changed_all conditions.tree changes kept) }
+{
+    au_grants::changes_keep_order();
+    au_grants::changes_keep_no_circle();
+}
+
+/// All that is kept is lawful and whole after each frame that goes on, where it was lawful before:
+/// then rows fit their columns, keys differ and limits are kept too. It does nothing, and states the
+/// law for its callers.
+pub fn frames_keep_laws()
+    ensures lawful { (conditions : Conditions) (image : Bool) (kept : Kept) (stamp : Stamp) (purge : Option (Option Stamp)) (changes : List Change) (records : List Record)
+        → IsLawful conditions kept → PartsGoOn conditions image kept stamp changes → stamp.0 ≤ LAST_MOMENT → IsLawful conditions (after_parts conditions.tree stamp purge changes records kept) }
+    ensures whole { (conditions : Conditions) (image : Bool) (kept : Kept) (stamp : Stamp) (purge : Option (Option Stamp)) (changes : List Change) (records : List Record)
+        → PartsGoOn conditions image kept stamp changes → IsWhole (after_parts conditions.tree stamp purge changes records kept) }
 {
     au_grants::changes_keep_order();
     au_grants::changes_keep_no_circle();

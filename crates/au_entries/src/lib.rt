@@ -23,6 +23,7 @@ pub use images::images_come_back;
 pub use kept::Kept;
 pub use laws::{
     changes_keep_bounds, changes_keep_laws, changes_keep_order, demanded_names_stand_in_order,
+    frames_keep_laws,
 };
 pub use matching::{enabled_for, matches};
 pub use policy::{AuditPolicy, Condition, Enabled, Evaluate, Outcomes};

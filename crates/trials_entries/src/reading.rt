@@ -1,7 +1,7 @@
 //! The fields of a line.
 
 use crate::fault::Fault;
-use au_base::{Action, List, Name, Privilege, TableName, Text};
+use au_base::{Action, List, Name, Privilege, Text};
 use sql_ast::{AuditedUsers, Whenever};
 use std::alloc::Global;
 
@@ -18,26 +18,6 @@ pub fn names(alloc: Global, text: &str) -> Result<List<Name>, Fault> {
     }
     for part in text.split(',') {
         listed.push(name(alloc, part)?)?;
-    }
-    Ok(listed)
-}
-
-/// A table: its owner and its name, with a point between them.
-pub fn table(alloc: Global, text: &str) -> Result<TableName, Fault> {
-    let (owner, table) = text.split_once('.').ok_or(Fault::NoCase)?;
-    let owner = name(alloc, owner)?;
-    let name = name(alloc, table)?;
-    Ok(TableName { owner, name })
-}
-
-/// Tables with commas between them. The empty text lists none.
-pub fn tables(alloc: Global, text: &str) -> Result<List<TableName>, Fault> {
-    let mut listed = List::new(alloc);
-    if text.is_empty() {
-        return Ok(listed);
-    }
-    for part in text.split(',') {
-        listed.push(table(alloc, part)?)?;
     }
     Ok(listed)
 }
@@ -62,26 +42,6 @@ pub fn privileges(alloc: Global, text: &str) -> Result<List<Privilege>, Fault> {
 /// An action.
 pub fn action(text: &str) -> Result<Action, Fault> {
     Action::from_name(text.as_bytes()).ok_or(Fault::NoCase)
-}
-
-// An action of a policy, on a table where ` ON ` stands in it.
-fn part(alloc: Global, text: &str) -> Result<(Action, Option<TableName>), Fault> {
-    match text.split_once(" ON ") {
-        None => Ok((action(text)?, None)),
-        Some((name, on)) => Ok((action(name)?, Some(table(alloc, on)?))),
-    }
-}
-
-/// Actions of a policy with commas between them. The empty text lists none.
-pub fn parts(alloc: Global, text: &str) -> Result<List<(Action, Option<TableName>)>, Fault> {
-    let mut listed = List::new(alloc);
-    if text.is_empty() {
-        return Ok(listed);
-    }
-    for one in text.split(',') {
-        listed.push(part(alloc, one)?)?;
-    }
-    Ok(listed)
 }
 
 /// The users of AUDIT.

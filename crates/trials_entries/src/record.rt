@@ -2,8 +2,7 @@
 
 use crate::asking::field;
 use crate::fault::Fault;
-use crate::reading;
-use crate::writing;
+use crate::{reading, writing};
 use au_audit::as_row;
 use au_base::{Code, SessionNo, Stamp};
 use au_entries::{Record, RecordKind};
