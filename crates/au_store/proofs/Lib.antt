@@ -3,6 +3,8 @@ pub mod Exclusive
 pub mod Frames
 pub mod Going
 pub mod Keeping
+pub mod Kinds
+pub mod Looked
 pub mod Once
 pub mod Opening
 pub mod Reading

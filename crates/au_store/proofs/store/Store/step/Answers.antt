@@ -9,7 +9,7 @@ use Rattle.au_engine.specs.State.{State}
 use Rattle.au_store.specs.Recovery.{RecoversToEither}
 use Rattle.au_store.specs.Steps.{Exceeds, HasFrameWithin, StepCause, StepCosts, StepDoubts, StepLeaves, StepMoves, StepsBy, event_at}
 use Rattle.au_store.proofs.Going.{faulted_on, goes_on, mended_moved, same_moved, still_on}
-use Rattle.au_store.proofs.Stepped.{exceeds_by, exceeds_from, frame_there, frame_within, kept_from, made_after, mend_leaves, moves_from, since_from, since_to, step_costs, step_leaves, step_moves, steps_by, time_from, tried_read, written_from}
+use Rattle.au_store.proofs.Stepped.{exceeds_by, exceeds_from, frame_there, frame_within, kept_from, left_full, made_after, mend_leaves, moves_from, since_from, since_to, step_costs, step_leaves, step_moves, steps_by, time_from, tried_read, written_from}
 use Rattle.au_store.proofs.store.Store.step.Goals as goal
 
 pub returns-in-Disk-clause-any_moment : goal.returns-in-Disk-clause-any_moment
@@ -239,8 +239,17 @@ returns-in-Err-clause-history g c =
     let s2 = c.prepare.new.self in
     still_on g.D.Disk.faults s0 s2 c.args.client c.args.ask.now (c.prepare.ensures.state ∙ c.mend.ensures.same.0)
     (mended_moved s0.seat s2.seat (c.prepare.ensures.same.1 ∙ c.mend.ensures.mended c.in-Done.is)) (ap g.D.Disk.faults c.prepare.ensures.same.0 ∙ c.in-Done.ensures.cause)
+    (ap (λ (s : Seat). s.doubt) (c.prepare.ensures.same.1 ∙ c.mend.ensures.mended c.in-Done.is))
 
 pub returns-in-Ok-clause-history : goal.returns-in-Ok-clause-history
 returns-in-Ok-clause-history g c =
     goes_on g.D.Disk.faults c.args.self.now c.make.new.self c.args.client c.args.ask.now c.make.result
-    (returns-in-Ok-clause-step g c) (returns-in-Ok-clause-moves g c) (returns-in-Ok-clause-full g c) (returns-in-Ok-clause-cause g c)
+    (returns-in-Ok-clause-step g c) (returns-in-Ok-clause-moves g c) (returns-in-Ok-clause-full g c) (returns-in-Ok-clause-cause g c) c.make.ensures.settled
+
+pub returns-in-Err-clause-untouched : goal.returns-in-Err-clause-untouched
+returns-in-Err-clause-untouched g c = λ left settled. c.prepare.ensures.same.0 ∙ c.mend.ensures.still settled
+
+pub returns-in-Ok-clause-untouched : goal.returns-in-Ok-clause-untouched
+returns-in-Ok-clause-untouched g c = λ left settled.
+    let full = left_full c.in-Ok.prepared c.prepare.new.self.state c.make.new.self.state c.make.result c.make.ensures.made left in
+    c.make.ensures.untouched full.0 full.1 full.2 ∙ c.prepare.ensures.same.0 ∙ c.mend.ensures.still settled
