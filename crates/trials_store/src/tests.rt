@@ -1,11 +1,12 @@
 //! Stores on disks in memory: made, used, shut and opened again.
-ghost use Rattle.std.specs.Prelude.{IfOk};
+ghost use Rattle.std.specs.Prelude.{◌≡◌, ◌<◌, IfOk};
 ghost use Rattle.au_engine.specs.Step.{IsAsked};
 
-use au_base::{Ask, Cell, ClientNo, Memory, Said, Text};
+use au_base::{Ask, Cell, ClientNo, Memory, Said, Steps, Text};
 use au_io::{Area, Disk, Failed, MemClock, MemDisk};
-use au_store::{Created, OpenFault, Store};
+use au_store::{Created, LookFault, OpenFault, Store};
 use std::alloc::Global;
+use std::sync::ledger::{Blank, Ledger};
 use std::test::Fail;
 
 const LIMIT: u32 = 1_073_741_824;
@@ -105,8 +106,23 @@ fn ask(
     asked: Option<&str>,
 ) -> Result<Told, Memory> {
     let ask = ask_of(alloc, asked)?;
-    let said = store.step(alloc, ClientNo(1), &ask);
+    let said = counted::<Brand>(alloc, store, &ask, Blank::new(1));
     Ok(in_short(&said))
+}
+
+fn counted<L: Ledger>(
+    alloc: Global,
+    store: &mut Store<MemDisk, MemClock>,
+    ask: &Ask,
+    blank: Blank,
+) -> Said
+    requires asked { IsAsked ask.now }
+    requires name { blank.name ≡ L.name }
+    requires parts { blank.parts ≡ L.parts }
+    requires some { 0 < L.parts }
+{
+    let mut steps = Steps::<L>::new(blank);
+    store.step(alloc, ClientNo(1), ask, &mut steps)
 }
 
 // Whether the client is told this at each of its asks, in order.
@@ -270,6 +286,76 @@ fn a_step_mends_what_the_one_before_left_in_doubt(rt: HostRuntime) -> Result<(),
         let mut store = begun(alloc, LIMIT, MAKING + OPENING + call)?;
         assert!(rt; answers(alloc, &mut store, &MENDED)?, "call {call}");
     }
+    Ok(())
+}
+
+// What is seen of a store: its instance, how many records it has, and its used length; or why not.
+type Seen = Result<(u32, usize, u64), LookFault>;
+
+fn seen(alloc: Global, disk: MemDisk) -> (MemDisk, Seen) {
+    match Store::<MemDisk, MemClock>::look(alloc, disk) {
+        (disk, Ok((kept, used))) => (disk, Ok((kept.instance, kept.trail.len(), used))),
+        (disk, Err(why)) => (disk, Err(why)),
+    }
+}
+
+// What is seen of a new store, and of the same one behind a run in which an audit policy was enabled.
+fn seen_before_and_after(alloc: Global) -> Result<(Seen, Seen), OpenFault> {
+    let (disk, first) = seen(alloc, made(alloc, LIMIT, u64::MAX)?);
+    let mut store = opened(alloc, disk)?;
+    if !answers(alloc, &mut store, &BEFORE[..2])? {
+        return Err(OpenFault::Memory);
+    }
+    let (disk, _) = store.shut();
+    Ok((first, seen(alloc, disk).1))
+}
+
+#[test]
+fn a_look_sees_what_is_kept_and_how_long_it_is(rt: HostRuntime) -> Result<(), Fail> {
+    let (first, second) = seen_before_and_after(rt.alloc())?;
+    assert!(rt; first == Ok((0, 0, 320)));
+    // the start of the first instance has 31 bytes, the enablement and its record 125
+    assert!(rt; second == Ok((1, 1, 476)));
+    Ok(())
+}
+
+// Why a look at a store of two frames, scribbled on there, sees nothing.
+fn unseen(alloc: Global, at: u64, bytes: [u8; 4]) -> Result<Option<LookFault>, OpenFault> {
+    let (mut disk, _) = begun(alloc, LIMIT, u64::MAX)?.shut();
+    if scribble(&mut disk, at, bytes).is_err() {
+        return Err(OpenFault::Memory);
+    }
+    Ok(seen(alloc, disk).1.err())
+}
+
+#[test]
+fn a_look_tells_the_same_damage(rt: HostRuntime) -> Result<(), Fail> {
+    let area = Area::A;
+    for (written, bytes, at) in WRONG {
+        let why = unseen(rt.alloc(), written, bytes)?;
+        assert_eq!(rt; why, Some(LookFault::Damaged { area, at }), "at {written}");
+    }
+    Ok(())
+}
+
+#[test]
+fn a_look_needs_a_store_and_no_number(rt: HostRuntime) -> Result<(), Fail> {
+    for (written, bytes, wanted) in [
+        (0, [0, 0x41, 0x55, 0x4a], Some(LookFault::Unformatted)),
+        (343, [0x3b, 0x9a, 0xc9, 0xff], None),
+    ] {
+        let why = unseen(rt.alloc(), written, bytes)?;
+        assert_eq!(rt; why, wanted, "at {written}");
+    }
+    Ok(())
+}
+
+#[test]
+fn a_look_says_that_the_disk_failed(rt: HostRuntime) -> Result<(), Fail> {
+    let disk = made(rt.alloc(), LIMIT, MAKING)?;
+    let (disk, why) = seen(rt.alloc(), disk);
+    assert!(rt; why == Err(LookFault::Disk));
+    assert!(rt; seen(rt.alloc(), disk).1 == Ok((0, 0, 320)));
     Ok(())
 }
 

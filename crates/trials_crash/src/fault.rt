@@ -1,0 +1,41 @@
+//! Why a line has no answer.
+
+use au_base::Memory;
+use std::alloc::{AllocError, AllocFailed};
+use std::io;
+
+/// Why a line has no answer.
+#[derive(Clone, Copy, Debug, PartialEq, Eq)]
+pub enum Fault {
+    /// There was no memory.
+    Memory,
+    /// It has a step that there isn't, or a part of one is missing or has no meaning.
+    NoCase,
+}
+
+impl From<Memory> for Fault {
+    fn from(_: Memory) -> Self {
+        Fault::Memory
+    }
+}
+
+impl From<AllocError> for Fault {
+    fn from(_: AllocError) -> Self {
+        Fault::Memory
+    }
+}
+
+impl<T: Drop> From<AllocFailed<T>> for Fault {
+    fn from(_: AllocFailed<T>) -> Self {
+        Fault::Memory
+    }
+}
+
+impl From<Fault> for io::Error {
+    fn from(fault: Fault) -> Self {
+        match fault {
+            Fault::Memory => io::Error::from(AllocError),
+            Fault::NoCase => io::Error::from(io::ErrorKind::InvalidInput),
+        }
+    }
+}
