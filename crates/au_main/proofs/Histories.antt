@@ -102,17 +102,14 @@ module _ (faults : ℕ) (p q : Reached) where
   steps_go (Unmended client ask) made tells over = one_fault client tells.0 (subst (λ (l : List Entry). GoesOver p l q) tells.1 over)
 
 -- any store stands for its first entry, so what it goes on by leads from where it was
-first_stands : {D C : Type 0} (faults : D → ℕ) (s : Stored D C) → StandsFor faults s (first_of faults s)
-first_stands faults s = record {
-  leads = refl;
-  in_doubt = λ _. record { before = []; doubt = Opened s.state s.seat.used s.seat.limit (faults s.disk); since = []; split = refl; comes = tt; quiet = tt };
-}
+first_stands : {D C : Type 0} (means : Means D C) (s : Stored D C) → StandsFor means.told means.meaning means.faults s (first_of means.faults s)
+first_stands means s = record { leads = refl; in_doubt = λ _. inr tt }
 
 answer_goes : {D C : Type 0} (means : Means D C) (faults : ℕ) (s t : Stored D C) (a : Answer)
-    → ((entries : List Entry) → StandsFor means.faults s entries → (made : List Entry) × AnswerTells a made × StandsFor means.faults t (entries ++ made))
+    → ((entries : List Entry) → StandsFor means.told means.meaning means.faults s entries → (made : List Entry) × AnswerTells a made × StandsFor means.told means.meaning means.faults t (entries ++ made))
     → GoesOver (counted faults (reached_of means.faults s)) (steps_of a) (counted faults (reached_of means.faults t))
 answer_goes means faults s t a history =
-    let on = history (first_of means.faults s) (first_stands means.faults s) in
+    let on = history (first_of means.faults s) (first_stands means s) in
     steps_go faults (reached_of means.faults s) (reached_of means.faults t) a on.0 on.1 on.2.leads
 
 -- where the disk failed the state stays
@@ -136,14 +133,14 @@ AllTell-push (first ∷ answers) a entries made of is = (
 )
 
 IsLegalBy-push : {D C : Type 0} (means : Means D C) (o s t : Stored D C) (answers : List Answer) (a : Answer) → IsLegalBy means o s answers
-    → ((entries : List Entry) → StandsFor means.faults s entries → (made : List Entry) × AnswerTells a made × StandsFor means.faults t (entries ++ made))
+    → ((entries : List Entry) → StandsFor means.told means.meaning means.faults s entries → (made : List Entry) × AnswerTells a made × StandsFor means.told means.meaning means.faults t (entries ++ made))
     → IsLegalBy means o t (answers ++ a ∷ [])
 IsLegalBy-push means o s t answers a legal history =
     let on = history (first_of means.faults o ++ legal.entries) legal.stands in
     record {
       entries = legal.entries ++ on.0;
       of_answers = AllTell-push answers a legal.entries on.0 legal.of_answers on.1;
-      stands = subst (λ (l : List Entry). StandsFor means.faults t l) (append_assoc (first_of means.faults o) legal.entries on.0) on.2;
+      stands = subst (λ (l : List Entry). StandsFor means.told means.meaning means.faults t l) (append_assoc (first_of means.faults o) legal.entries on.0) on.2;
     }
 
 -- ---- doubts
@@ -212,7 +209,7 @@ Ran-none means s counts only settled kept = record {
   asks = refl;
   read = ReadAll-nil (means.ticking s.clock);
   history = refl;
-  legal = record { entries = []; of_answers = refl; stands = first_stands means.faults s };
+  legal = record { entries = []; of_answers = refl; stands = first_stands means s };
   unmended = λ before rest client ask is. absurd (let sizes = ap length is in omega (arith, sizes, length-append before (Unmended client ask ∷ rest)));
   in_doubt = λ unsettled. absurd (unsettled settled);
   on_disk = λ told. IsOnDisk-none (reached_of means.faults s) (means.meaning s.disk) s.seat counts only settled (kept told);

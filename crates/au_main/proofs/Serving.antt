@@ -42,7 +42,7 @@ state_stays m n event said is step = subst (λ (a : Said). StepsBy m event a n) 
 -- what a step of the store did is an answer to the ask
 pub answers_by : {D C : Type 0} (means : Means D C) (s t : Stored D C) (client : ClientNo) (ask : Ask) (said : Said) → client.0 ≡ 1
     → StepsBy s.state (event_at client ask t.reading) said t.state
-    → HistoryGoesOn means.faults client ask s t said
+    → HistoryGoesOn means.told means.meaning means.faults client ask s t said
     → IsTried means.told means.meaning means.ticking (event_at client ask t.reading) s t said ⊎ IsUnmended means.told means.meaning s t said
     → (said ≢ Disk → t.seat.doubt ≡ Settled)
     → (means.told → said ≢ Disk → IsKeptOn t.state.kept (means.meaning t.disk) t.seat)

@@ -80,7 +80,7 @@ AllTell (a ∷ answers) entries = (made rest : List Entry) × AnswerTells a made
 pub record IsLegalBy {D C : Type 0} (means : Means D C) (opened here : Stored D C) (answers : List Answer) : Type 0 where
   pub entries : List Entry
   pub of_answers : AllTell answers entries
-  pub stands : StandsFor means.faults here (first_of means.faults opened ++ entries)
+  pub stands : StandsFor means.told means.meaning means.faults here (first_of means.faults opened ++ entries)
 
 -- The store as it was opened, and the entries of the replies alone, are a legal list too. It leads to the state, the used
 -- length and the limit of the store; the count of faults is that of the opening.

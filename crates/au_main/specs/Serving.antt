@@ -35,7 +35,7 @@ pub record Answers {D C : Type 0} (means : Means D C) (s t : Stored D C) (ask : 
   pub asks : asked answer ≡ (1, ask)
   pub read : ReadAll (means.ticking s.clock) (means.ticking t.clock) (readings_of answer)
   pub state : StateBy s.state answer t.state
-  pub history : (entries : List Entry) → StandsFor means.faults s entries → (made : List Entry) × AnswerTells answer made × StandsFor means.faults t (entries ++ made)
+  pub history : (entries : List Entry) → StandsFor means.told means.meaning means.faults s entries → (made : List Entry) × AnswerTells answer made × StandsFor means.told means.meaning means.faults t (entries ++ made)
   pub doubt : DoubtBy answer s.seat t.seat
   pub on_disk : means.told → StepsOnDisk s.state t.state answer (means.meaning s.disk) (means.meaning t.disk) s.seat t.seat
   pub time : Passes (means.meaning s.disk) (means.meaning t.disk)

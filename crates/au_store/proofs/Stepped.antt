@@ -22,7 +22,7 @@ use Rattle.au_store.specs.Doubts.{EventWrites, HasFrame, IsAfter}
 use Rattle.au_store.specs.Stored.{IsKeptOn}
 use Rattle.au_store.specs.Kinds.{GoesOnSeat}
 use Rattle.au_store.specs.Steps.{Exceeds, EventCosts, FitsUnder, HasFrameWithin, IsLeftOut, IsMoved, IsMovedTo, IsWithin, MakesBy, StepCosts, StepLeaves, StepMoves, StepsBy, append_cost, growth}
-use Rattle.au_store.proofs.Kinds.{cost_frame, fits_frame, goes_on_seat, writes_charged}
+use Rattle.au_store.proofs.EventFrames.{cost_frame, fits_frame, goes_on_seat, writes_charged}
 
 -- the state and the reply
 pub steps_by : (m n : State) (event : Event) (prepared : Prepared) (answer : Said) → Step m event prepared.reply (after prepared m) → MakesBy prepared m answer n → StepsBy m event answer n

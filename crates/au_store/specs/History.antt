@@ -1,11 +1,13 @@
 -- Histories: what a store did since it was opened, entry by entry, and what it stands for.
-use Rattle.std.specs.Prelude.{◌≡◌, ◌≢◌, ◌<◌, ⊤, ℕ, List, [], ◌∷◌, ◌++◌, Option, Some}
+use Rattle.std.specs.Prelude.{◌≡◌, ◌≢◌, ◌⊎◌, ◌<◌, ⊤, ℕ, List, [], ◌∷◌, ◌++◌, Option, Some}
 use Rattle.std.specs.List.{AllByRecursion}
 use Rattle.au_base.specs.declared.ask.Ask.{Ask}
 use Rattle.au_base.specs.declared.numbers.ClientNo.{ClientNo}
 use Rattle.au_base.specs.declared.reply.Reply.{Reply}
 use Rattle.au_base.specs.declared.reply.Said.{Said}
 use Rattle.au_base.specs.declared.reply.Said.TheVariants as said
+use Rattle.au_entries.specs.declared.kept.Kept.{Kept}
+use Rattle.au_io.specs.Disk.{Meaning}
 use Rattle.au_io.specs.Faults.{HasRisen}
 use Rattle.au_journal.specs.declared.doubt.Doubt.TheVariants.{Settled}
 use Rattle.rec_codec.specs.declared.frame.Frame.{Frame}
@@ -16,7 +18,7 @@ use Rattle.au_store.specs.declared.deed.Deed.{Deed}
 use Rattle.au_store.specs.declared.deed.Deed.TheVariants as deed
 use Rattle.au_store.specs.declared.entry.Entry.{Entry}
 use Rattle.au_store.specs.declared.entry.Entry.TheVariants.{Opened, Stepped, Abandoned, Faulted, Filled}
-use Rattle.au_store.specs.Doubts.{EventWrites}
+use Rattle.au_store.specs.Doubts.{EventWrites, HasFrame, IsAfter, IsStoodOn}
 use Rattle.au_store.specs.Kinds.{FitsWithin, IsFree, needed_by, used_by}
 use Rattle.au_store.specs.Steps.{event_at}
 use Rattle.au_store.specs.Stored.{Stored}
@@ -103,27 +105,31 @@ IsQuiet (Abandoned client) = ⊤
 IsQuiet (Faulted client count) = ⊤
 IsQuiet (Filled client ask reading needed) = ⊥
 
--- the disk failed, or the store was opened, perhaps with a doubt from before
-abbrev pub MayDoubt : Entry → Type 0
-MayDoubt (Opened m used limit faults) = ⊤
-MayDoubt (Stepped client ask reading reply) = ⊥
-MayDoubt (Abandoned client) = ⊥
-MayDoubt (Faulted client count) = ⊤
-MayDoubt (Filled client ask reading needed) = ⊥
-
--- since an entry with which a step may have come into doubt the disk failed and sessions were ended, and nothing was replied to
-pub record IsQuietSince (entries : List Entry) : Type 0 where
+-- The step in doubt stands in the list: it is the event of the client whose step failed there, in the state to which the list
+-- before it leads. It had a frame to write, and the store stands on what is kept or on what is kept after it. Since then the
+-- disk failed and sessions were ended, and nothing was replied to.
+pub record IsDoubtIn {D C : Type 0} (told : Type 0) (meaning : D → Meaning) (store : Stored D C) (entries : List Entry) : Type 0 where
   pub before : List Entry
-  pub doubt : Entry
+  pub event : Event
+  pub count : ℕ
   pub since : List Entry
-  pub split : entries ≡ before ++ doubt ∷ since
-  pub comes : MayDoubt doubt
+  pub split : entries ≡ before ++ Faulted event.client count ∷ since
   pub quiet : AllByRecursion IsQuiet since
+  pub place : Reached
+  pub leads : Leads before place
+  pub has_frame : HasFrame place.state event
+  pub stood : told → (doubted : Kept) × IsAfter place.state event doubted × IsStoodOn store.state.kept doubted (meaning store.disk) store.seat
 
--- the store, whose disk has failed so often, is where the list leads; where a step is in doubt, nothing was replied to since
-pub record StandsFor {D C : Type 0} (faults : D → ℕ) (store : Stored D C) (entries : List Entry) : Type 0 where
+-- the list begins with a store that was in doubt already, and since then the disk failed and sessions were ended
+abbrev pub BeginsInDoubt : List Entry → Type 0
+BeginsInDoubt [] = ⊥
+BeginsInDoubt (first ∷ since) = AllByRecursion IsQuiet since
+
+-- The store, whose disk means this and has failed so often, is where the list leads. Where a step is in doubt, it is one of
+-- the list, or the list begins with it.
+pub record StandsFor {D C : Type 0} (told : Type 0) (meaning : D → Meaning) (faults : D → ℕ) (store : Stored D C) (entries : List Entry) : Type 0 where
   pub leads : Leads entries (reached_of faults store)
-  pub in_doubt : store.seat.doubt ≢ Settled → IsQuietSince entries
+  pub in_doubt : store.seat.doubt ≢ Settled → IsDoubtIn told meaning store entries ⊎ BeginsInDoubt entries
 
 -- the one entry with which a history begins: the store as it is
 abbrev pub first_of : {D C : Type 0} → (D → ℕ) → Stored D C → List Entry
@@ -143,6 +149,7 @@ DeedTells (deed.Stepped client ask answer reading) made = Tells client ask.now r
 DeedTells (deed.Abandoned client) made = made ≡ Abandoned client ∷ []
 
 -- a legal list goes on by what was said to the client's ask
-abbrev pub HistoryGoesOn : {D C : Type 0} → (D → ℕ) → ClientNo → Ask → (old new : Stored D C) → Said → Type 0
-HistoryGoesOn faults client ask old new answer =
-    (entries : List Entry) → StandsFor faults old entries → (made : List Entry) × Tells client ask new.reading answer made × StandsFor faults new (entries ++ made)
+abbrev pub HistoryGoesOn : {D C : Type 0} → Type 0 → (D → Meaning) → (D → ℕ) → ClientNo → Ask → (old new : Stored D C) → Said → Type 0
+HistoryGoesOn told meaning faults client ask old new answer =
+    (entries : List Entry) → StandsFor told meaning faults old entries
+    → (made : List Entry) × Tells client ask new.reading answer made × StandsFor told meaning faults new (entries ++ made)

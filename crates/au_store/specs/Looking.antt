@@ -1,25 +1,19 @@
 -- What looking at a store says, by what it answers.
-use Rattle.std.specs.Prelude.{◌≡◌, ◌≤◌, ℕ, List, length, Result, Ok, Err}
+use Rattle.std.specs.Prelude.{◌≡◌, ◌≤◌, ℕ, length, Result, Ok, Err}
 use Rattle.au_entries.specs.declared.kept.Kept.{Kept}
-use Rattle.au_io.specs.declared.disk.Area.{Area}
 use Rattle.au_io.specs.Areas.{Areas}
 use Rattle.au_io.specs.Faults.{HasRisen}
-use Rattle.au_journal.specs.Frames.{Stands, front}
-use Rattle.au_journal.specs.Images.{In}
+use Rattle.au_journal.specs.Frames.{front}
 use Rattle.au_store.specs.declared.look_fault.LookFault.{LookFault}
 use Rattle.au_store.specs.declared.look_fault.LookFault.TheVariants as look
 use Rattle.au_store.specs.declared.open_fault.OpenFault.{OpenFault}
 use Rattle.au_store.specs.declared.open_fault.OpenFault.TheVariants as fault
-use Rattle.au_store.specs.Recovery.{Replayed}
+use Rattle.au_store.specs.Recovery.{ReadsAs}
 
--- the selected area holds bodies that are replayed to what is kept, and they end at that length
+-- the areas read as what is kept, and the bodies of the selected one end at that length
 pub record ReadsUpTo (kept : Kept) (used : ℕ) (all : Areas) : Type 0 where
-  pub area : Area
-  pub limit : ℕ
-  pub bodies : List (List ℕ)
-  pub held : In area (Stands limit bodies) all
-  pub so : Replayed bodies kept
-  pub ends : used ≡ length (front limit bodies)
+  pub reads : ReadsAs kept all
+  pub ends : used ≡ length (front reads.limit reads.bodies)
 
 -- what can't be looked at can't be opened, for the same reason
 abbrev pub opening_fault : LookFault → OpenFault

@@ -1,6 +1,7 @@
 //! Looking at a store.
-ghost use Rattle.std.specs.Prelude.{◌≡◌, IfOk, IfErr};
+ghost use Rattle.std.specs.Prelude.{◌≡◌, IfOk, IfErr, OnOk};
 ghost use Rattle.au_io.specs.Disk.{Stays};
+ghost use Rattle.au_journal.specs.Walk.{IsStill};
 ghost use Rattle.au_store.specs.Looking.{LookMeets, ReadsUpTo, look_fault_of, opening_fault};
 ghost use Rattle.au_store.specs.Starting.{OpenSays};
 
@@ -17,6 +18,7 @@ impl<D: Disk, C: Clock> Store<D, C> {
     pub fn look(alloc: Global, disk: D) -> (D, Result<(Kept, u64), LookFault>)
         ensures found { D.told → IfOk result.1 (λ found. ReadsUpTo found.0 found.1 (D.meaning disk).reads) }
         ensures why { D.told → IfErr result.1 (λ why. OpenSays (D.meaning disk).reads (opening_fault why)) }
+        ensures synced { D.told → OnOk result.1 (IsStill (D.meaning result.0)) }
         ensures stays { Stays (D.meaning disk) (D.meaning result.0) }
         ensures cause { LookMeets result.1 (D.faults disk) (D.faults result.0) }
     {

@@ -6,7 +6,7 @@ ghost use Rattle.au_io.specs.Disk.{Passes};
 ghost use Rattle.au_io.specs.Moments.{LeavesSince};
 ghost use Rattle.au_io.specs.Time.{Reads};
 ghost use Rattle.au_journal.specs.Causes.{MendCause};
-ghost use Rattle.au_journal.specs.Seats.{IsFullAt, mend_bytes, mended};
+ghost use Rattle.au_journal.specs.Seats.{IsFullAt, mend_bytes, mended, mended_reads};
 ghost use Rattle.au_engine.specs.Framing.{IsText, Writes};
 ghost use Rattle.au_engine.specs.Prepared.{Fits, after};
 ghost use Rattle.au_engine.specs.Replaying.{EndsWell};
@@ -49,12 +49,13 @@ impl<D: Disk, C: Clock> Store<D, C> {
         ensures step { StepsBy self.old.state (event_at client ask.now self.new.reading) result self.new.state }
         ensures moves { StepMoves self.old.state (event_at client ask.now self.new.reading) self.new.state result self.old.seat self.new.seat }
         ensures full { (needed limit : ℕ) → result ≡ Said.Full needed limit → Exceeds self.old.state (event_at client ask.now self.new.reading) self.old.seat needed limit }
-        ensures history { HistoryGoesOn D.faults client ask.now self.old self.new result }
+        ensures history { HistoryGoesOn D.told D.meaning D.faults client ask.now self.old self.new result }
         ensures tries { IsTried D.told D.meaning C.ticking (event_at client ask.now self.new.reading) self.old self.new result ⊎ IsUnmended D.told D.meaning self.old self.new result }
         ensures settled { result ≢ Said.Disk → self.new.seat.doubt ≡ Doubt.Settled }
         ensures in_doubt { result ≡ Said.Disk → self.new.seat.doubt ≢ Doubt.Settled }
         ensures kept { D.told → result ≢ Said.Disk → IsKeptOn self.new.state.kept (D.meaning self.new.disk) self.new.seat }
         ensures untouched { IsLeftOut result → self.old.seat.doubt ≡ Doubt.Settled → self.new.disk ≡ self.old.disk }
+        ensures mended { D.told → IsLeftOut result → (D.meaning self.new.disk).reads ≡ mended_reads self.old.seat.doubt self.old.seat (D.meaning self.old.disk).reads }
         ensures steps { steps.new ≡ steps.old }
         ensures any_moment { D.told → (doubted : Kept) → IsStoodOn self.old.state.kept doubted (D.meaning self.old.disk) self.old.seat
             → LeavesSince (StepLeaves self.old.state (event_at client ask.now self.new.reading) doubted) (D.meaning self.old.disk) (D.meaning self.new.disk) }
@@ -78,6 +79,7 @@ impl<D: Disk, C: Clock> Store<D, C> {
         ensures kept { D.told → result ≡ Mended.Done → IsKeptOn self.old.state.kept (D.meaning self.new.disk) self.new.seat }
         ensures rests { result ≡ Mended.Disk → self.new.seat ≡ self.old.seat }
         ensures still { self.old.seat.doubt ≡ Doubt.Settled → self.new.disk ≡ self.old.disk }
+        ensures reads { D.told → result ≡ Mended.Done → (D.meaning self.new.disk).reads ≡ mended_reads self.old.seat.doubt self.old.seat (D.meaning self.old.disk).reads }
         ensures stood { result ≡ Mended.Disk → self.old.seat.doubt ≢ Doubt.Settled }
         ensures doubted { D.told → (doubted : Kept) → IsStoodOn self.old.state.kept doubted (D.meaning self.old.disk) self.old.seat
             → result ≡ Mended.Disk → IsStoodOn self.old.state.kept doubted (D.meaning self.new.disk) self.new.seat }

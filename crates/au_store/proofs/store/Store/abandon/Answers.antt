@@ -14,4 +14,4 @@ invariant_of-self g c =
     subst (λ (s : State). IsSound told m j.seat s) (sym c.abandon.ensures) (abandoned_sound told m j.seat state c.args.client c.self.invariant)
 
 pub returns-clause-history : goal.returns-clause-history
-returns-clause-history g c = rw (← c.self.view_is) (λ entries stands. ended_on g.D.Disk.faults _ _ c.args.client entries c.abandon.ensures refl refl stands)
+returns-clause-history g c = rw (← c.self.view_is) (λ entries stands. ended_on g.D.Disk.told g.D.Disk.meaning g.D.Disk.faults _ _ c.args.client entries c.abandon.ensures refl refl stands)
