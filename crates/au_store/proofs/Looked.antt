@@ -10,11 +10,13 @@ use Rattle.au_store.specs.declared.open_fault.OpenFault.{OpenFault}
 use Rattle.au_store.specs.declared.open_fault.OpenFault.TheVariants as fault
 use Rattle.au_store.specs.Looking.{LookCause, ReadsUpTo, look_fault_of, opening_fault}
 use Rattle.au_store.specs.Starting.{IsRead, OpenCause, OpenSays}
-use Rattle.au_store.proofs.Reading.{read_recovers}
+use Rattle.au_store.proofs.Reading.{settled_in}
 
 pub looked : (old mid : Meaning) (seat : Seat) (kept : Kept) → mid.reads ≡ old.reads → mid.images mid.reads → IsRead mid seat kept → ReadsUpTo kept seat.used old.reads
-looked old mid seat kept reads image read =
-    subst (ReadsUpTo kept seat.used) reads (record { reads = read_recovers mid seat kept image read; ends = read.settled.placed.place })
+looked old mid seat kept reads image read = subst (ReadsUpTo kept seat.used) reads (record {
+  reads = record { area = seat.area; limit = seat.limit; bodies = read.bodies; held = settled_in mid seat read.bodies read.settled image; so = read.so };
+  ends = read.settled.placed.place;
+})
 
 -- what was the only image still is
 pub still_read : (old new : Meaning) → CountsNow new → Stays old new → IsStill old → IsStill new

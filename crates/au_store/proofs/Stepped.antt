@@ -171,3 +171,6 @@ module _ {D : Type 0} (meaning : D → Meaning) (disk mid : D) (is : mid ≡ dis
 
   pub written_from : (meaning mid).written ≡ (meaning disk).written
   written_from = ap (λ (d : D). (meaning d).written) is
+
+  pub reads_from : (meaning mid).reads ≡ (meaning disk).reads
+  reads_from = ap (λ (d : D). (meaning d).reads) is

@@ -1,6 +1,7 @@
 //! Why a line has no answer.
 
 use au_base::Memory;
+use au_io::Failed;
 use std::alloc::{AllocError, AllocFailed};
 use std::io;
 
@@ -9,6 +10,8 @@ use std::io;
 pub enum Fault {
     /// There was no memory.
     Memory,
+    /// The disk failed at a step of the case itself.
+    Disk,
     /// It has a step that there isn't, or a part of one is missing or has no meaning.
     NoCase,
 }
@@ -16,6 +19,12 @@ pub enum Fault {
 impl From<Memory> for Fault {
     fn from(_: Memory) -> Self {
         Fault::Memory
+    }
+}
+
+impl From<Failed> for Fault {
+    fn from(_: Failed) -> Self {
+        Fault::Disk
     }
 }
 
@@ -35,6 +44,7 @@ impl From<Fault> for io::Error {
     fn from(fault: Fault) -> Self {
         match fault {
             Fault::Memory => io::Error::from(AllocError),
+            Fault::Disk => io::Error::from(io::ErrorKind::Other),
             Fault::NoCase => io::Error::from(io::ErrorKind::InvalidInput),
         }
     }

@@ -10,7 +10,8 @@
 //! - `run ASK ..`: a script of these asks of one client: `local`, `audit` (AUDIT POLICY P_ALL),
 //!   `noaudit`, `count` (of the trail). The answers are `ok`, the count, `disk` or `full`, and behind
 //!   them how often the clock was read; where the run ends otherwise than done, how
-//! - `many N`: a script of so many AUDIT and NOAUDIT, one after another; the answer is how many were ok
+//! - `grow N`: the frames behind the start of the first run are written so many times more, as if their
+//!   statements had been asked again at the same moments; the answer is the size of area A
 //! - `images`: what a run counts on each image: what was synced, what reads, and what was written since
 //!   filled with 42, 5a and a5; `none` where no store stands there
 #![tactic(auto)]

@@ -1,15 +1,18 @@
 //! The program's commands on an outside in memory.
 
 use crate::fault::Fault;
-use crate::scripts::{count_ok, last_answer, said_answers, script_of, script_of_many};
+use crate::scripts::{last_answer, said_answers, script_of};
 use crate::words::number;
 use au_base::Text;
-use au_io::{MemClock, MemDisk, MemSink, MemSource, NoLobby};
+use au_io::{Area, Disk, MemClock, MemDisk, MemSink, MemSource, NoLobby};
 use au_main::{Status, top};
 use std::alloc::Global;
 
 // The pick of what was synced, that of what reads, and bytes to fill with.
 const PICKS: [u8; 5] = [0, 1, 0x42, 0x5a, 0xa5];
+
+// The area's head and its first gate, the framed image, and the start of the first run.
+const BEHIND_START: u64 = 14 + 306 + 31;
 
 // The clock's first reading.
 const FIRST: u64 = 1_000_000;
@@ -39,16 +42,50 @@ pub fn said_step(
             let (ran, disk) = command(alloc, &["run"], &script, disk)?;
             Ok((said_run(alloc, &ran)?, disk))
         }
-        "many" => {
-            let script = script_of_many(alloc, number(part)?)?;
-            let (ran, disk) = command(alloc, &["run"], &script, disk)?;
-            Ok((format!(in alloc; "{} ok", count_ok(&ran.given))?, disk))
+        "grow" => {
+            let mut disk = disk;
+            let size = grow(alloc, &mut disk, number(part)?)?;
+            Ok((format!(in alloc; "{size} bytes")?, disk))
         }
         "images" => {
             let said = said_images(alloc, &disk)?;
             Ok((said, disk))
         }
         _ => Err(Fault::NoCase),
+    }
+}
+
+// Writes what stands behind the start of the first run so many times more, up to the closed gate. How
+// long area A is then.
+fn grow(alloc: Global, disk: &mut MemDisk, times: u64) -> Result<u64, Fault> {
+    let size = disk.size(Area::A)?;
+    let frames = frames_behind(alloc, disk, size)?;
+    let mut bytes = Vec::new(alloc);
+    for _time in 0..times {
+        bytes.extend_from_slice(&frames)?;
+    }
+    bytes.push(0)?;
+    write_end(disk, &bytes)?;
+    Ok(disk.size(Area::A)?)
+}
+
+// The frames behind the start, where the area has this size.
+fn frames_behind(alloc: Global, disk: &mut MemDisk, size: u64) -> Result<Vec<u8>, Fault> {
+    let length = size.checked_sub(BEHIND_START + 1).ok_or(Fault::NoCase)?;
+    let mut frames = vec![in alloc; 0u8; length as usize]?;
+    disk.read(Area::A, BEHIND_START, &mut frames)?;
+    Ok(frames)
+}
+
+// Writes the bytes over the closed gate at the end.
+fn write_end(disk: &mut MemDisk, bytes: &[u8]) -> Result<(), Fault> {
+    match disk.size(Area::A)? {
+        0 => Err(Fault::NoCase),
+        size => {
+            disk.write_at(Area::A, size - 1, bytes)?;
+            disk.sync(Area::A)?;
+            Ok(())
+        }
     }
 }
 

@@ -16,17 +16,6 @@ pub fn script_of(alloc: Global, asks: &str) -> Result<String, Fault> {
     Ok(script)
 }
 
-/// A script of so many AUDIT and NOAUDIT, one after another.
-pub fn script_of_many(alloc: Global, count: u64) -> Result<String, Fault> {
-    let mut script = String::new(alloc);
-    script.push_str(line_of("local")?)?;
-    for turn in 0..count {
-        let ask = if turn % 2 == 0 { "audit" } else { "noaudit" };
-        script.push_str(line_of(ask)?)?;
-    }
-    Ok(script)
-}
-
 fn line_of(ask: &str) -> Result<&'static str, Fault> {
     match ask {
         "local" => Ok("s1 local\n"),
@@ -47,17 +36,6 @@ pub fn said_answers(alloc: Global, given: &str) -> Result<String, Fault> {
         said.push_str(short(line))?;
     }
     Ok(said)
-}
-
-/// How many of the answers are ok.
-pub fn count_ok(given: &str) -> u64 {
-    let mut count = 0u64;
-    for line in given.lines() {
-        if line == OK {
-            count = count.saturating_add(1);
-        }
-    }
-    count
 }
 
 /// The last answer, in short.

@@ -299,23 +299,12 @@ fn seen(alloc: Global, disk: MemDisk) -> (MemDisk, Seen) {
     }
 }
 
-// What is seen of a new store, and of the same one behind a run in which an audit policy was enabled.
-fn seen_before_and_after(alloc: Global) -> Result<(Seen, Seen), OpenFault> {
-    let (disk, first) = seen(alloc, made(alloc, LIMIT, u64::MAX)?);
-    let mut store = opened(alloc, disk)?;
-    if !answers(alloc, &mut store, &BEFORE[..2])? {
-        return Err(OpenFault::Memory);
-    }
-    let (disk, _) = store.shut();
-    Ok((first, seen(alloc, disk).1))
-}
-
 #[test]
 fn a_look_sees_what_is_kept_and_how_long_it_is(rt: HostRuntime) -> Result<(), Fail> {
-    let (first, second) = seen_before_and_after(rt.alloc())?;
-    assert!(rt; first == Ok((0, 0, 320)));
-    // the start of the first instance has 31 bytes, the enablement and its record 125
-    assert!(rt; second == Ok((1, 1, 476)));
+    let (_, new) = seen(rt.alloc(), made(rt.alloc(), LIMIT, u64::MAX)?);
+    assert!(rt; new == Ok((0, 0, 320)));
+    let (_, none) = seen(rt.alloc(), MemDisk::new(rt.alloc(), &[])?);
+    assert!(rt; none == Err(LookFault::Unformatted));
     Ok(())
 }
 
@@ -328,34 +317,41 @@ fn unseen(alloc: Global, at: u64, bytes: [u8; 4]) -> Result<Option<LookFault>, O
     Ok(seen(alloc, disk).1.err())
 }
 
-#[test]
-fn a_look_tells_the_same_damage(rt: HostRuntime) -> Result<(), Fail> {
-    let area = Area::A;
-    for (written, bytes, at) in WRONG {
-        let why = unseen(rt.alloc(), written, bytes)?;
-        assert_eq!(rt; why, Some(LookFault::Damaged { area, at }), "at {written}");
-    }
-    Ok(())
-}
+// the same that is damage to an opening; and a number of an instance that is the last, which a look sees
+const UNSEEN: [(u64, [u8; 4], Option<LookFault>); 4] = [
+    (
+        1,
+        [0x42, 0x55, 0x4a, 0x52],
+        Some(LookFault::Damaged {
+            area: Area::A,
+            at: 1,
+        }),
+    ),
+    (
+        22,
+        [2, 0, 0, 0],
+        Some(LookFault::Damaged {
+            area: Area::A,
+            at: 13,
+        }),
+    ),
+    (
+        329,
+        [9, 0, 0, 0],
+        Some(LookFault::Damaged {
+            area: Area::A,
+            at: 320,
+        }),
+    ),
+    (343, [0x3b, 0x9a, 0xc9, 0xff], None),
+];
 
 #[test]
-fn a_look_needs_a_store_and_no_number(rt: HostRuntime) -> Result<(), Fail> {
-    for (written, bytes, wanted) in [
-        (0, [0, 0x41, 0x55, 0x4a], Some(LookFault::Unformatted)),
-        (343, [0x3b, 0x9a, 0xc9, 0xff], None),
-    ] {
+fn a_look_tells_damage_and_no_worn_number(rt: HostRuntime) -> Result<(), Fail> {
+    for (written, bytes, wanted) in UNSEEN {
         let why = unseen(rt.alloc(), written, bytes)?;
         assert_eq!(rt; why, wanted, "at {written}");
     }
-    Ok(())
-}
-
-#[test]
-fn a_look_says_that_the_disk_failed(rt: HostRuntime) -> Result<(), Fail> {
-    let disk = made(rt.alloc(), LIMIT, MAKING)?;
-    let (disk, why) = seen(rt.alloc(), disk);
-    assert!(rt; why == Err(LookFault::Disk));
-    assert!(rt; seen(rt.alloc(), disk).1 == Ok((0, 0, 320)));
     Ok(())
 }
 

@@ -9,7 +9,7 @@ use Rattle.au_engine.specs.State.{State}
 use Rattle.au_store.specs.Recovery.{RecoversToEither}
 use Rattle.au_store.specs.Steps.{Exceeds, HasFrameWithin, StepCause, StepCosts, StepDoubts, StepLeaves, StepMoves, StepsBy, event_at}
 use Rattle.au_store.proofs.Going.{goes_on, mended_moved, same_moved, still_on}
-use Rattle.au_store.proofs.Stepped.{exceeds_by, exceeds_from, frame_there, frame_within, kept_from, left_full, made_after, mend_leaves, moves_from, since_from, since_to, step_costs, step_leaves, step_moves, steps_by, time_from, tried_read, written_from}
+use Rattle.au_store.proofs.Stepped.{exceeds_by, exceeds_from, frame_there, frame_within, kept_from, left_full, made_after, mend_leaves, moves_from, reads_from, since_from, since_to, step_costs, step_leaves, step_moves, steps_by, time_from, tried_read, written_from}
 use Rattle.au_store.proofs.store.Store.step.Goals as goal
 
 pub returns-in-Disk-clause-any_moment : goal.returns-in-Disk-clause-any_moment
@@ -256,9 +256,10 @@ returns-in-Ok-clause-untouched g c = λ left settled.
     c.make.ensures.untouched full.0 full.1 full.2 ∙ c.prepare.ensures.same.0 ∙ c.mend.ensures.still settled
 
 pub returns-in-Err-clause-mended : goal.returns-in-Err-clause-mended
-returns-in-Err-clause-mended g c = λ told left. ap (λ (d : g.D). (g.D.Disk.meaning d).reads) c.prepare.ensures.same.0 ∙ c.mend.ensures.reads told c.in-Done.is
+returns-in-Err-clause-mended g c = λ told left.
+    reads_from g.D.Disk.meaning c.mend.new.self.disk c.prepare.new.self.disk c.prepare.ensures.same.0 ∙ c.mend.ensures.reads told c.in-Done.is
 
 pub returns-in-Ok-clause-mended : goal.returns-in-Ok-clause-mended
 returns-in-Ok-clause-mended g c = λ told left.
     let full = left_full c.in-Ok.prepared c.prepare.new.self.state c.make.new.self.state c.make.result c.make.ensures.made left in
-    ap (λ (d : g.D). (g.D.Disk.meaning d).reads) (c.make.ensures.untouched full.0 full.1 full.2 ∙ c.prepare.ensures.same.0) ∙ c.mend.ensures.reads told c.in-Done.is
+    reads_from g.D.Disk.meaning c.mend.new.self.disk c.make.new.self.disk (c.make.ensures.untouched full.0 full.1 full.2 ∙ c.prepare.ensures.same.0) ∙ c.mend.ensures.reads told c.in-Done.is
