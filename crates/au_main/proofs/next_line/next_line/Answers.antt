@@ -29,3 +29,6 @@ returns-in-Beyond-clause-line g c =
     let gathers = Gathers-moved _ _ _ _ _ _ _ c.loop-line.invariant.gathers moved c.in_ok-move_line.ensures.taken in
     let beyond = c.in-Beyond.ensures.refilled in
     NextLine-beyond _ _ _ _ _ _ _ _ gathers moved.1 beyond.3 beyond.1 beyond.2
+
+pub returns-in_err-move_line-clause-took : goal.returns-in_err-move_line-clause-took
+returns-in_err-move_line-clause-took g c = (c.loop-line.invariant.gathers.got, c.loop-line.invariant.gathers.taken)
