@@ -1,4 +1,5 @@
 //! Bodies of frames, changes and records that are read.
+ghost use Rattle.rec_codec.specs.Frames.{IsSpellable};
 
 use crate::case::{Case, bytes_of};
 use crate::changes::add_change;
@@ -76,12 +77,16 @@ pub fn event_with(alloc: Global, place: usize, other: &[u8]) -> Result<Vec<u8>, 
     Ok(bytes)
 }
 
-fn is_written_so(alloc: Global, frame: &Frame, bytes: &[u8]) -> Result<bool, Fault> {
+fn is_written_so(alloc: Global, frame: &Frame, bytes: &[u8]) -> Result<bool, Fault>
+    requires { IsSpellable frame.now }
+{
     Ok(write(alloc, frame)?.as_slice() == bytes)
 }
 
 // What is read, behind `another spelling` where it is written with other bytes.
-fn begun(alloc: Global, frame: &Frame, bytes: &[u8]) -> Result<String, Fault> {
+fn begun(alloc: Global, frame: &Frame, bytes: &[u8]) -> Result<String, Fault>
+    requires { IsSpellable frame.now }
+{
     let same = is_written_so(alloc, frame, bytes)?;
     let front = if same { "" } else { "another spelling:" };
     Ok(String::from_str(alloc, front)?)

@@ -35,6 +35,16 @@ impl<'a> Case<'a> {
         self.text(place).parse::<u32>().unwrap_or(0)
     }
 
+    /// The number of two bytes at a place from 0; 0 where there is none.
+    pub fn short(&self, place: usize) -> u16 {
+        self.text(place).parse::<u16>().unwrap_or(0)
+    }
+
+    /// The number of one byte at a place from 0; 0 where there is none.
+    pub fn byte(&self, place: usize) -> u8 {
+        self.text(place).parse::<u8>().unwrap_or(0)
+    }
+
     /// The bytes at a place from 0, which are given as hexadecimal digits. Blanks part them.
     pub fn bytes(&self, alloc: Global, place: usize) -> Result<Vec<u8>, Fault> {
         bytes_of(alloc, self.text(place))

@@ -1,4 +1,10 @@
 //! Framed bytes, and images that are written piece by piece.
+ghost use Rattle.std.specs.Prelude.{◌≡◌, ◌≤◌, [], length, IfOk, OnOk};
+ghost use Rattle.std.specs.List.{AllByRecursion};
+ghost use Rattle.rec_codec.specs.Changes.{IsChangeSpellable};
+ghost use Rattle.rec_codec.specs.Frames.{IsSpellable, body};
+ghost use Rattle.rec_codec.specs.Images.{Wrote};
+ghost use Rattle.rec_codec.specs.Records.{trail_record};
 
 use crate::case::Case;
 use crate::fault::Fault;
@@ -44,7 +50,9 @@ fn parted(alloc: Global, place: u64, bytes: &[u8]) -> Result<String, Fault> {
     let len = hex::encode(alloc, &bytes[..8])?;
     let body = hex::encode(alloc, &bytes[8..end - 1])?;
     let gate = hex::encode(alloc, &bytes[end - 1..])?;
-    let (first, second, third) = (place + 1, place + 9, place + end as u64);
+    let first = place.saturating_add(1);
+    let second = place.saturating_add(9);
+    let third = place.saturating_add(end as u64);
     Ok(format!(in alloc; "{place}: a5, {first}: {len}, {second}: {body}, {third}: {gate}")?)
 }
 
@@ -56,7 +64,10 @@ fn image(alloc: Global, body: &[u8]) -> Result<String, Fault> {
     }
 }
 
-fn image_again(alloc: Global, frame: &Frame) -> Result<String, Fault> {
+#[tactic(auto, unfolding(rec_codec::specs::Frames::body))]
+fn image_again(alloc: Global, frame: &Frame) -> Result<String, Fault>
+    requires { IsSpellable frame.now }
+{
     match frame {
         Frame::Image {
             last,
@@ -79,14 +90,45 @@ fn in_pieces(
     last: Stamp,
     changes: &[Change],
     records: &[Record],
-) -> Result<Vec<u8>, Fault> {
-    let (changes_len, records_len) = (changes.len() as u32, records.len() as u32);
+) -> Result<Vec<u8>, Fault>
+    requires { body.IsSpellable (last, (changes.now, records.now)) }
+{
+    let changes_len = count_of(changes.len())?;
+    let records_len = count_of(records.len())?;
     let mut writer = ImageWriter::new(alloc, last, changes_len, records_len)?;
+    push_changes(&mut writer, changes)?;
+    push_records(&mut writer, records)?;
+    Ok(writer.finish()?)
+}
+
+fn count_of(len: usize) -> Result<u32, Fault>
+    ensures { IfOk result (λ count. count ≡ len) }
+{
+    if len > u32::MAX as usize {
+        return Err(Fault::NoCase);
+    }
+    Ok(len as u32)
+}
+
+fn push_changes(writer: &mut ImageWriter, changes: &[Change]) -> Result<(), Fault>
+    requires left { length changes.now ≤ writer.old.changes }
+    requires spellable { AllByRecursion IsChangeSpellable changes.now }
+    ensures { OnOk result (Wrote writer.old writer.new changes.now []) }
+{
     for change in changes {
         writer.push_change(change)?;
     }
+    Ok(())
+}
+
+fn push_records(writer: &mut ImageWriter, records: &[Record]) -> Result<(), Fault>
+    requires none { writer.old.changes ≡ 0 }
+    requires left { length records.now ≤ writer.old.records }
+    requires spellable { AllByRecursion trail_record.IsSpellable records.now }
+    ensures { OnOk result (Wrote writer.old writer.new [] records.now) }
+{
     for entry in records {
         writer.push_record(entry)?;
     }
-    Ok(writer.finish()?)
+    Ok(())
 }

@@ -7,12 +7,11 @@ use std::alloc::Global;
 
 /// Whether so many are some frame's, if the case is about that.
 pub fn tried(alloc: Global, case: &Case<'_>) -> Result<Option<String>, Fault> {
-    let count = case.number(0);
     let event = match case.call {
-        "name" => named(alloc, count)?,
-        "text" => with_text(alloc, count)?,
-        "policies" => with_policies(alloc, count)?,
-        "columns" => with_columns(alloc, count)?,
+        "name" => named(alloc, case.short(0))?,
+        "text" => with_text(alloc, case.number(0))?,
+        "policies" => with_policies(alloc, case.short(0))?,
+        "columns" => with_columns(alloc, case.byte(0))?,
         _ => return Ok(None),
     };
     let word = if is_frame(alloc, &event)? {
@@ -24,11 +23,11 @@ pub fn tried(alloc: Global, case: &Case<'_>) -> Result<Option<String>, Fault> {
 }
 
 // A role whose name has so many bytes.
-fn named(alloc: Global, len: u32) -> Result<Vec<u8>, Fault> {
+fn named(alloc: Global, len: u16) -> Result<Vec<u8>, Fault> {
     let mut change = Vec::new(alloc);
     change.push(3)?;
-    change.extend_from_slice(&(len as u16).to_be_bytes())?;
-    push_many(&mut change, len)?;
+    change.extend_from_slice(&len.to_be_bytes())?;
+    push_many(&mut change, u32::from(len))?;
     event_of(alloc, &change)
 }
 
@@ -42,9 +41,9 @@ fn with_text(alloc: Global, len: u32) -> Result<Vec<u8>, Fault> {
 }
 
 // A record that names so many policies.
-fn with_policies(alloc: Global, count: u32) -> Result<Vec<u8>, Fault> {
+fn with_policies(alloc: Global, count: u16) -> Result<Vec<u8>, Fault> {
     let mut names = Vec::new(alloc);
-    names.extend_from_slice(&(count as u16).to_be_bytes())?;
+    names.extend_from_slice(&count.to_be_bytes())?;
     for number in 0..count {
         names.extend_from_slice(&[0, 3])?;
         for digit in [number / 4_096, number / 64 % 64, number % 64] {
@@ -55,11 +54,11 @@ fn with_policies(alloc: Global, count: u32) -> Result<Vec<u8>, Fault> {
 }
 
 // A table with so many columns, up to 255.
-fn with_columns(alloc: Global, count: u32) -> Result<Vec<u8>, Fault> {
+fn with_columns(alloc: Global, count: u8) -> Result<Vec<u8>, Fault> {
     let mut change = Vec::new(alloc);
-    change.extend_from_slice(&[11, 0, 1, b'B', 0, 1, b'T', count as u8])?;
+    change.extend_from_slice(&[11, 0, 1, b'B', 0, 1, b'T', count])?;
     for number in 0..count {
-        let (high, low) = ((number / 16 % 16) as u8, (number % 16) as u8);
+        let (high, low) = (number / 16, number % 16);
         change.extend_from_slice(&[0, 2, b'A' + high, b'A' + low, 1, 0, 18, 0])?;
     }
     change.push(0)?;
