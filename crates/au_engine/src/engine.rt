@@ -264,6 +264,47 @@ impl Engine {
         end_session(&mut self.sessions, client);
     }
 
+    /// What is kept, without the instance. It takes no memory.
+    pub fn into_kept(self) -> Kept
+        ensures { result ≡ self.state.kept }
+    {
+        let Engine {
+            catalog,
+            grants,
+            rows,
+            trail,
+            last,
+            instance,
+            sessions: _,
+            drawn: _,
+            results: _,
+            room: _,
+        } = self;
+        let Catalog {
+            users,
+            roles,
+            tables,
+            policies,
+            enabled,
+            fga,
+            archive,
+        } = catalog;
+        Kept {
+            users,
+            roles,
+            grants,
+            tables,
+            rows,
+            policies,
+            enabled,
+            fga,
+            trail: List::from_vec(trail),
+            archive,
+            last,
+            instance,
+        }
+    }
+
     // No instance runs, and this is kept.
     fn keeping(alloc: Global, kept: Kept) -> Engine
         requires { IsLawful kept }
