@@ -1,20 +1,25 @@
 -- A history that a store stands for goes on by one entry.
-use Rattle.std.proofs.Common.{◌≡◌, ℕ, ◌+◌, ◌≤◌, List, [], ◌∷◌, ◌++◌, length, Option, Some, None, refl, sym, ◌∙◌, ap, subst, append-nil, arith}
+use Rattle.std.proofs.Common.{◌≡◌, ◌≢◌, ◌⊎◌, inl, inr, ⊎_elim, ℕ, ◌+◌, List, [], ◌∷◌, ◌++◌, Option, refl, sym, ◌∙◌, ap, subst, append-nil, append_assoc, arith}
+use Rattle.std.specs.List.{AllByRecursion}
 use Rattle.au_base.specs.declared.ask.Ask.{Ask}
 use Rattle.au_base.specs.declared.numbers.ClientNo.{ClientNo}
 use Rattle.au_base.specs.declared.reply.Said.{Said}
 use Rattle.au_base.specs.declared.reply.Said.TheVariants as said
+use Rattle.au_entries.specs.declared.kept.Kept.{Kept}
+use Rattle.au_io.specs.Disk.{Meaning}
 use Rattle.au_io.specs.Faults.{HasRisen}
+use Rattle.au_io.specs.Time.{Ticking}
+use Rattle.au_journal.specs.declared.doubt.Doubt.TheVariants.{Settled}
 use Rattle.au_journal.specs.declared.seat.Seat.{Seat}
 use Rattle.au_journal.specs.Seats.{mended}
-use Rattle.rec_codec.specs.declared.frame.Frame.{Frame}
 use Rattle.au_engine.specs.Abandoning.{abandoned}
 use Rattle.au_engine.specs.State.{State}
 use Rattle.au_engine.specs.Step.{Event}
 use Rattle.au_store.specs.declared.entry.Entry.{Entry}
 use Rattle.au_store.specs.declared.entry.Entry.TheVariants.{Opened, Stepped, Abandoned, Faulted, Filled}
-use Rattle.au_store.specs.History.{FitsIn, GoesBy, GoesOver, HistoryGoesOn, Leads, Reached, StandsFor, Tells, reached_of}
-use Rattle.au_store.specs.Steps.{Exceeds, FitsUnder, IsMovedTo, StepCause, StepMoves, StepsBy, event_at}
+use Rattle.au_store.specs.Doubts.{IsStoodOn}
+use Rattle.au_store.specs.History.{BeginsInDoubt, GoesBy, GoesOver, HistoryGoesOn, IsDoubtIn, IsQuiet, Leads, Reached, StandsFor, Tells, first_of, reached_of}
+use Rattle.au_store.specs.Steps.{Exceeds, HasFrameWithin, IsMovedTo, IsTried, IsUnmended, StepCause, StepDoubts, StepMoves, StepsBy, event_at}
 use Rattle.au_store.specs.Stored.{Stored}
 
 over_push : (p q r : Reached) (entries : List Entry) (entry : Entry) → GoesOver p entries q → GoesBy q entry r → GoesOver p (entries ++ entry ∷ []) r
@@ -38,52 +43,131 @@ leads_still m n u v l k f g entries state used limit faults leads =
     ap (λ (s : State). at s v k g) state ∙ ap (λ (x : ℕ). at m x k g) used ∙ ap (λ (x : ℕ). at m u x g) limit ∙ ap (λ (x : ℕ). at m u l x) faults in
     subst (λ (es : List Entry). Leads es (at n v k g)) (sym (append-nil entries)) (subst (λ (q : Reached). Leads entries q) (sym same) leads)
 
-fits_in : {D C : Type 0} (faults : D → ℕ) (s : Stored D C) (frame : Option Frame) → FitsUnder s.seat frame → FitsIn (reached_of faults s) frame
-fits_in faults s None fits = tt
-fits_in faults s (Some frame) fits = fits
+quiet_push : (entries : List Entry) (entry : Entry) → AllByRecursion IsQuiet entries → IsQuiet entry → AllByRecursion IsQuiet (entries ++ entry ∷ [])
+quiet_push [] entry quiet is = (is, tt)
+quiet_push (first ∷ entries) entry quiet is = (quiet.0, quiet_push entries entry quiet.1 is)
 
-module _ {D C : Type 0} (faults : D → ℕ) (s t : Stored D C) (client : ClientNo) (ask : Ask) where
+begins_push : (entries : List Entry) (entry : Entry) → BeginsInDoubt entries → IsQuiet entry → BeginsInDoubt (entries ++ entry ∷ [])
+begins_push [] entry begins is = absurd begins
+begins_push (first ∷ entries) entry begins is = quiet_push entries entry begins is
+
+-- a doubt that stood before the list's last entry
+module _ {D C : Type 0} (told : Type 0) (meaning : D → Meaning) (s t : Stored D C)
+    (stays : told → (doubted : Kept) → IsStoodOn s.state.kept doubted (meaning s.disk) s.seat → IsStoodOn t.state.kept doubted (meaning t.disk) t.seat) where
+  doubt_push : (entries : List Entry) (entry : Entry) → IsQuiet entry → IsDoubtIn told meaning s entries → IsDoubtIn told meaning t (entries ++ entry ∷ [])
+  doubt_push entries entry is was = record {
+    before = was.before;
+    event = was.event;
+    count = was.count;
+    since = was.since ++ entry ∷ [];
+    split = ap (λ (es : List Entry). es ++ entry ∷ []) was.split ∙ append_assoc was.before (Faulted was.event.client was.count ∷ was.since) (entry ∷ []);
+    quiet = quiet_push was.since entry was.quiet is;
+    place = was.place;
+    leads = was.leads;
+    has_frame = was.has_frame;
+    stood = λ tells. let there = was.stood tells in (there.0, there.1, stays tells there.0 there.2);
+  }
+
+  still_doubt : (entries : List Entry) (entry : Entry) → IsQuiet entry → IsDoubtIn told meaning s entries ⊎ BeginsInDoubt entries
+      → IsDoubtIn told meaning t (entries ++ entry ∷ []) ⊎ BeginsInDoubt (entries ++ entry ∷ [])
+  still_doubt entries entry is doubt = ⊎_elim
+      (λ (was : IsDoubtIn told meaning s entries). inl (doubt_push entries entry is was))
+      (λ (begins : BeginsInDoubt entries). inr (begins_push entries entry begins is))
+      doubt
+
+-- the list with which a history begins
+pub first_stands : {D C : Type 0} (told : Type 0) (meaning : D → Meaning) (faults : D → ℕ) (s : Stored D C) → StandsFor told meaning faults s (first_of faults s)
+first_stands told meaning faults s = record { leads = refl; in_doubt = λ _. inr tt }
+
+module _ {D C : Type 0} (told : Type 0) (meaning : D → Meaning) (faults : D → ℕ) (s t : Stored D C) (client : ClientNo) (ask : Ask) where
   abbrev event : Event
   event = event_at client ask t.reading
 
-  -- the disk failed
-  pub faulted_on : t.state ≡ s.state → IsMovedTo 0 s.seat t.seat → HasRisen (faults s.disk) (faults t.disk) → HistoryGoesOn faults client ask s t said.Disk
-  faulted_on state moved rose = λ entries stands. (
+  faulted_leads : (entries : List Entry) → t.state ≡ s.state → IsMovedTo 0 s.seat t.seat → HasRisen (faults s.disk) (faults t.disk) → Leads entries (reached_of faults s)
+      → Leads (entries ++ Faulted client (faults t.disk) ∷ []) (reached_of faults t)
+  faulted_leads entries state moved rose leads = leads_push (reached_of faults s) (reached_of faults t) entries (Faulted client (faults t.disk)) leads
+      (record { state = state; used = omega (arith, moved.used); limit = moved.limit; rose = rose; faults = refl })
+
+  -- the disk failed, and this step is in doubt
+  faulted_on : t.state ≡ s.state → IsMovedTo 0 s.seat t.seat → HasRisen (faults s.disk) (faults t.disk) → HasFrameWithin s.state s.seat event
+      → (told → StepDoubts s.state event (meaning t.disk) t.seat) → HistoryGoesOn told meaning faults client ask s t said.Disk
+  faulted_on state moved rose wrote doubts = λ entries stands. (
     Faulted client (faults t.disk) ∷ [],
     (faults t.disk, refl),
-    leads_push (reached_of faults s) (reached_of faults t) entries (Faulted client (faults t.disk)) stands
-        (record { state = state; used = omega (arith, moved.used); limit = moved.limit; rose = rose; faults = refl }),
+    record {
+      leads = faulted_leads entries state moved rose stands.leads;
+      in_doubt = λ _. inl (record {
+        before = entries;
+        event = event;
+        count = faults t.disk;
+        since = [];
+        split = refl;
+        quiet = tt;
+        place = reached_of faults s;
+        leads = stands.leads;
+        has_frame = (wrote.0, wrote.1, wrote.2);
+        stood = λ tells. let next = doubts tells in
+            (next.0, next.1, subst (λ (m : State). IsStoodOn m.kept next.0 (meaning t.disk) t.seat) (sym state) next.2);
+      });
+    },
+  )
+
+  -- the disk failed, and an earlier step still is in doubt
+  faulted_still : t.state ≡ s.state → IsMovedTo 0 s.seat t.seat → HasRisen (faults s.disk) (faults t.disk) → s.seat.doubt ≢ Settled
+      → (told → (doubted : Kept) → IsStoodOn s.state.kept doubted (meaning s.disk) s.seat → IsStoodOn s.state.kept doubted (meaning t.disk) t.seat)
+      → HistoryGoesOn told meaning faults client ask s t said.Disk
+  faulted_still state moved rose stood doubted = λ entries stands. (
+    Faulted client (faults t.disk) ∷ [],
+    (faults t.disk, refl),
+    record {
+      leads = faulted_leads entries state moved rose stands.leads;
+      in_doubt = λ _. still_doubt told meaning s t
+          (λ tells kept here. subst (λ (m : State). IsStoodOn m.kept kept (meaning t.disk) t.seat) (sym state) (doubted tells kept here))
+          entries (Faulted client (faults t.disk)) tt (stands.in_doubt stood);
+    },
   )
 
   -- there was no memory
-  pub still_on : t.state ≡ s.state → IsMovedTo 0 s.seat t.seat → faults t.disk ≡ faults s.disk → HistoryGoesOn faults client ask s t said.Memory
-  still_on state moved same = λ entries stands. (
+  pub still_on : t.state ≡ s.state → IsMovedTo 0 s.seat t.seat → faults t.disk ≡ faults s.disk → t.seat.doubt ≡ Settled → HistoryGoesOn told meaning faults client ask s t said.Memory
+  still_on state moved same settled = λ entries stands. (
     [],
     refl,
-    leads_still s.state t.state s.seat.used t.seat.used s.seat.limit t.seat.limit (faults s.disk) (faults t.disk) entries state (omega (arith, moved.used)) moved.limit same stands,
+    record {
+      leads = leads_still s.state t.state s.seat.used t.seat.used s.seat.limit t.seat.limit (faults s.disk) (faults t.disk) entries state (omega (arith, moved.used)) moved.limit same stands.leads;
+      in_doubt = λ unsettled. absurd (unsettled settled);
+    },
   )
 
   -- whatever was said
-  pub goes_on : (answer : Said) → StepsBy s.state event answer t.state → StepMoves s.state event t.state answer s.seat t.seat
-      → ((needed limit : ℕ) → answer ≡ said.Full needed limit → Exceeds s.state event s.seat needed limit) → StepCause answer (faults s.disk) (faults t.disk)
-      → HistoryGoesOn faults client ask s t answer
-  goes_on (said.Replied reply) step moves full cause = λ entries stands. (
-    Stepped client ask t.reading reply ∷ [],
-    refl,
-    leads_push (reached_of faults s) (reached_of faults t) entries (Stepped client ask t.reading reply) stands
-        (record { step = step; frame = moves.frame; writes = moves.of_event; within = fits_in faults s moves.frame moves.within; used = moves.moved.used; limit = moves.moved.limit; faults = cause }),
-  )
-  goes_on said.Disk step moves full cause = faulted_on step moves cause.1
-  goes_on (said.Full needed limit) step moves full cause = λ entries stands.
-      let over = full needed limit refl in (
-        Filled client ask t.reading needed ∷ [],
-        refl,
-        leads_push (reached_of faults s) (reached_of faults t) entries (Filled client ask t.reading needed) stands (
-          record { after = over.after; frame = over.frame; writes = over.writes; needs = over.needs; exceeds = omega (arith, over.bound, over.exceeds) },
-          record { state = step; used = omega (arith, moves.used); limit = moves.limit; faults = cause },
-        ),
-      )
-  goes_on said.Memory step moves full cause = still_on step moves cause
+  module _ (ticking : C → Option Ticking) where
+    pub goes_on : (answer : Said) → StepsBy s.state event answer t.state → StepMoves s.state event t.state answer s.seat t.seat
+        → ((needed limit : ℕ) → answer ≡ said.Full needed limit → Exceeds s.state event s.seat needed limit) → StepCause answer (faults s.disk) (faults t.disk)
+        → (answer ≢ said.Disk → t.seat.doubt ≡ Settled) → IsTried told meaning ticking event s t answer ⊎ IsUnmended told meaning s t answer
+        → HistoryGoesOn told meaning faults client ask s t answer
+    goes_on (said.Replied reply) step moves full cause settled tries = λ entries stands. (
+      Stepped client ask t.reading reply ∷ [],
+      refl,
+      record {
+        leads = leads_push (reached_of faults s) (reached_of faults t) entries (Stepped client ask t.reading reply) stands.leads
+            (record { step = step; frame = moves.frame; writes = moves.of_event; within = moves.within; used = moves.moved.used; limit = moves.moved.limit; faults = cause });
+        in_doubt = λ unsettled. absurd (unsettled (settled (λ is. let no : said.Replied reply ≡ said.Disk = is in cc)));
+      },
+    )
+    goes_on said.Disk step moves full cause settled (inl tried) = faulted_on step moves cause.1 (tried.wrote refl) (λ tells. tried.doubts tells refl)
+    goes_on said.Disk step moves full cause settled (inr unmended) = faulted_still step moves cause.1 unmended.stood unmended.doubted
+    goes_on (said.Full needed limit) step moves full cause settled tries = λ entries stands.
+        let over = full needed limit refl in (
+          Filled client ask t.reading needed ∷ [],
+          refl,
+          record {
+            leads = leads_push (reached_of faults s) (reached_of faults t) entries (Filled client ask t.reading needed) stands.leads (
+              record { after = over.after; frame = over.frame; writes = over.writes; charged = over.charged; needs = over.needs; exceeds = omega (arith, over.bound, over.exceeds) },
+              record { state = step; used = omega (arith, moves.used); limit = moves.limit; faults = cause },
+            );
+            in_doubt = λ unsettled. absurd (unsettled (settled (λ is. let no : said.Full needed limit ≡ said.Disk = is in cc)));
+          },
+        )
+    goes_on said.Memory step moves full cause settled tries = still_on step moves cause (settled (λ is. let no : said.Memory ≡ said.Disk = is in cc))
 
 -- a mended seat is where it was
 pub mended_moved : (old new : Seat) → new ≡ mended old → IsMovedTo 0 old new
@@ -97,7 +181,21 @@ same_moved old new is =
     record { used = omega (arith, used); area = ap (λ (s : Seat). s.area) is; limit = ap (λ (s : Seat). s.limit) is }
 
 -- a session was ended
-pub ended_on : (m n : State) (used limit faults : ℕ) (client : ClientNo) (entries : List Entry) → n ≡ abandoned client m → Leads entries (at m used limit faults)
+ended_leads : (m n : State) (used limit faults : ℕ) (client : ClientNo) (entries : List Entry) → n ≡ abandoned client m → Leads entries (at m used limit faults)
     → Leads (entries ++ Abandoned client ∷ []) (at n used limit faults)
-ended_on m n used limit faults client entries is leads =
+ended_leads m n used limit faults client entries is leads =
     leads_push (at m used limit faults) (at n used limit faults) entries (Abandoned client) leads (record { state = is; used = refl; limit = refl; faults = refl })
+
+pub ended_on : {D C : Type 0} (told : Type 0) (meaning : D → Meaning) (faults : D → ℕ) (s t : Stored D C) (client : ClientNo) (entries : List Entry)
+    → t.state ≡ abandoned client s.state → t.disk ≡ s.disk → t.seat ≡ s.seat
+    → StandsFor told meaning faults s entries → StandsFor told meaning faults t (entries ++ Abandoned client ∷ [])
+ended_on {D = D} told meaning faults s t client entries is disk seat stands = record {
+  leads = subst (λ (d : D). Leads (entries ++ Abandoned client ∷ []) (at t.state t.seat.used t.seat.limit (faults d))) (sym disk)
+      (subst (λ (x : Seat). Leads (entries ++ Abandoned client ∷ []) (at t.state x.used x.limit (faults s.disk))) (sym seat)
+      (ended_leads s.state t.state s.seat.used s.seat.limit (faults s.disk) client entries is stands.leads));
+  in_doubt = λ unsettled. still_doubt told meaning s t
+      (λ tells kept here.
+      subst (λ (m : State). IsStoodOn m.kept kept (meaning t.disk) t.seat) (sym is)
+      (subst (λ (d : D). IsStoodOn s.state.kept kept (meaning d) t.seat) (sym disk) (subst (λ (x : Seat). IsStoodOn s.state.kept kept (meaning s.disk) x) (sym seat) here)))
+      entries (Abandoned client) tt (stands.in_doubt (λ was. unsettled (ap (λ (x : Seat). x.doubt) seat ∙ was)));
+}

@@ -1,8 +1,11 @@
 pub mod Begun
+pub mod EventFrames
 pub mod Exclusive
 pub mod Frames
 pub mod Going
 pub mod Keeping
+pub mod Leading
+pub mod Looked
 pub mod Once
 pub mod Opening
 pub mod Reading

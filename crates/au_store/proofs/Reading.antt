@@ -135,7 +135,7 @@ ends_stands : (bare : Bool) (limit : ℕ) (bodies : List (List ℕ)) (area : Lis
 ends_stands true limit bodies area in_range some ends = record { in_range = in_range; some = some; rest = []; split = ends ∙ sym (append-nil (front limit bodies)); shut = tt }
 ends_stands false limit bodies area in_range some ends = record { in_range = in_range; some = some; rest = ends.gate ∷ ends.tail; split = ends.split; shut = ends.shut }
 
-settled_in : (m : Meaning) (seat : Seat) (bodies : List (List ℕ)) → IsSettled m seat bodies → m.images m.reads → In seat.area (Stands seat.limit bodies) m.reads
+pub settled_in : (m : Meaning) (seat : Seat) (bodies : List (List ℕ)) → IsSettled m seat bodies → m.images m.reads → In seat.area (Stands seat.limit bodies) m.reads
 settled_in m seat bodies settled image =
     let here = settled.leaves m.reads image in
     record { selected = here.selected; here = ends_stands seat.bare seat.limit bodies (area_of seat.area m.reads) settled.placed.in_range settled.placed.some here.here }

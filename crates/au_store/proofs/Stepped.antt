@@ -20,7 +20,9 @@ use Rattle.rec_codec.specs.Frames.{framed}
 use Rattle.au_store.specs.Recovery.{RecoversTo, RecoversToEither}
 use Rattle.au_store.specs.Doubts.{EventWrites, HasFrame, IsAfter}
 use Rattle.au_store.specs.Stored.{IsKeptOn}
-use Rattle.au_store.specs.Steps.{Exceeds, EventCosts, FitsUnder, HasFrameWithin, IsMoved, IsMovedTo, IsWithin, MakesBy, StepCosts, StepLeaves, StepMoves, StepsBy, append_cost, growth, step_cost, written_length}
+use Rattle.au_store.specs.Kinds.{GoesOnSeat}
+use Rattle.au_store.specs.Steps.{Exceeds, EventCosts, FitsUnder, HasFrameWithin, IsLeftOut, IsMoved, IsMovedTo, IsWithin, MakesBy, StepCosts, StepLeaves, StepMoves, StepsBy, append_cost, growth}
+use Rattle.au_store.proofs.EventFrames.{cost_frame, fits_frame, goes_on_seat, writes_charged}
 
 -- the state and the reply
 pub steps_by : (m n : State) (event : Event) (prepared : Prepared) (answer : Said) → Step m event prepared.reply (after prepared m) → MakesBy prepared m answer n → StepsBy m event answer n
@@ -30,19 +32,14 @@ steps_by m n event prepared said.Disk step made = made
 steps_by m n event prepared (said.Full needed limit) step made = made
 steps_by m n event prepared said.Memory step made = absurd made
 
+-- what is left out of a prepared step needs no memory
+pub left_full : (prepared : Prepared) (m n : State) (answer : Said) → MakesBy prepared m answer n → IsLeftOut answer → (needed : ℕ) × (limit : ℕ) × (answer ≡ said.Full needed limit)
+left_full prepared m n (said.Replied reply) made left = absurd left
+left_full prepared m n said.Disk made left = absurd left
+left_full prepared m n (said.Full needed limit) made left = (needed, limit, refl)
+left_full prepared m n said.Memory made left = absurd made
+
 -- framed bytes and their frame
-fits_frame : (seat : Seat) (frame : Option Frame) → IsWithin seat (framed_option frame) → FitsUnder seat frame
-fits_frame seat None within = within
-fits_frame seat (Some f) within = within
-
-growth_frame : (frame : Option Frame) → growth (framed_option frame) ≡ written_length frame
-growth_frame None = refl
-growth_frame (Some f) = refl
-
-cost_frame : (mend : ℕ) (frame : Option Frame) → append_cost (framed_option frame) + mend ≤ step_cost mend frame
-cost_frame mend None = omega arith
-cost_frame mend (Some f) = omega arith
-
 exceeds_frame : (m : State) (event : Event) (n : State) (seat : Seat) (needed limit : ℕ) (bytes : List ℕ) (frame : Option Frame) → Some bytes ≡ framed_option frame
     → EventWrites m event n frame → IsFullAt seat false (length bytes) needed limit → Exceeds m event seat needed limit
 exceeds_frame m event n seat needed limit bytes None is writes full = absurd (let none : Some bytes ≡ None = is in cc)
@@ -52,6 +49,7 @@ exceeds_frame m event n seat needed limit bytes (Some f) is writes full =
       after = n;
       frame = f;
       writes = writes;
+      charged = writes_charged m event n f writes;
       needs = full.needed_is ∙ ap (λ (b : List ℕ). needed_of seat (length b)) same;
       bound = full.limit_is;
       exceeds = full.exceeds;
@@ -64,7 +62,7 @@ some_frame m event n bytes (Some f) is writes = (n, f, writes)
 some_within : (m : State) (event : Event) (n : State) (seat : Seat) (bytes : List ℕ) (frame : Option Frame) → Some bytes ≡ framed_option frame → EventWrites m event n frame
     → IsWithin seat (framed_option frame) → HasFrameWithin m seat event
 some_within m event n seat bytes None is writes within = absurd (let none : Some bytes ≡ None = is in cc)
-some_within m event n seat bytes (Some f) is writes within = (n, f, writes, within)
+some_within m event n seat bytes (Some f) is writes within = (n, f, writes, inr within)
 
 module _ (m : State) (event : Event) (prepared : Prepared) (w : Writes m event.client event.ask (stamp_of m event.reading) (after prepared m) prepared.framed) where
   -- where the journal stands then
@@ -74,7 +72,8 @@ module _ (m : State) (event : Event) (prepared : Prepared) (w : Writes m event.c
     frame = w.frame;
     of_event = subst (λ (s : State). EventWrites m event s w.frame) (sym made.1) w.of_step;
     within = fits_frame old w.frame (let P : Option (List ℕ) → Type 0 = λ x. IsWithin old x in subst P w.bytes_are (within reply refl));
-    moved = let P : ℕ → Type 0 = λ x. IsMovedTo x old new in subst P (ap growth w.bytes_are ∙ growth_frame w.frame) moved;
+    moved = let of_event = subst (λ (s : State). EventWrites m event s w.frame) (sym made.1) w.of_step in
+        let P : ℕ → Type 0 = λ x. IsMovedTo x old new in goes_on_seat m event n w.frame old new of_event (subst P (ap growth w.bytes_are) moved);
   }
   step_moves n said.Disk old new made within moved = moved
   step_moves n (said.Full needed limit) old new made within moved = moved
@@ -82,7 +81,7 @@ module _ (m : State) (event : Event) (prepared : Prepared) (w : Writes m event.c
 
   -- what was written
   pub event_costs : (mend before now : ℕ) → now ≤ before + mend + append_cost prepared.framed → EventCosts m event mend before now
-  event_costs mend before now cost = (after prepared m, w.frame, w.of_step, omega (arith, cost, cost_frame mend w.frame, ap append_cost w.bytes_are))
+  event_costs mend before now cost = (after prepared m, w.frame, w.of_step, omega (arith, cost, cost_frame m event (after prepared m) w.frame w.of_step, ap append_cost w.bytes_are))
 
   pub step_costs : (mend : ℕ) (n : State) (answer : Said) (before now : ℕ) → MakesBy prepared m answer n → now ≤ before + mend + append_cost prepared.framed
       → ((needed limit : ℕ) → answer ≡ said.Full needed limit → now ≤ before + mend) → StepCosts m event mend answer before now
@@ -127,21 +126,23 @@ module _ (m n : State) (event : Event) (old mid : Seat) (is : mid ≡ mended old
   pub exceeds_from : (needed limit : ℕ) → Exceeds m event mid needed limit → Exceeds m event old needed limit
   exceeds_from needed limit exceeds =
       let there = subst (λ (s : Seat). Exceeds m event s needed limit) is exceeds in
-      record { after = there.after; frame = there.frame; writes = there.writes; needs = there.needs; bound = there.bound; exceeds = there.exceeds }
+      record { after = there.after; frame = there.frame; writes = there.writes; charged = there.charged; needs = there.needs; bound = there.bound; exceeds = there.exceeds }
 
   moved_from : (k : ℕ) (new : Seat) → IsMovedTo k mid new → IsMovedTo k old new
   moved_from k new moved = let there = subst (λ (s : Seat). IsMovedTo k s new) is moved in record { used = there.used; area = there.area; limit = there.limit }
 
   fits_from : (frame : Option Frame) → FitsUnder mid frame → FitsUnder old frame
-  fits_from None fits = fits
-  fits_from (Some f) fits = subst (λ (s : Seat). needed_of s (length (framed f)) ≤ s.limit) is fits
+  fits_from frame fits = subst (λ (s : Seat). FitsUnder s frame) is fits
+
+  goes_from : (kept : Kept) (frame : Option Frame) (new : Seat) → GoesOnSeat kept frame mid new → GoesOnSeat kept frame old new
+  goes_from kept frame new moved = let there = subst (λ (s : Seat). GoesOnSeat kept frame s new) is moved in record { used = there.used; area = there.area; limit = there.limit }
 
   pub moves_from : (answer : Said) (new : Seat) → StepMoves m event n answer mid new → StepMoves m event n answer old new
   moves_from (said.Replied reply) new moves = record {
     frame = moves.frame;
     of_event = moves.of_event;
     within = fits_from moves.frame moves.within;
-    moved = moved_from (written_length moves.frame) new moves.moved;
+    moved = goes_from n.kept moves.frame new moves.moved;
   }
   moves_from said.Disk new moves = moved_from 0 new moves
   moves_from (said.Full needed limit) new moves = moved_from 0 new moves
@@ -170,3 +171,6 @@ module _ {D : Type 0} (meaning : D → Meaning) (disk mid : D) (is : mid ≡ dis
 
   pub written_from : (meaning mid).written ≡ (meaning disk).written
   written_from = ap (λ (d : D). (meaning d).written) is
+
+  pub reads_from : (meaning mid).reads ≡ (meaning disk).reads
+  reads_from = ap (λ (d : D). (meaning d).reads) is

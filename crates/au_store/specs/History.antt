@@ -1,13 +1,16 @@
 -- Histories: what a store did since it was opened, entry by entry, and what it stands for.
-use Rattle.std.specs.Prelude.{◌≡◌, ◌<◌, ◌≤◌, ⊤, ℕ, ◌+◌, List, [], ◌∷◌, ◌++◌, length, Option, Some, None}
+use Rattle.std.specs.Prelude.{◌≡◌, ◌≢◌, ◌⊎◌, ◌<◌, ⊤, ℕ, List, [], ◌∷◌, ◌++◌, Option, Some}
+use Rattle.std.specs.List.{AllByRecursion}
 use Rattle.au_base.specs.declared.ask.Ask.{Ask}
 use Rattle.au_base.specs.declared.numbers.ClientNo.{ClientNo}
 use Rattle.au_base.specs.declared.reply.Reply.{Reply}
 use Rattle.au_base.specs.declared.reply.Said.{Said}
 use Rattle.au_base.specs.declared.reply.Said.TheVariants as said
+use Rattle.au_entries.specs.declared.kept.Kept.{Kept}
+use Rattle.au_io.specs.Disk.{Meaning}
 use Rattle.au_io.specs.Faults.{HasRisen}
+use Rattle.au_journal.specs.declared.doubt.Doubt.TheVariants.{Settled}
 use Rattle.rec_codec.specs.declared.frame.Frame.{Frame}
-use Rattle.rec_codec.specs.Frames.{framed}
 use Rattle.au_engine.specs.Abandoning.{abandoned}
 use Rattle.au_engine.specs.State.{State}
 use Rattle.au_engine.specs.Step.{Event, Step}
@@ -15,8 +18,9 @@ use Rattle.au_store.specs.declared.deed.Deed.{Deed}
 use Rattle.au_store.specs.declared.deed.Deed.TheVariants as deed
 use Rattle.au_store.specs.declared.entry.Entry.{Entry}
 use Rattle.au_store.specs.declared.entry.Entry.TheVariants.{Opened, Stepped, Abandoned, Faulted, Filled}
-use Rattle.au_store.specs.Doubts.{EventWrites}
-use Rattle.au_store.specs.Steps.{event_at, written_length}
+use Rattle.au_store.specs.Doubts.{EventWrites, HasFrame, IsAfter, IsStoodOn}
+use Rattle.au_store.specs.Kinds.{FitsWithin, IsFree, needed_by, used_by}
+use Rattle.au_store.specs.Steps.{event_at}
 use Rattle.au_store.specs.Stored.{Stored}
 
 -- where a history leads: the state, the used length, the limit, and the count of faults that was named last
@@ -30,18 +34,13 @@ pub record Reached : Type 0 where
 abbrev pub reached_of : {D C : Type 0} → (D → ℕ) → Stored D C → Reached
 reached_of faults store = record { state = store.state; used = store.seat.used; limit = store.seat.limit; faults = faults store.disk }
 
--- the frame, with one gate behind it, ends within the limit; without a frame nothing is needed
-abbrev pub FitsIn : Reached → Option Frame → Type 0
-FitsIn p None = ⊤
-FitsIn p (Some frame) = p.used + length (framed frame) + 1 ≤ p.limit
-
--- the event was given this reply: its frame ends within the limit, and the used length grew by it
+-- the event was given this reply: its frame is free of the limit or ends within it, and the used length is the one after it
 pub record IsStepped (p : Reached) (event : Event) (reply : Reply) (q : Reached) : Type 0 where
   pub step : Step p.state event reply q.state
   pub frame : Option Frame
   pub writes : EventWrites p.state event q.state frame
-  pub within : FitsIn p frame
-  pub used : q.used ≡ p.used + written_length frame
+  pub within : FitsWithin p.used p.limit frame
+  pub used : q.used ≡ used_by p.used q.state.kept frame
   pub limit : q.limit ≡ p.limit
   pub faults : q.faults ≡ p.faults
 
@@ -67,12 +66,13 @@ pub record IsStill (p q : Reached) : Type 0 where
   pub limit : q.limit ≡ p.limit
   pub faults : q.faults ≡ p.faults
 
--- the event has a frame, which with one gate behind it needs so much, over the limit
+-- the event has a frame that isn't free of the limit and with one gate behind it needs so much, over the limit
 pub record IsFilled (p : Reached) (event : Event) (needed : ℕ) : Type 0 where
   pub after : State
   pub frame : Frame
   pub writes : EventWrites p.state event after (Some frame)
-  pub needs : needed ≡ p.used + length (framed frame) + 1
+  pub charged : IsFree frame → ⊥
+  pub needs : needed ≡ needed_by p.used frame
   pub exceeds : p.limit < needed
 
 -- the entry takes p to q
@@ -97,9 +97,39 @@ Leads _ q = ⊥
 abbrev pub IsLegal : List Entry → Type 0
 IsLegal entries = (q : Reached) × Leads entries q
 
--- the store, whose disk has failed so often, is where the list leads
-abbrev pub StandsFor : {D C : Type 0} → (D → ℕ) → Stored D C → List Entry → Type 0
-StandsFor faults store entries = Leads entries (reached_of faults store)
+-- the disk failed, or a session was ended
+abbrev pub IsQuiet : Entry → Type 0
+IsQuiet (Opened m used limit faults) = ⊥
+IsQuiet (Stepped client ask reading reply) = ⊥
+IsQuiet (Abandoned client) = ⊤
+IsQuiet (Faulted client count) = ⊤
+IsQuiet (Filled client ask reading needed) = ⊥
+
+-- The step in doubt stands in the list: it is the event of the client whose step failed there, in the state to which the list
+-- before it leads. It had a frame to write, and the store stands on what is kept or on what is kept after it. Since then the
+-- disk failed and sessions were ended, and nothing was replied to.
+pub record IsDoubtIn {D C : Type 0} (told : Type 0) (meaning : D → Meaning) (store : Stored D C) (entries : List Entry) : Type 0 where
+  pub before : List Entry
+  pub event : Event
+  pub count : ℕ
+  pub since : List Entry
+  pub split : entries ≡ before ++ Faulted event.client count ∷ since
+  pub quiet : AllByRecursion IsQuiet since
+  pub place : Reached
+  pub leads : Leads before place
+  pub has_frame : HasFrame place.state event
+  pub stood : told → (doubted : Kept) × IsAfter place.state event doubted × IsStoodOn store.state.kept doubted (meaning store.disk) store.seat
+
+-- the list begins with a store that was in doubt already, and since then the disk failed and sessions were ended
+abbrev pub BeginsInDoubt : List Entry → Type 0
+BeginsInDoubt [] = ⊥
+BeginsInDoubt (first ∷ since) = AllByRecursion IsQuiet since
+
+-- The store, whose disk means this and has failed so often, is where the list leads. Where a step is in doubt, it is one of
+-- the list, or the list begins with it.
+pub record StandsFor {D C : Type 0} (told : Type 0) (meaning : D → Meaning) (faults : D → ℕ) (store : Stored D C) (entries : List Entry) : Type 0 where
+  pub leads : Leads entries (reached_of faults store)
+  pub in_doubt : store.seat.doubt ≢ Settled → IsDoubtIn told meaning store entries ⊎ BeginsInDoubt entries
 
 -- the one entry with which a history begins: the store as it is
 abbrev pub first_of : {D C : Type 0} → (D → ℕ) → Stored D C → List Entry
@@ -119,6 +149,7 @@ DeedTells (deed.Stepped client ask answer reading) made = Tells client ask.now r
 DeedTells (deed.Abandoned client) made = made ≡ Abandoned client ∷ []
 
 -- a legal list goes on by what was said to the client's ask
-abbrev pub HistoryGoesOn : {D C : Type 0} → (D → ℕ) → ClientNo → Ask → (old new : Stored D C) → Said → Type 0
-HistoryGoesOn faults client ask old new answer =
-    (entries : List Entry) → StandsFor faults old entries → (made : List Entry) × Tells client ask new.reading answer made × StandsFor faults new (entries ++ made)
+abbrev pub HistoryGoesOn : {D C : Type 0} → Type 0 → (D → Meaning) → (D → ℕ) → ClientNo → Ask → (old new : Stored D C) → Said → Type 0
+HistoryGoesOn told meaning faults client ask old new answer =
+    (entries : List Entry) → StandsFor told meaning faults old entries
+    → (made : List Entry) × Tells client ask new.reading answer made × StandsFor told meaning faults new (entries ++ made)

@@ -1,6 +1,8 @@
 pub mod Creating
 pub mod Doubts
 pub mod History
+pub mod Kinds
+pub mod Looking
 pub mod Opened
 pub mod Recovery
 pub mod Standing

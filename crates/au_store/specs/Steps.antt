@@ -23,6 +23,7 @@ use Rattle.au_io.specs.Time.{Reads, Ticking}
 use Rattle.au_journal.specs.declared.doubt.Doubt.TheVariants.{Settled}
 use Rattle.au_store.specs.Recovery.{RecoversTo, RecoversToEither}
 use Rattle.au_store.specs.Doubts.{EventWrites, IsAfter, IsStoodOn}
+use Rattle.au_store.specs.Kinds.{FitsWithin, GoesOnSeat, IsFree, cost_by, needed_by}
 use Rattle.au_store.specs.Stored.{Stored}
 
 -- the frame goes on from what is kept, and that is kept after it
@@ -37,11 +38,6 @@ abbrev pub CarriesTo : Kept → Option (List ℕ) → Kept → Type 0
 CarriesTo kept None after = after ≡ kept
 CarriesTo kept (Some bytes) after = (frame : Frame) × (bytes ≡ framed frame) × Carries kept frame after
 
--- how long the area grows by what is written
-abbrev pub written_length : Option Frame → ℕ
-written_length None = 0
-written_length (Some frame) = length (framed frame)
-
 -- at a reply the state is that after the event; at any other answer it stays
 abbrev pub StepsBy : State → Event → Said → State → Type 0
 StepsBy m event (said.Replied reply) n = Step m event reply n
@@ -49,17 +45,17 @@ StepsBy m event said.Disk n = n ≡ m
 StepsBy m event (said.Full needed limit) n = n ≡ m
 StepsBy m event said.Memory n = n ≡ m
 
--- what is written fits under the limit, with one gate behind it
+-- what is written is free of the limit, or fits under it, with one gate behind it
 abbrev pub FitsUnder : Seat → Option Frame → Type 0
-FitsUnder seat None = ⊤
-FitsUnder seat (Some frame) = needed_of seat (length (framed frame)) ≤ seat.limit
+FitsUnder seat frame = FitsWithin seat.used seat.limit frame
 
--- the event writes a frame that needs so much, over the limit
+-- the event writes a frame that isn't free of the limit and needs so much, over it
 pub record Exceeds (m : State) (event : Event) (seat : Seat) (needed limit : ℕ) : Type 0 where
   pub after : State
   pub frame : Frame
   pub writes : EventWrites m event after (Some frame)
-  pub needs : needed ≡ needed_of seat (length (framed frame))
+  pub charged : IsFree frame → ⊥
+  pub needs : needed ≡ needed_by seat.used frame
   pub bound : limit ≡ seat.limit
   pub exceeds : limit < needed
 
@@ -74,6 +70,13 @@ StepCause said.Memory before now = now ≡ before
 abbrev pub StepLeaves : State → Event → Kept → Areas → Type 0
 StepLeaves m event doubted all =
     RecoversTo m.kept all ⊎ (RecoversTo doubted all ⊎ ((kept : Kept) × IsAfter m event kept × RecoversTo kept all))
+
+-- nothing was made of the ask, and the disk didn't fail: the journal is full, or there was no memory
+abbrev pub IsLeftOut : Said → Type 0
+IsLeftOut (said.Replied reply) = ⊥
+IsLeftOut said.Disk = ⊥
+IsLeftOut (said.Full needed limit) = ⊤
+IsLeftOut said.Memory = ⊤
 
 -- this step is in doubt
 abbrev pub StepDoubts : State → Event → Meaning → Seat → Type 0
@@ -103,14 +106,9 @@ pub record IsUnmended {D C : Type 0} (told : Type 0) (meaning : D → Meaning) (
   pub any_moment : told → (doubted : Kept) → IsStoodOn old.state.kept doubted (meaning old.disk) old.seat
       → LeavesSince (RecoversToEither old.state.kept doubted) (meaning old.disk) (meaning new.disk)
 
--- the bytes that a step writes at most, where its mend writes so many: its frame and a gate beside
-abbrev pub step_cost : ℕ → Option Frame → ℕ
-step_cost mend None = mend
-step_cost mend (Some frame) = mend + length (framed frame) + 1
-
--- what the event writes at most, of the disk's bytes written before and after
+-- what the event writes at most, of the disk's bytes written before and after, where its mend writes so many
 abbrev pub EventCosts : State → Event → (mend before now : ℕ) → Type 0
-EventCosts m event mend before now = (n : State) × (frame : Option Frame) × EventWrites m event n frame × (now ≤ before + step_cost mend frame)
+EventCosts m event mend before now = (n : State) × (frame : Option Frame) × EventWrites m event n frame × (now ≤ before + (mend + cost_by n.kept frame))
 
 -- what the step writes at most, by its answer: without a reply or a failed write nothing but the mend
 abbrev pub StepCosts : State → Event → ℕ → Said → (before now : ℕ) → Type 0
@@ -125,12 +123,12 @@ pub record IsMovedTo (n : ℕ) (old new : Seat) : Type 0 where
   pub area : new.area ≡ old.area
   pub limit : new.limit ≡ old.limit
 
--- the event that took m to n was written: its frame is within the limit, and the used length grew by it
+-- the event that took m to n was written: its frame is within the limit, and the journal went on by it
 pub record IsWritten (m : State) (event : Event) (n : State) (old new : Seat) : Type 0 where
   pub frame : Option Frame
   pub of_event : EventWrites m event n frame
   pub within : FitsUnder old frame
-  pub moved : IsMovedTo (written_length frame) old new
+  pub moved : GoesOnSeat n.kept frame old new
 
 -- at a reply the event was written; at any other answer the used length stays
 abbrev pub StepMoves : State → Event → State → Said → Seat → Seat → Type 0

@@ -1,6 +1,6 @@
 //! Making a store.
 ghost use Rattle.std.specs.Prelude.{◌≡◌, IfOk};
-ghost use Rattle.au_io.specs.Disk.{Stays};
+ghost use Rattle.au_io.specs.Disk.{Passes, Stays};
 ghost use Rattle.au_io.specs.Moments.{Leaves, LeavesSince};
 ghost use Rattle.au_journal.specs.Creation.{IsSelectedFormatted, OthersAreBlank};
 ghost use Rattle.au_journal.specs.Frames.{IsLimit};
@@ -33,6 +33,7 @@ impl<D: Disk, C: Clock> Store<D, C> {
         ensures any_moment { D.told → Leaves OthersAreBlank (D.meaning disk.old)
             → LeavesSince (CreateLeaves (D.meaning disk.old) (opening sys_password.now)) (D.meaning disk.old) (D.meaning disk.new) }
         ensures again { D.told → Leaves OthersAreBlank (D.meaning disk.old) → LeavesSince OthersAreBlank (D.meaning disk.old) (D.meaning disk.new) }
+        ensures time { Passes (D.meaning disk.old) (D.meaning disk.new) }
         ensures cause { CreateCause result (D.faults disk.old) (D.faults disk.new) }
     {
         images_come_back();

@@ -31,7 +31,7 @@ impl<D: Disk, C: Clock> Store<D, C> {
     /// nothing is written. It takes no memory and can't fail.
     pub fn abandon(&mut self, client: ClientNo)
         ensures state { self.new.state ≡ abandoned client self.old.state }
-        ensures history { (entries : List Entry) → StandsFor D.faults self.old entries → StandsFor D.faults self.new (entries ++ Abandoned client ∷ []) }
+        ensures history { (entries : List Entry) → StandsFor D.told D.meaning D.faults self.old entries → StandsFor D.told D.meaning D.faults self.new (entries ++ Abandoned client ∷ []) }
         ensures same { (self.new.disk ≡ self.old.disk) × (self.new.seat ≡ self.old.seat) × (self.new.clock ≡ self.old.clock) × (self.new.reading ≡ self.old.reading) }
     {
         self.engine.abandon(client);

@@ -8,7 +8,7 @@ impl<D: Disk, C: Clock> Held for Store<D, C> {
 
     type Entry = Entry;
 
-    ghost stands = { λ store entries. StandsFor D.faults store entries };
+    ghost stands = { λ store entries. StandsFor D.told D.meaning D.faults store entries };
 
     ghost first = { λ store. first_of D.faults store };
 

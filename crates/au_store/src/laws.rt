@@ -1,16 +1,22 @@
 //! Laws of what stands on a disk.
-ghost use Rattle.std.specs.Prelude.{◌≡◌, ℕ};
+ghost use Rattle.std.specs.Prelude.{◌≡◌, ℕ, List, Option};
 ghost use Rattle.au_entries.specs.declared.kept.Kept.{Kept};
 ghost use Rattle.au_io.specs.Areas.{Areas, IsBounded};
 ghost use Rattle.au_io.specs.declared.disk.Area.{Area};
 ghost use Rattle.au_journal.specs.Walk.{IsUnformatted};
+ghost use Rattle.rec_codec.specs.declared.frame.Frame.{Frame};
 ghost use Rattle.au_engine.specs.State.{State, start};
+ghost use Rattle.au_engine.specs.Step.{Event};
+ghost use Rattle.au_store.specs.declared.entry.Entry.{Entry};
 ghost use Rattle.au_store.specs.declared.open_fault.OpenFault.{OpenFault};
 ghost use Rattle.au_store.specs.declared.open_fault.OpenFault.TheVariants as fault;
+ghost use Rattle.au_store.specs.Doubts.{EventWrites};
+ghost use Rattle.au_store.specs.History.{GoesBy, Leads, Reached};
 ghost use Rattle.au_store.specs.Opened.{IsBare};
 ghost use Rattle.au_store.specs.Recovery.{ReadsAs, RecoversTo};
 ghost use Rattle.au_store.specs.Starting.{IsOfBytes, IsOpened, OpenSays};
 
+use au_engine::one_result;
 use au_journal::{frames_stand_in_a_row, one_standing};
 use rec_codec::one_front;
 
@@ -55,4 +61,14 @@ pub fn one_cause()
     frames_stand_in_a_row();
     one_standing();
     one_recovery();
+}
+
+/// An entry takes a store from one place to one other, and a list of entries leads to one place; and an
+/// event writes one frame, or none.
+pub fn one_end()
+    ensures entry { (p q r : Reached) (entry : Entry) → GoesBy p entry q → GoesBy p entry r → q ≡ r }
+    ensures list { (entries : List Entry) (p q : Reached) → Leads entries p → Leads entries q → p ≡ q }
+    ensures frame { (m n k : State) (event : Event) (one other : Option Frame) → EventWrites m event n one → EventWrites m event k other → one ≡ other }
+{
+    one_result();
 }

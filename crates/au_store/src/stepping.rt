@@ -6,7 +6,7 @@ ghost use Rattle.au_io.specs.Disk.{Passes};
 ghost use Rattle.au_io.specs.Moments.{LeavesSince};
 ghost use Rattle.au_io.specs.Time.{Reads};
 ghost use Rattle.au_journal.specs.Causes.{MendCause};
-ghost use Rattle.au_journal.specs.Seats.{IsFullAt, mend_bytes, mended};
+ghost use Rattle.au_journal.specs.Seats.{IsFullAt, mend_bytes, mended, mended_reads};
 ghost use Rattle.au_engine.specs.Framing.{IsText, Writes};
 ghost use Rattle.au_engine.specs.Prepared.{Fits, after};
 ghost use Rattle.au_engine.specs.Replaying.{EndsWell};
@@ -16,16 +16,17 @@ ghost use Rattle.au_engine.specs.Step.{IsAsked, Step};
 use crate::Store;
 use crate::preparing::prepare;
 use crate::writing::write;
-use au_base::{Ask, ClientNo, Memory, Said};
+use au_base::{Ask, ClientNo, Memory, Said, Steps};
 use au_engine::{Prepared, frames_lead_on};
 use au_io::{Clock, Disk};
 use au_journal::{Appended, Doubt, Mended};
 use std::alloc::Global;
+use std::sync::ledger::Ledger;
 
 impl<D: Disk, C: Clock> Store<D, C> {
     ghost use Rattle.au_store.specs.History.{HistoryGoesOn};
     ghost use Rattle.au_store.specs.Recovery.{RecoversToEither};
-    ghost use Rattle.au_store.specs.Steps.{CarriesTo, Exceeds, IsMoved, IsTried, IsUnmended, IsWithin, MakesBy, StepCause, StepCosts, StepLeaves, StepMoves, StepsBy, append_cost, event_at, growth};
+    ghost use Rattle.au_store.specs.Steps.{CarriesTo, Exceeds, IsLeftOut, IsMoved, IsTried, IsUnmended, IsWithin, MakesBy, StepCause, StepCosts, StepLeaves, StepMoves, StepsBy, append_cost, event_at, growth};
     ghost use Rattle.au_store.specs.Doubts.{IsLeftBy, IsStoodOn};
     ghost use Rattle.au_store.specs.Stored.{IsKeptOn, reserved_of};
 
@@ -34,23 +35,35 @@ impl<D: Disk, C: Clock> Store<D, C> {
     ///
     /// `Disk` has the state as it was, and one step in doubt, which a crash may leave done: this one, or
     /// the earlier one where the mend failed. `Full` and `Memory` have the state as it was, and nothing
-    /// in doubt.
-    pub fn step(&mut self, alloc: Global, client: ClientNo, ask: &Ask) -> Said
+    /// in doubt; where nothing was in doubt before, the disk wasn't called.
+    ///
+    /// `steps` counts the audit policies that are tested one by one: none yet.
+    pub fn step<L: Ledger>(
+        &mut self,
+        alloc: Global,
+        client: ClientNo,
+        ask: &Ask,
+        steps: &mut Steps<L>,
+    ) -> Said
         requires { IsAsked ask.now }
         ensures step { StepsBy self.old.state (event_at client ask.now self.new.reading) result self.new.state }
         ensures moves { StepMoves self.old.state (event_at client ask.now self.new.reading) self.new.state result self.old.seat self.new.seat }
         ensures full { (needed limit : ℕ) → result ≡ Said.Full needed limit → Exceeds self.old.state (event_at client ask.now self.new.reading) self.old.seat needed limit }
-        ensures history { HistoryGoesOn D.faults client ask.now self.old self.new result }
+        ensures history { HistoryGoesOn D.told D.meaning D.faults client ask.now self.old self.new result }
         ensures tries { IsTried D.told D.meaning C.ticking (event_at client ask.now self.new.reading) self.old self.new result ⊎ IsUnmended D.told D.meaning self.old self.new result }
         ensures settled { result ≢ Said.Disk → self.new.seat.doubt ≡ Doubt.Settled }
         ensures in_doubt { result ≡ Said.Disk → self.new.seat.doubt ≢ Doubt.Settled }
         ensures kept { D.told → result ≢ Said.Disk → IsKeptOn self.new.state.kept (D.meaning self.new.disk) self.new.seat }
+        ensures untouched { IsLeftOut result → self.old.seat.doubt ≡ Doubt.Settled → self.new.disk ≡ self.old.disk }
+        ensures mended { D.told → IsLeftOut result → (D.meaning self.new.disk).reads ≡ mended_reads self.old.seat.doubt self.old.seat (D.meaning self.old.disk).reads }
+        ensures steps { steps.new ≡ steps.old }
         ensures any_moment { D.told → (doubted : Kept) → IsStoodOn self.old.state.kept doubted (D.meaning self.old.disk) self.old.seat
             → LeavesSince (StepLeaves self.old.state (event_at client ask.now self.new.reading) doubted) (D.meaning self.old.disk) (D.meaning self.new.disk) }
         ensures time { Passes (D.meaning self.old.disk) (D.meaning self.new.disk) }
         ensures cost { StepCosts self.old.state (event_at client ask.now self.new.reading) (mend_bytes self.old.seat.doubt) result (D.meaning self.old.disk).written (D.meaning self.new.disk).written }
         ensures cause { StepCause result (D.faults self.old.disk) (D.faults self.new.disk) }
     {
+        let _ = &steps;
         match self.mend() {
             Mended::Disk => Said::Disk,
             Mended::Done => match self.prepare(alloc, client, ask) {
@@ -65,6 +78,8 @@ impl<D: Disk, C: Clock> Store<D, C> {
         ensures mended { result ≡ Mended.Done → self.new.seat ≡ mended self.old.seat }
         ensures kept { D.told → result ≡ Mended.Done → IsKeptOn self.old.state.kept (D.meaning self.new.disk) self.new.seat }
         ensures rests { result ≡ Mended.Disk → self.new.seat ≡ self.old.seat }
+        ensures still { self.old.seat.doubt ≡ Doubt.Settled → self.new.disk ≡ self.old.disk }
+        ensures reads { D.told → result ≡ Mended.Done → (D.meaning self.new.disk).reads ≡ mended_reads self.old.seat.doubt self.old.seat (D.meaning self.old.disk).reads }
         ensures stood { result ≡ Mended.Disk → self.old.seat.doubt ≢ Doubt.Settled }
         ensures doubted { D.told → (doubted : Kept) → IsStoodOn self.old.state.kept doubted (D.meaning self.old.disk) self.old.seat
             → result ≡ Mended.Disk → IsStoodOn self.old.state.kept doubted (D.meaning self.new.disk) self.new.seat }
@@ -77,6 +92,7 @@ impl<D: Disk, C: Clock> Store<D, C> {
     {
         self.journal.mend()
     }
+
     // Reads the clock, and works out the step of the ask.
     fn prepare(&mut self, alloc: Global, client: ClientNo, ask: &Ask) -> Result<Prepared, Memory>
         requires { IsAsked ask.now }

@@ -14,6 +14,4 @@ invariant_of-self g c =
     subst (λ (s : State). IsSound told m j.seat s) (sym c.abandon.ensures) (abandoned_sound told m j.seat state c.args.client c.self.invariant)
 
 pub returns-clause-history : goal.returns-clause-history
-returns-clause-history g c = rw (← c.self.view_is) (λ entries stands.
-    let j = c.self.inside.journal in
-    ended_on c.self.inside.engine.state c.abandon.new.self.state j.seat.used j.seat.limit (g.D.Disk.faults j.disk) c.args.client entries c.abandon.ensures stands)
+returns-clause-history g c = rw (← c.self.view_is) (λ entries stands. ended_on g.D.Disk.told g.D.Disk.meaning g.D.Disk.faults _ _ c.args.client entries c.abandon.ensures refl refl stands)

@@ -2,6 +2,7 @@ use Rattle.std.proofs.Common.{◌≡◌}
 use Rattle.rec_codec.specs.Frames.{framed, spelled}
 use Rattle.au_engine.specs.Image.{image_of}
 use Rattle.au_engine.specs.Opening.{opening}
+use Rattle.au_store.proofs.Begun.{no_time}
 use Rattle.au_store.proofs.Frames.{is_framed}
 use Rattle.au_store.proofs.Opening.{create_leaves, made_new, opening_begins}
 use Rattle.au_store.proofs.store.Store.create.Goals as goal
@@ -34,3 +35,8 @@ returns-clause-any_moment g c = λ told others.
     let is : c.deref.result.now ≡ framed f = cc (c.in-Ok.ensures.bytes) in
     create_leaves c.args.limit c.args.sys_password.now begins (g.D.Disk.meaning c.args.disk.now) (g.D.Disk.meaning c.format.new.disk)
     (c.format.ensures.any_moment told (spelled f) (is_framed c.deref.result.now f is) others)
+
+pub returns-in-Err-clause-time : goal.returns-in-Err-clause-time
+returns-in-Err-clause-time g c =
+    let laws = g.met.D.Disk g.world.𝓛 g.world.𝓜 g.world.𝓡 ((λ s x. x), (λ x. x), (λ x. x), λ x. x) in
+    no_time (g.D.Disk.meaning c.args.disk.now) (laws.counts_now c.args.disk.now) (laws.only_now c.args.disk.now)

@@ -56,3 +56,9 @@ returns-clause-cost g c = rw (← c.self.view_is) c.mend.ensures.cost
 
 pub returns-clause-stood : goal.returns-clause-stood
 returns-clause-stood g c = rw (← c.self.view_is) c.mend.ensures.stood
+
+pub returns-clause-still : goal.returns-clause-still
+returns-clause-still g c = rw (← c.self.view_is) c.mend.ensures.still
+
+pub returns-clause-reads : goal.returns-clause-reads
+returns-clause-reads g c = rw (← c.self.view_is) c.mend.ensures.reads

@@ -8,8 +8,8 @@ use Rattle.au_engine.specs.Prepared.{after}
 use Rattle.au_engine.specs.State.{State}
 use Rattle.au_store.specs.Recovery.{RecoversToEither}
 use Rattle.au_store.specs.Steps.{Exceeds, HasFrameWithin, StepCause, StepCosts, StepDoubts, StepLeaves, StepMoves, StepsBy, event_at}
-use Rattle.au_store.proofs.Going.{faulted_on, goes_on, mended_moved, same_moved, still_on}
-use Rattle.au_store.proofs.Stepped.{exceeds_by, exceeds_from, frame_there, frame_within, kept_from, made_after, mend_leaves, moves_from, since_from, since_to, step_costs, step_leaves, step_moves, steps_by, time_from, tried_read, written_from}
+use Rattle.au_store.proofs.Going.{goes_on, mended_moved, same_moved, still_on}
+use Rattle.au_store.proofs.Stepped.{exceeds_by, exceeds_from, frame_there, frame_within, kept_from, left_full, made_after, mend_leaves, moves_from, reads_from, since_from, since_to, step_costs, step_leaves, step_moves, steps_by, time_from, tried_read, written_from}
 use Rattle.au_store.proofs.store.Store.step.Goals as goal
 
 pub returns-in-Disk-clause-any_moment : goal.returns-in-Disk-clause-any_moment
@@ -231,16 +231,35 @@ pub returns-in-Disk-clause-history : goal.returns-in-Disk-clause-history
 returns-in-Disk-clause-history g c =
     let s0 = c.args.self.now in
     let s1 = c.mend.new.self in
-    faulted_on g.D.Disk.faults s0 s1 c.args.client c.args.ask.now c.mend.ensures.same.0 (same_moved s0.seat s1.seat (c.mend.ensures.rests c.in-Disk.is)) c.in-Disk.ensures.cause.1
+    goes_on g.D.Disk.told g.D.Disk.meaning g.D.Disk.faults s0 s1 c.args.client c.args.ask.now g.C.Clock.ticking said.Disk c.mend.ensures.same.0 (same_moved s0.seat s1.seat (c.mend.ensures.rests c.in-Disk.is))
+    (λ needed limit is. absurd (let no : said.Disk ≡ said.Full needed limit = is in cc)) c.in-Disk.ensures.cause (λ well. absurd (well refl)) (returns-in-Disk-clause-tries g c)
 
 pub returns-in-Err-clause-history : goal.returns-in-Err-clause-history
 returns-in-Err-clause-history g c =
     let s0 = c.args.self.now in
     let s2 = c.prepare.new.self in
-    still_on g.D.Disk.faults s0 s2 c.args.client c.args.ask.now (c.prepare.ensures.state ∙ c.mend.ensures.same.0)
+    still_on g.D.Disk.told g.D.Disk.meaning g.D.Disk.faults s0 s2 c.args.client c.args.ask.now (c.prepare.ensures.state ∙ c.mend.ensures.same.0)
     (mended_moved s0.seat s2.seat (c.prepare.ensures.same.1 ∙ c.mend.ensures.mended c.in-Done.is)) (ap g.D.Disk.faults c.prepare.ensures.same.0 ∙ c.in-Done.ensures.cause)
+    (ap (λ (s : Seat). s.doubt) (c.prepare.ensures.same.1 ∙ c.mend.ensures.mended c.in-Done.is))
 
 pub returns-in-Ok-clause-history : goal.returns-in-Ok-clause-history
 returns-in-Ok-clause-history g c =
-    goes_on g.D.Disk.faults c.args.self.now c.make.new.self c.args.client c.args.ask.now c.make.result
-    (returns-in-Ok-clause-step g c) (returns-in-Ok-clause-moves g c) (returns-in-Ok-clause-full g c) (returns-in-Ok-clause-cause g c)
+    goes_on g.D.Disk.told g.D.Disk.meaning g.D.Disk.faults c.args.self.now c.make.new.self c.args.client c.args.ask.now g.C.Clock.ticking c.make.result
+    (returns-in-Ok-clause-step g c) (returns-in-Ok-clause-moves g c) (returns-in-Ok-clause-full g c) (returns-in-Ok-clause-cause g c) c.make.ensures.settled (returns-in-Ok-clause-tries g c)
+
+pub returns-in-Err-clause-untouched : goal.returns-in-Err-clause-untouched
+returns-in-Err-clause-untouched g c = λ left settled. c.prepare.ensures.same.0 ∙ c.mend.ensures.still settled
+
+pub returns-in-Ok-clause-untouched : goal.returns-in-Ok-clause-untouched
+returns-in-Ok-clause-untouched g c = λ left settled.
+    let full = left_full c.in-Ok.prepared c.prepare.new.self.state c.make.new.self.state c.make.result c.make.ensures.made left in
+    c.make.ensures.untouched full.0 full.1 full.2 ∙ c.prepare.ensures.same.0 ∙ c.mend.ensures.still settled
+
+pub returns-in-Err-clause-mended : goal.returns-in-Err-clause-mended
+returns-in-Err-clause-mended g c = λ told left.
+    reads_from g.D.Disk.meaning c.mend.new.self.disk c.prepare.new.self.disk c.prepare.ensures.same.0 ∙ c.mend.ensures.reads told c.in-Done.is
+
+pub returns-in-Ok-clause-mended : goal.returns-in-Ok-clause-mended
+returns-in-Ok-clause-mended g c = λ told left.
+    let full = left_full c.in-Ok.prepared c.prepare.new.self.state c.make.new.self.state c.make.result c.make.ensures.made left in
+    reads_from g.D.Disk.meaning c.mend.new.self.disk c.make.new.self.disk (c.make.ensures.untouched full.0 full.1 full.2 ∙ c.prepare.ensures.same.0) ∙ c.mend.ensures.reads told c.in-Done.is
