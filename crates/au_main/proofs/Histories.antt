@@ -1,5 +1,5 @@
 -- Histories, and runs over lines, that go on by one.
-use Rattle.std.proofs.Common.{◌≡◌, ◌≢◌, ◌⊎◌, inl, inr, ⊎_elim, ℕ, List, [], ◌∷◌, ◌++◌, length, refl, sym, ap, ◌∙◌, subst, append-nil, append_assoc, length-append, arith}
+use Rattle.std.proofs.Common.{◌≡◌, ◌≢◌, ◌⊎◌, ◌≤◌, inl, inr, ⊎_elim, ℕ, List, [], ◌∷◌, ◌++◌, length, refl, sym, ap, ◌∙◌, subst, append-nil, append_assoc, length-append, arith}
 use Rattle.std.specs.Prelude.{Option, Some, None, flat_map}
 use Rattle.std.specs.List.{AllByRecursion, AllZip}
 use Rattle.std.proofs.lemmas.List.{map-append}
@@ -12,15 +12,15 @@ use Rattle.au_io.specs.Moments.{CountsNow, OnlyNow}
 use Rattle.au_io.specs.Time.{Ticking, Reads, after_reading}
 use Rattle.au_journal.specs.declared.doubt.Doubt.TheVariants.{Settled}
 use Rattle.au_engine.specs.State.{State}
-use Rattle.au_engine.specs.Step.{Event, Step}
-use Rattle.au_engine.specs.History.{Entry, Run, AreSteps, stepped, entries_of}
 use Rattle.au_script.specs.declared.lines.ScriptLine.{ScriptLine}
 use Rattle.au_script.specs.declared.lines.ScriptLine.TheVariants as line
 use Rattle.au_journal.specs.declared.seat.Seat.{Seat}
-use Rattle.au_store.specs.declared.entry.Entry.{Entry as Held}
-use Rattle.au_store.specs.History.{StandsFor, first_of}
+use Rattle.au_store.specs.declared.entry.Entry.{Entry}
+use Rattle.au_store.specs.declared.entry.Entry.TheVariants.{Opened, Stepped, Abandoned, Faulted, Filled}
+use Rattle.au_store.specs.History.{GoesBy, GoesOver, IsFaulted, IsStepped, IsStill, Reached, StandsFor, first_of, reached_of}
+use Rattle.au_store.specs.Steps.{event_at}
 use Rattle.au_store.specs.Stored.{Stored, IsKeptOn}
-use Rattle.au_main.specs.Answers.{AllEntriesOf, Answer, AreUnmended, EntriesOf, IsLegalBy, LeavesDoubt, Made, Unmended, ReadAll, UnmendedInDoubt, asks_of, line_of, readings_of, said_of, steps_of, texts}
+use Rattle.au_main.specs.Answers.{AllTell, Answer, AreUnmended, AnswerTells, IsLegalBy, LeavesDoubt, Made, Unmended, ReadAll, UnmendedInDoubt, asks_of, line_of, readings_of, said_of, steps_of, texts}
 use Rattle.au_main.specs.Built.{IsScriptLine}
 use Rattle.au_main.specs.Means.{Means}
 use Rattle.au_main.specs.Ran.{Ran}
@@ -56,43 +56,61 @@ ReadAll-append (Some t) u v (r ∷ a) b h k = (h.0, ReadAll-append (Some (after_
 
 -- ---- histories
 
-Run-push : (k m n : State) (es : List Event) (rs : List Reply) (e : Event) (r : Reply) → Run k es rs m → Step m e r n → Run k (es ++ e ∷ []) (rs ++ r ∷ []) n
-Run-push k m n [] [] e r h step = (n, subst (λ x. Step x e r n) h step, refl)
-Run-push k m n (x ∷ es) (y ∷ rs) e r h step = (h.0, h.1, Run-push h.0 m n es rs e r h.2 step)
-Run-push k m n [] (y ∷ rs) e r h step = absurd h
-Run-push k m n (x ∷ es) [] e r h step = absurd h
-
-entries_of-push : (k m : State) (es : List Event) (rs : List Reply) (e : Event) (r : Reply) → Run k es rs m → entries_of (es ++ e ∷ []) (rs ++ r ∷ []) ≡ entries_of es rs ++ stepped e r ∷ []
-entries_of-push k m [] [] e r h = refl
-entries_of-push k m (x ∷ es) (y ∷ rs) e r h = ap (λ l. stepped x y ∷ l) (entries_of-push h.0 m es rs e r h.2)
-entries_of-push k m [] (y ∷ rs) e r h = absurd h
-entries_of-push k m (x ∷ es) [] e r h = absurd h
-
-AreSteps-none : (m : State) → AreSteps m [] m
-AreSteps-none m = record { events = []; replies = []; run = refl; told = refl }
-
-AreSteps-push : (k m n : State) (entries : List _) (e : Event) (r : Reply) → AreSteps k entries m → Step m e r n → AreSteps k (entries ++ stepped e r ∷ []) n
-AreSteps-push k m n entries e r h step = record {
-  events = h.events ++ e ∷ [];
-  replies = h.replies ++ r ∷ [];
-  run = Run-push k m n h.events h.replies e r h.run step;
-  told = ap (λ l. l ++ stepped e r ∷ []) h.told ∙ sym (entries_of-push k m h.events h.replies e r h.run);
-}
-
 steps_of-push : (answers : List Answer) (a : Answer) → flat_map steps_of (answers ++ a ∷ []) ≡ flat_map steps_of answers ++ steps_of a
 steps_of-push answers a = flat_map-append steps_of answers (a ∷ []) ∙ ap (λ l. flat_map steps_of answers ++ l) (append-nil (steps_of a))
 
--- nothing more happened
-AreSteps-still : (k m n : State) (entries : List Entry) → AreSteps k entries m → n ≡ m → AreSteps k (entries ++ []) n
-AreSteps-still k m n entries steps same = rw (append-nil entries) (subst (λ (x : State). AreSteps k entries x) (sym same) steps)
+over_append : (p q r : Reached) (xs ys : List Entry) → GoesOver p xs q → GoesOver q ys r → GoesOver p (xs ++ ys) r
+over_append p q r [] ys over more = subst (λ (x : Reached). GoesOver x ys r) over more
+over_append p q r (entry ∷ xs) ys over more = (over.0, over.1, over_append over.0 q r xs ys over.2 more)
 
--- an answer: a reply is one more step, and anything else is none
-AreSteps-goes : (k m n : State) (entries : List Entry) (a : Answer) → AreSteps k entries m → StateBy m a n → AreSteps k (entries ++ steps_of a) n
-AreSteps-goes k m n entries (Made client ask reading (Replied reply)) steps state = AreSteps-push k m n entries (record { client = client; ask = ask; reading = reading }) reply steps state
-AreSteps-goes k m n entries (Made client ask reading Disk) steps state = AreSteps-still k m n entries steps state
-AreSteps-goes k m n entries (Made client ask reading (Full needed limit)) steps state = AreSteps-still k m n entries steps state
-AreSteps-goes k m n entries (Made client ask reading Memory) steps state = AreSteps-still k m n entries steps state
-AreSteps-goes k m n entries (Unmended client ask) steps state = AreSteps-still k m n entries steps state
+-- the same place, but for the count of faults
+abbrev counted : ℕ → Reached → Reached
+counted faults p = record { state = p.state; used = p.used; limit = p.limit; faults = faults }
+
+abbrev at : State → ℕ → ℕ → ℕ → Reached
+at state used limit faults = record { state = state; used = used; limit = limit; faults = faults }
+
+same_place : (faults : ℕ) (p q : Reached) → q.state ≡ p.state → q.used ≡ p.used → q.limit ≡ p.limit → counted faults q ≡ counted faults p
+same_place faults p q state used limit =
+    ap (λ (s : State). at s q.used q.limit faults) state ∙ ap (λ (x : ℕ). at p.state x q.limit faults) used ∙ ap (λ (x : ℕ). at p.state p.used x faults) limit
+
+-- one entry alone
+module _ (faults : ℕ) (p q : Reached) where
+  one_step : (client : ClientNo) (ask : Ask) (reading : ℕ) (reply : Reply) → GoesOver p (Stepped client ask reading reply ∷ []) q
+      → GoesOver (counted faults p) (Stepped client ask reading reply ∷ []) (counted faults q)
+  one_step client ask reading reply over =
+      let step = subst (λ (x : Reached). IsStepped p (event_at client ask reading) reply x) (sym over.2) over.1 in (
+        counted faults q,
+        record { step = step.step; frame = step.frame; writes = step.writes; within = step.within; used = step.used; limit = step.limit; faults = refl },
+        refl,
+      )
+
+  one_fault : (client : ClientNo) (count : ℕ) → GoesOver p (Faulted client count ∷ []) q → counted faults q ≡ counted faults p
+  one_fault client count over =
+      let fault = subst (λ (x : Reached). IsFaulted p count x) (sym over.2) over.1 in same_place faults p q fault.state fault.used fault.limit
+
+  one_filled : (client : ClientNo) (ask : Ask) (reading needed : ℕ) → GoesOver p (Filled client ask reading needed ∷ []) q → counted faults q ≡ counted faults p
+  one_filled client ask reading needed over =
+      let still = subst (λ (x : Reached). IsStill p x) (sym over.2) over.1.1 in same_place faults p q still.state still.used still.limit
+
+  -- what an answer tells: a reply is one more step, and anything else is none
+  steps_go : (a : Answer) (made : List Entry) → AnswerTells a made → GoesOver p made q → GoesOver (counted faults p) (steps_of a) (counted faults q)
+  steps_go (Made client ask reading (Replied reply)) made tells over = one_step client ask reading reply (subst (λ (l : List Entry). GoesOver p l q) tells over)
+  steps_go (Made client ask reading Disk) made tells over = one_fault client tells.0 (subst (λ (l : List Entry). GoesOver p l q) tells.1 over)
+  steps_go (Made client ask reading (Full needed limit)) made tells over = one_filled client ask reading needed (subst (λ (l : List Entry). GoesOver p l q) tells over)
+  steps_go (Made client ask reading Memory) made tells over = ap (counted faults) (subst (λ (l : List Entry). GoesOver p l q) tells over)
+  steps_go (Unmended client ask) made tells over = one_fault client tells.0 (subst (λ (l : List Entry). GoesOver p l q) tells.1 over)
+
+-- any store stands for its first entry, so what it goes on by leads from where it was
+first_stands : {D C : Type 0} (means : Means D C) (s : Stored D C) → StandsFor means.told means.meaning means.faults s (first_of means.faults s)
+first_stands means s = record { leads = refl; in_doubt = λ _. inr tt }
+
+answer_goes : {D C : Type 0} (means : Means D C) (faults : ℕ) (s t : Stored D C) (a : Answer)
+    → ((entries : List Entry) → StandsFor means.told means.meaning means.faults s entries → (made : List Entry) × AnswerTells a made × StandsFor means.told means.meaning means.faults t (entries ++ made))
+    → GoesOver (counted faults (reached_of means.faults s)) (steps_of a) (counted faults (reached_of means.faults t))
+answer_goes means faults s t a history =
+    let on = history (first_of means.faults s) (first_stands means s) in
+    steps_go faults (reached_of means.faults s) (reached_of means.faults t) a on.0 on.1 on.2.leads
 
 -- where the disk failed the state stays
 goes_state : (m n : State) (a : Answer) → StateBy m a n → said_of a ≡ Disk → n ≡ m
@@ -104,25 +122,25 @@ goes_state m n (Unmended client ask) state is = state
 
 -- ---- the store's list
 
-AllEntriesOf-push : (answers : List Answer) (a : Answer) (entries made : List Held) → AllEntriesOf answers entries → EntriesOf a made → AllEntriesOf (answers ++ a ∷ []) (entries ++ made)
-AllEntriesOf-push [] a entries made of is = (made, [], is, refl, ap (λ (l : List Held). l ++ made) of ∙ sym (append-nil made))
-AllEntriesOf-push (first ∷ answers) a entries made of is = (
+AllTell-push : (answers : List Answer) (a : Answer) (entries made : List Entry) → AllTell answers entries → AnswerTells a made → AllTell (answers ++ a ∷ []) (entries ++ made)
+AllTell-push [] a entries made of is = (made, [], is, refl, ap (λ (l : List Entry). l ++ made) of ∙ sym (append-nil made))
+AllTell-push (first ∷ answers) a entries made of is = (
   of.0,
   of.1 ++ made,
   of.2,
-  AllEntriesOf-push answers a of.1 made of.3 is,
-  ap (λ (l : List Held). l ++ made) of.4 ∙ append_assoc of.0 of.1 made,
+  AllTell-push answers a of.1 made of.3 is,
+  ap (λ (l : List Entry). l ++ made) of.4 ∙ append_assoc of.0 of.1 made,
 )
 
 IsLegalBy-push : {D C : Type 0} (means : Means D C) (o s t : Stored D C) (answers : List Answer) (a : Answer) → IsLegalBy means o s answers
-    → ((entries : List Held) → StandsFor means.faults s entries → (made : List Held) × EntriesOf a made × StandsFor means.faults t (entries ++ made))
+    → ((entries : List Entry) → StandsFor means.told means.meaning means.faults s entries → (made : List Entry) × AnswerTells a made × StandsFor means.told means.meaning means.faults t (entries ++ made))
     → IsLegalBy means o t (answers ++ a ∷ [])
 IsLegalBy-push means o s t answers a legal history =
     let on = history (first_of means.faults o ++ legal.entries) legal.stands in
     record {
       entries = legal.entries ++ on.0;
-      of_answers = AllEntriesOf-push answers a legal.entries on.0 legal.of_answers on.1;
-      stands = subst (λ (l : List Held). StandsFor means.faults t l) (append_assoc (first_of means.faults o) legal.entries on.0) on.2;
+      of_answers = AllTell-push answers a legal.entries on.0 legal.of_answers on.1;
+      stands = subst (λ (l : List Entry). StandsFor means.told means.meaning means.faults t l) (append_assoc (first_of means.faults o) legal.entries on.0) on.2;
     }
 
 -- ---- doubts
@@ -190,11 +208,11 @@ Ran-none means s counts only settled kept = record {
   spelled = tt;
   asks = refl;
   read = ReadAll-nil (means.ticking s.clock);
-  history = AreSteps-none s.state;
-  legal = record { entries = []; of_answers = refl; stands = refl };
+  history = refl;
+  legal = record { entries = []; of_answers = refl; stands = first_stands means s };
   unmended = λ before rest client ask is. absurd (let sizes = ap length is in omega (arith, sizes, length-append before (Unmended client ask ∷ rest)));
   in_doubt = λ unsettled. absurd (unsettled settled);
-  on_disk = λ told. IsOnDisk-none s.state (means.meaning s.disk) s.seat counts only settled (kept told);
+  on_disk = λ told. IsOnDisk-none (reached_of means.faults s) (means.meaning s.disk) s.seat counts only settled (kept told);
   text_is = refl;
 }
 
@@ -216,30 +234,49 @@ Ran-skip means lines bytes o s answers text spelled ran = record {
 Ran-ask : {D C : Type 0} (means : Means D C) (lines : List (List ℕ)) (bytes label : List ℕ) (ask : Ask) (a : Answer) (o s t : Stored D C) (answers : List Answer) (text : List ℕ)
     → IsScriptLine bytes (line.Ask label ask) → Ran means lines o s answers text → Answers means s t ask a → Ran means (lines ++ bytes ∷ []) o t (answers ++ a ∷ []) (text ++ line_of (said_of a))
 Ran-ask means lines bytes label ask a o s t answers text spelled ran answer =
-    let history = AreSteps-goes o.state s.state t.state (flat_map steps_of answers) a ran.history answer.state in
+    let opened = reached_of means.faults o in
+    let faults = opened.faults in
+    let before = counted faults (reached_of means.faults s) in
+    let here = counted faults (reached_of means.faults t) in
+    let history : GoesOver opened (flat_map steps_of answers ++ steps_of a) here =
+    over_append opened before here (flat_map steps_of answers) (steps_of a) ran.history (answer_goes means faults s t a answer.history) in
     record {
       script = ran.script ++ line.Ask label ask ∷ [];
       spelled = AllZip-append IsScriptLine lines (bytes ∷ []) ran.script (line.Ask label ask ∷ []) ran.spelled (spelled, tt);
       asks = rw (map-append, ran.asks, asks_of-append) (ap (λ x. asks_of ran.script ++ x ∷ []) answer.asks);
       read = rw (flat_map-append readings_of answers (a ∷ []), append-nil (readings_of a))
           (ReadAll-append (means.ticking o.clock) (means.ticking s.clock) (means.ticking t.clock) (flat_map readings_of answers) (readings_of a) ran.read answer.read);
-      history = rw (steps_of-push answers a) history;
+      history = subst (λ (l : List Entry). GoesOver opened l here) (sym (steps_of-push answers a)) history;
       legal = IsLegalBy-push means o s t answers a ran.legal answer.history;
       unmended = unmended_push answers a s.seat t.seat ran.unmended ran.in_doubt answer.doubt;
       in_doubt = doubt_push answers a s.seat t.seat ran.in_doubt answer.doubt;
-      on_disk = λ told. IsOnDisk-more o.state s.state t.state answers (means.meaning o.disk) (means.meaning s.disk) (means.meaning t.disk) s.seat t.seat (ran.on_disk told) ran.history answer.time
+      on_disk = λ told. IsOnDisk-more opened before t.state answers (means.meaning o.disk) (means.meaning s.disk) (means.meaning t.disk) s.seat t.seat (ran.on_disk told) ran.history answer.time
           a (goes_state s.state t.state a answer.state) (answer.on_disk told);
       text_is = rw ran.text_is (sym (flat_map-append (λ x. line_of (said_of x)) answers (a ∷ []) ∙ ap (λ l. texts answers ++ l) (append-nil (line_of (said_of a)))));
     }
 
--- one more line was done
-pub Ran-does : {D C : Type 0} (means : Means D C) (lines : List (List ℕ)) (bytes : List ℕ) (said : ScriptLine) (o s t : Stored D C) (answers : List Answer) (text more : List ℕ)
-    → IsScriptLine bytes said → Ran means lines o s answers text → Does means s t said more → (after : List Answer) × Ran means (lines ++ bytes ∷ []) o t after (text ++ more)
-Ran-does means lines bytes line.Skip o s t answers text more spelled ran does =
-    (answers, rw (does.0, does.1, append-nil text) (Ran-skip means lines bytes o s answers text spelled ran))
-Ran-does means lines bytes (line.Ask label ask) o s t answers text more spelled ran does =
-    (answers ++ does.0 ∷ [], rw does.2 (Ran-ask means lines bytes label ask does.0 o s t answers text spelled ran does.1))
+-- one more line was done, which had one answer or none
+pub record OneMore {D C : Type 0} (means : Means D C) (lines : List (List ℕ)) (bytes : List ℕ) (opened here : Stored D C) (answers : List Answer) (text more : List ℕ) : Type 0 where
+  pub last : List Answer
+  pub one : length last ≤ 1
+  pub more_is : more ≡ texts last
+  pub ran : Ran means (lines ++ bytes ∷ []) opened here (answers ++ last) (text ++ more)
+
+Ran-does : {D C : Type 0} (means : Means D C) (lines : List (List ℕ)) (bytes : List ℕ) (said : ScriptLine) (o s t : Stored D C) (answers : List Answer) (text more : List ℕ)
+    → IsScriptLine bytes said → Ran means lines o s answers text → Does means s t said more → OneMore means lines bytes o t answers text more
+Ran-does means lines bytes line.Skip o s t answers text more spelled ran does = record {
+  last = [];
+  one = omega arith;
+  more_is = does.1;
+  ran = rw (does.0, does.1, append-nil text, append-nil answers) (Ran-skip means lines bytes o s answers text spelled ran);
+}
+Ran-does means lines bytes (line.Ask label ask) o s t answers text more spelled ran does = record {
+  last = does.0 ∷ [];
+  one = omega arith;
+  more_is = does.2 ∙ sym (append-nil (line_of (said_of does.0)));
+  ran = rw does.2 (Ran-ask means lines bytes label ask does.0 o s t answers text spelled ran does.1);
+}
 
 pub Ran-more : {D C : Type 0} (means : Means D C) (lines : List (List ℕ)) (bytes : List ℕ) (o s t : Stored D C) (answers : List Answer) (text more : List ℕ)
-    → Ran means lines o s answers text → Serves means s t bytes more → (after : List Answer) × Ran means (lines ++ bytes ∷ []) o t after (text ++ more)
+    → Ran means lines o s answers text → Serves means s t bytes more → OneMore means lines bytes o t answers text more
 Ran-more means lines bytes o s t answers text more ran serves = Ran-does means lines bytes serves.said o s t answers text more serves.spelled ran serves.does

@@ -12,45 +12,47 @@ use Rattle.au_io.specs.Disk.{Meaning, Passes}
 use Rattle.au_io.specs.Moments.{Leaves, LeavesSince, CountsNow, OnlyNow, both_calls, both_pass, no_call, weaker, weaker_since}
 use Rattle.au_journal.specs.declared.doubt.Doubt.TheVariants.{Settled}
 use Rattle.au_journal.specs.declared.seat.Seat.{Seat}
-use Rattle.au_engine.specs.History.{AreSteps, Entry}
 use Rattle.au_engine.specs.State.{State}
+use Rattle.au_store.specs.declared.entry.Entry.{Entry}
+use Rattle.au_store.specs.History.{GoesOver, Reached}
 use Rattle.au_store.specs.Recovery.{RecoversTo, RecoversToEither, ReplayedTo}
 use Rattle.au_store.specs.Standing.{Holds, IsInDoubt}
 use Rattle.au_store.specs.Doubts.{HasFrame, IsAfter, IsStoodOn}
 use Rattle.au_store.specs.Steps.{StepLeaves, event_at}
 use Rattle.au_store.specs.Stored.{IsKeptOn}
 use Rattle.au_main.specs.Answers.{Answer, AreUnmended, Made, Unmended, said_of, steps_of}
-use Rattle.au_main.specs.OnDisk.{IsTried, CameBy, RecoversAlong, IsUncertain, RecoversAfter, StandsFor, IsOnDisk, MakesOnDisk, StepsOnDisk}
+use Rattle.au_main.specs.OnDisk.{IsNextTried, CameBy, RecoversAlong, IsUncertain, RecoversAfter, RestsOn, IsOnDisk, MakesOnDisk, StepsOnDisk}
 
 -- ---- what a run came by
 
-IsTried-more : (m : State) (answers : List Answer) (a : Answer) (kept : Kept) → IsTried m answers kept → IsTried m (answers ++ a ∷ []) kept
-IsTried-more m [] a kept is = absurd is
-IsTried-more m (Made client ask reading said ∷ answers) a kept is = is
-IsTried-more m (Unmended client ask ∷ answers) a kept is = is
+IsNextTried-more : (m : State) (answers : List Answer) (a : Answer) (kept : Kept) → IsNextTried m answers kept → IsNextTried m (answers ++ a ∷ []) kept
+IsNextTried-more m [] a kept is = absurd is
+IsNextTried-more m (Made client ask reading said ∷ answers) a kept is = is
+IsNextTried-more m (Unmended client ask ∷ answers) a kept is = is
 
-CameBy-more : (m : State) (answers : List Answer) (a : Answer) (kept : Kept) → CameBy m answers kept → CameBy m (answers ++ a ∷ []) kept
-CameBy-more m answers a kept came = record {
+CameBy-more : (p : Reached) (answers : List Answer) (a : Answer) (kept : Kept) → CameBy p answers kept → CameBy p (answers ++ a ∷ []) kept
+CameBy-more p answers a kept came = record {
   before = came.before;
   rest = came.rest ++ a ∷ [];
   split = ap (λ (l : List Answer). l ++ a ∷ []) came.split ∙ append_assoc came.before came.rest (a ∷ []);
-  state = came.state;
+  here = came.here;
   reached = came.reached;
-  is = ⊎_elim (λ (same : kept ≡ came.state.kept). inl same) (λ (tried : IsTried came.state came.rest kept). inr (IsTried-more came.state came.rest a kept tried)) came.is;
+  is = ⊎_elim (λ (same : kept ≡ came.here.state.kept). inl same)
+      (λ (tried : IsNextTried came.here.state came.rest kept). inr (IsNextTried-more came.here.state came.rest a kept tried)) came.is;
 }
 
-RecoversAlong-more : (m : State) (answers : List Answer) (a : Answer) (all : Areas) → RecoversAlong m answers all → RecoversAlong m (answers ++ a ∷ []) all
-RecoversAlong-more m answers a all along = (along.0, CameBy-more m answers a along.0 along.1, along.2)
+RecoversAlong-more : (p : Reached) (answers : List Answer) (a : Answer) (all : Areas) → RecoversAlong p answers all → RecoversAlong p (answers ++ a ∷ []) all
+RecoversAlong-more p answers a all along = (along.0, CameBy-more p answers a along.0 along.1, along.2)
 
 -- what is kept before the last step
-CameBy-before : (m n : State) (answers rest : List Answer) → AreSteps m (flat_map steps_of answers) n → CameBy m (answers ++ rest) n.kept
-CameBy-before m n answers rest reached = record { before = answers; rest = rest; split = refl; state = n; reached = reached; is = inl refl }
+CameBy-before : (p here : Reached) (answers rest : List Answer) → GoesOver p (flat_map steps_of answers) here → CameBy p (answers ++ rest) here.state.kept
+CameBy-before p here answers rest reached = record { before = answers; rest = rest; split = refl; here = here; reached = reached; is = inl refl }
 
 -- and what is kept after its event
-CameBy-tried : (m n : State) (answers : List Answer) (client : ClientNo) (ask : Ask) (reading : ℕ) (said : Said) (kept : Kept) → AreSteps m (flat_map steps_of answers) n
-    → IsAfter n (event_at client ask reading) kept → CameBy m (answers ++ Made client ask reading said ∷ []) kept
-CameBy-tried m n answers client ask reading said kept reached is =
-    record { before = answers; rest = Made client ask reading said ∷ []; split = refl; state = n; reached = reached; is = inr is }
+CameBy-tried : (p here : Reached) (answers : List Answer) (client : ClientNo) (ask : Ask) (reading : ℕ) (said : Said) (kept : Kept) → GoesOver p (flat_map steps_of answers) here
+    → IsAfter here.state (event_at client ask reading) kept → CameBy p (answers ++ Made client ask reading said ∷ []) kept
+CameBy-tried p here answers client ask reading said kept reached is =
+    record { before = answers; rest = Made client ask reading said ∷ []; split = refl; here = here; reached = reached; is = inr is }
 
 -- ---- the step in doubt
 
@@ -84,8 +86,8 @@ IsUncertain-last m answers client ask reading kept has_frame is =
     record { before = answers; client = client; ask = ask; reading = reading; since = []; split = refl; unmended = tt; has_frame = has_frame; is_after = is }
 
 -- the run came by what is kept after the step in doubt
-CameBy-uncertain : (m n : State) (answers : List Answer) (kept : Kept) → AreSteps m (flat_map steps_of answers) n → IsUncertain n answers kept → CameBy m answers kept
-CameBy-uncertain m n answers kept reached un =
+CameBy-uncertain : (p here : Reached) (answers : List Answer) (kept : Kept) → GoesOver p (flat_map steps_of answers) here → IsUncertain here.state answers kept → CameBy p answers kept
+CameBy-uncertain p here answers kept reached un =
     let made = Made un.client un.ask un.reading Disk in
     let none : flat_map steps_of answers ≡ flat_map steps_of un.before =
     ap (λ (l : List Answer). flat_map steps_of l) un.split ∙ flat_map-append steps_of un.before (made ∷ un.since)
@@ -94,8 +96,8 @@ CameBy-uncertain m n answers kept reached un =
       before = un.before;
       rest = made ∷ un.since;
       split = un.split;
-      state = n;
-      reached = subst (λ (l : List Entry). AreSteps m l n) none reached;
+      here = here;
+      reached = subst (λ (l : List Entry). GoesOver p l here) none reached;
       is = inr un.is_after;
     }
 
@@ -111,80 +113,80 @@ passes_none m counts only = record {
 }
 
 -- nothing was done yet
-pub IsOnDisk-none : (m : State) (meaning : Meaning) (seat : Seat) → CountsNow meaning → OnlyNow meaning → seat.doubt ≡ Settled → IsKeptOn m.kept meaning seat → IsOnDisk m m [] meaning meaning seat
-IsOnDisk-none m meaning seat counts only settled kept = record {
+pub IsOnDisk-none : (p : Reached) (meaning : Meaning) (seat : Seat) → CountsNow meaning → OnlyNow meaning → seat.doubt ≡ Settled → IsKeptOn p.state.kept meaning seat
+    → IsOnDisk p p.state [] meaning meaning seat
+IsOnDisk-none p meaning seat counts only settled kept = record {
   time = passes_none meaning counts only;
-  any_moment = no_call (RecoversAlong m []) meaning only
-      (weaker (RecoversTo m.kept) (RecoversAlong m []) meaning
-      (λ c recovers. (m.kept, CameBy-before m m [] [] (record { events = []; replies = []; run = refl; told = refl }), recovers)) kept.leaves);
-  stands = record { doubted = m.kept; stood = inl (settled, kept); which = inl refl };
+  any_moment = no_call (RecoversAlong p []) meaning only
+      (weaker (RecoversTo p.state.kept) (RecoversAlong p []) meaning (λ c recovers. (p.state.kept, CameBy-before p p [] [] refl, recovers)) kept.leaves);
+  stands = record { doubted = p.state.kept; stood = inl (settled, kept); which = inl refl };
 }
 
-module _ (m n o : State) (answers : List Answer) (first old new : Meaning) (before after : Seat) (disk : IsOnDisk m n answers first old before)
-    (reached : AreSteps m (flat_map steps_of answers) n) (time : Passes old new) where
+module _ (p here : Reached) (o : State) (answers : List Answer) (first old new : Meaning) (before after : Seat) (disk : IsOnDisk p here.state answers first old before)
+    (reached : GoesOver p (flat_map steps_of answers) here) (time : Passes old new) where
   -- what may be in doubt is something that the run came by
-  doubt_came : (a : Answer) → CameBy m (answers ++ a ∷ []) disk.stands.doubted
+  doubt_came : (a : Answer) → CameBy p (answers ++ a ∷ []) disk.stands.doubted
   doubt_came a = ⊎_elim
-      (λ (same : disk.stands.doubted ≡ n.kept). subst (λ (k : Kept). CameBy m (answers ++ a ∷ []) k) (sym same) (CameBy-before m n answers (a ∷ []) reached))
-      (λ (un : IsUncertain n answers disk.stands.doubted). CameBy-more m answers a disk.stands.doubted (CameBy-uncertain m n answers disk.stands.doubted reached un))
+      (λ (same : disk.stands.doubted ≡ here.state.kept). subst (λ (k : Kept). CameBy p (answers ++ a ∷ []) k) (sym same) (CameBy-before p here answers (a ∷ []) reached))
+      (λ (un : IsUncertain here.state answers disk.stands.doubted). CameBy-more p answers a disk.stands.doubted (CameBy-uncertain p here answers disk.stands.doubted reached un))
       disk.stands.which
 
   -- what was in doubt still is, or nothing was
-  doubt_stays : (client : ClientNo) (ask : Ask) → o ≡ n → IsStoodOn n.kept disk.stands.doubted new after → StandsFor o (answers ++ Unmended client ask ∷ []) new after
-  doubt_stays client ask same stood = subst (λ (s : State). StandsFor s (answers ++ Unmended client ask ∷ []) new after) (sym same) (record {
+  doubt_stays : (client : ClientNo) (ask : Ask) → o ≡ here.state → IsStoodOn here.state.kept disk.stands.doubted new after → RestsOn o (answers ++ Unmended client ask ∷ []) new after
+  doubt_stays client ask same stood = subst (λ (s : State). RestsOn s (answers ++ Unmended client ask ∷ []) new after) (sym same) (record {
     doubted = disk.stands.doubted;
     stood = stood;
     which = ⊎_elim
-        (λ (same : disk.stands.doubted ≡ n.kept). inl same)
-        (λ (un : IsUncertain n answers disk.stands.doubted). inr (IsUncertain-more n answers client ask disk.stands.doubted un))
+        (λ (same : disk.stands.doubted ≡ here.state.kept). inl same)
+        (λ (un : IsUncertain here.state answers disk.stands.doubted). inr (IsUncertain-more here.state answers client ask disk.stands.doubted un))
         disk.stands.which;
   })
 
   -- this step is in doubt
-  doubt_comes : (client : ClientNo) (ask : Ask) (reading : ℕ) (kept : Kept) → o ≡ n → HasFrame n (event_at client ask reading) → IsAfter n (event_at client ask reading) kept → IsStoodOn n.kept kept new after
-      → StandsFor o (answers ++ Made client ask reading Disk ∷ []) new after
-  doubt_comes client ask reading kept same has_frame is stood = subst (λ (s : State). StandsFor s (answers ++ Made client ask reading Disk ∷ []) new after) (sym same)
-      (record { doubted = kept; stood = stood; which = inr (IsUncertain-last n answers client ask reading kept has_frame is) })
+  doubt_comes : (client : ClientNo) (ask : Ask) (reading : ℕ) (kept : Kept) → o ≡ here.state → HasFrame here.state (event_at client ask reading) → IsAfter here.state (event_at client ask reading) kept → IsStoodOn here.state.kept kept new after
+      → RestsOn o (answers ++ Made client ask reading Disk ∷ []) new after
+  doubt_comes client ask reading kept same has_frame is stood = subst (λ (s : State). RestsOn s (answers ++ Made client ask reading Disk ∷ []) new after) (sym same)
+      (record { doubted = kept; stood = stood; which = inr (IsUncertain-last here.state answers client ask reading kept has_frame is) })
 
   -- all the moments
-  moments : (a : Answer) → LeavesSince (RecoversAlong m (answers ++ a ∷ [])) old new → LeavesSince (RecoversAlong m (answers ++ a ∷ [])) first new
-  moments a then = both_calls (RecoversAlong m (answers ++ a ∷ [])) first old new disk.time time
-      (weaker_since (RecoversAlong m answers) (RecoversAlong m (answers ++ a ∷ [])) first old (RecoversAlong-more m answers a) disk.any_moment) then
+  moments : (a : Answer) → LeavesSince (RecoversAlong p (answers ++ a ∷ [])) old new → LeavesSince (RecoversAlong p (answers ++ a ∷ [])) first new
+  moments a then = both_calls (RecoversAlong p (answers ++ a ∷ [])) first old new disk.time time
+      (weaker_since (RecoversAlong p answers) (RecoversAlong p (answers ++ a ∷ [])) first old (RecoversAlong-more p answers a) disk.any_moment) then
 
-  made_moments : (client : ClientNo) (ask : Ask) (reading : ℕ) (said : Said) → LeavesSince (StepLeaves n (event_at client ask reading) disk.stands.doubted) old new
-      → LeavesSince (RecoversAlong m (answers ++ Made client ask reading said ∷ [])) old new
+  made_moments : (client : ClientNo) (ask : Ask) (reading : ℕ) (said : Said) → LeavesSince (StepLeaves here.state (event_at client ask reading) disk.stands.doubted) old new
+      → LeavesSince (RecoversAlong p (answers ++ Made client ask reading said ∷ [])) old new
   made_moments client ask reading said leaves =
       let a = Made client ask reading said in
-      weaker_since (StepLeaves n (event_at client ask reading) disk.stands.doubted) (RecoversAlong m (answers ++ a ∷ [])) old new
+      weaker_since (StepLeaves here.state (event_at client ask reading) disk.stands.doubted) (RecoversAlong p (answers ++ a ∷ [])) old new
       (λ c leaves. ⊎_elim
-      (λ (kept : RecoversTo n.kept c). (n.kept, CameBy-before m n answers (a ∷ []) reached, kept))
-      (λ (rest : RecoversTo disk.stands.doubted c ⊎ ((kept : Kept) × IsAfter n (event_at client ask reading) kept × RecoversTo kept c)). ⊎_elim
+      (λ (kept : RecoversTo here.state.kept c). (here.state.kept, CameBy-before p here answers (a ∷ []) reached, kept))
+      (λ (rest : RecoversTo disk.stands.doubted c ⊎ ((kept : Kept) × IsAfter here.state (event_at client ask reading) kept × RecoversTo kept c)). ⊎_elim
       (λ (doubted : RecoversTo disk.stands.doubted c). (disk.stands.doubted, doubt_came a, doubted))
-      (λ (next : (kept : Kept) × IsAfter n (event_at client ask reading) kept × RecoversTo kept c). (next.0, CameBy-tried m n answers client ask reading said next.0 reached next.1, next.2))
+      (λ (next : (kept : Kept) × IsAfter here.state (event_at client ask reading) kept × RecoversTo kept c). (next.0, CameBy-tried p here answers client ask reading said next.0 reached next.1, next.2))
       rest)
       leaves)
       leaves
 
-  unmended_moments : (a : Answer) → LeavesSince (RecoversToEither n.kept disk.stands.doubted) old new → LeavesSince (RecoversAlong m (answers ++ a ∷ [])) old new
+  unmended_moments : (a : Answer) → LeavesSince (RecoversToEither here.state.kept disk.stands.doubted) old new → LeavesSince (RecoversAlong p (answers ++ a ∷ [])) old new
   unmended_moments a leaves =
-      weaker_since (RecoversToEither n.kept disk.stands.doubted) (RecoversAlong m (answers ++ a ∷ [])) old new
+      weaker_since (RecoversToEither here.state.kept disk.stands.doubted) (RecoversAlong p (answers ++ a ∷ [])) old new
       (λ c leaves. ⊎_elim
-      (λ (kept : RecoversTo n.kept c). (n.kept, CameBy-before m n answers (a ∷ []) reached, kept))
+      (λ (kept : RecoversTo here.state.kept c). (here.state.kept, CameBy-before p here answers (a ∷ []) reached, kept))
       (λ (doubted : RecoversTo disk.stands.doubted c). (disk.stands.doubted, doubt_came a, doubted))
       leaves)
       leaves
 
   -- the step was made, or the disk didn't fail
-  no_fault : (client : ClientNo) (ask : Ask) (reading : ℕ) (said : Said) → said ≢ Disk → MakesOnDisk n o (event_at client ask reading) said old new before after
-      → IsOnDisk m o (answers ++ Made client ask reading said ∷ []) first new after
+  no_fault : (client : ClientNo) (ask : Ask) (reading : ℕ) (said : Said) → said ≢ Disk → MakesOnDisk here.state o (event_at client ask reading) said old new before after
+      → IsOnDisk p o (answers ++ Made client ask reading said ∷ []) first new after
   no_fault client ask reading said well makes = record {
     time = both_pass first old new disk.time time;
     any_moment = moments (Made client ask reading said) (made_moments client ask reading said (makes.any_moment disk.stands.doubted disk.stands.stood));
     stands = record { doubted = o.kept; stood = inl (makes.settled well, makes.kept well); which = inl refl };
   }
 
-  a_fault : (client : ClientNo) (ask : Ask) (reading : ℕ) → o ≡ n → MakesOnDisk n o (event_at client ask reading) Disk old new before after
-      → IsOnDisk m o (answers ++ Made client ask reading Disk ∷ []) first new after
+  a_fault : (client : ClientNo) (ask : Ask) (reading : ℕ) → o ≡ here.state → MakesOnDisk here.state o (event_at client ask reading) Disk old new before after
+      → IsOnDisk p o (answers ++ Made client ask reading Disk ∷ []) first new after
   a_fault client ask reading same makes = record {
     time = both_pass first old new disk.time time;
     any_moment = moments (Made client ask reading Disk) (made_moments client ask reading Disk (makes.any_moment disk.stands.doubted disk.stands.stood));
@@ -192,7 +194,7 @@ module _ (m n o : State) (answers : List Answer) (first old new : Meaning) (befo
   }
 
   -- one step more
-  pub IsOnDisk-more : (a : Answer) → (said_of a ≡ Disk → o ≡ n) → StepsOnDisk n o a old new before after → IsOnDisk m o (answers ++ a ∷ []) first new after
+  pub IsOnDisk-more : (a : Answer) → (said_of a ≡ Disk → o ≡ here.state) → StepsOnDisk here.state o a old new before after → IsOnDisk p o (answers ++ a ∷ []) first new after
   IsOnDisk-more (Made client ask reading (Replied reply)) same steps = no_fault client ask reading (Replied reply) (λ is. let no : Replied reply ≡ Disk = is in cc) steps
   IsOnDisk-more (Made client ask reading Disk) same steps = a_fault client ask reading (same refl) steps
   IsOnDisk-more (Made client ask reading (Full needed limit)) same steps = no_fault client ask reading (Full needed limit) (λ is. let no : Full needed limit ≡ Disk = is in cc) steps
@@ -204,8 +206,8 @@ module _ (m n o : State) (answers : List Answer) (first old new : Meaning) (befo
   }
 
 -- at the last moment
-pub after_all : (m n : State) (answers : List Answer) (old new : Meaning) (seat : Seat) → IsOnDisk m n answers old new seat → Leaves (RecoversAfter n answers) new
-after_all m n answers old new seat disk c image =
+pub after_all : (p : Reached) (n : State) (answers : List Answer) (old new : Meaning) (seat : Seat) → IsOnDisk p n answers old new seat → Leaves (RecoversAfter n answers) new
+after_all p n answers old new seat disk c image =
     let stands = disk.stands in
     ⊎_elim
     (λ (kept : (seat.doubt ≡ Settled) × IsKeptOn n.kept new seat). inl (kept.1.leaves c image))

@@ -4,7 +4,7 @@ use Rattle.std.specs.Prelude.{Option}
 use Rattle.au_io.specs.Disk.{Meaning, Passes}
 use Rattle.au_io.specs.Moments.{LeavesSince, both_calls, weaker_since}
 use Rattle.au_io.specs.Time.{Reads}
-use Rattle.au_engine.specs.State.{State}
+use Rattle.au_store.specs.History.{Reached, reached_of}
 use Rattle.au_store.specs.Starting.{IsOpened, IsSeated, NoneIsBare, OpenLeaves}
 use Rattle.au_store.specs.Stored.{Stored}
 use Rattle.au_main.specs.declared.status.Status.{Status}
@@ -17,7 +17,7 @@ use Rattle.au_main.proofs.OnDisk.{after_all}
 
 module _ {D C : Type 0} (means : Means D C) (left now : Option (List ℕ)) (o m : Stored D C) (answers : List Answer) (g h : Option (List ℕ)) where
   -- what the run did on the disk, at any end
-  on_disk_of : (status : Status) → RanTo means status left now o m answers g h → means.told → IsOnDisk o.state m.state answers (means.meaning o.disk) (means.meaning m.disk) m.seat
+  on_disk_of : (status : Status) → RanTo means status left now o m answers g h → means.told → IsOnDisk (reached_of means.faults o) m.state answers (means.meaning o.disk) (means.meaning m.disk) m.seat
   on_disk_of Done ran = ran.ran.on_disk
   on_disk_of (BadLine n) ran = ran.ran.on_disk
   on_disk_of ReadFault ran = ran.ran.on_disk
@@ -33,7 +33,7 @@ module _ {D C : Type 0} (means : Means D C) (left now : Option (List ℕ)) (o m 
   on_disk_of Worn ran = absurd ran
 
 -- the moments of the opening, and then those of the steps
-moments_of : (reading : ℕ) (o : State) (answers : List Answer) (old mid new : Meaning) → Passes old mid → Passes mid new
+moments_of : (reading : ℕ) (o : Reached) (answers : List Answer) (old mid new : Meaning) → Passes old mid → Passes mid new
     → LeavesSince (OpenLeaves old reading) old mid → LeavesSince (RecoversAlong o answers) mid new → LeavesSince (RunLeaves old reading o answers) old new
 moments_of reading o answers old mid new before after opens runs =
     both_calls (RunLeaves old reading o answers) old mid new before after
@@ -64,6 +64,6 @@ has_run means status left now disk last clock clocked g h o m begins seated read
       disk_is = sym disk_is;
       clock_is = sym clock_is;
       any_moment = λ told gated. rw disk_is
-          (moments_of o.reading o.state ran.0 (means.meaning disk) (means.meaning o.disk) (means.meaning m.disk) time (on_disk told).time (opens told gated) (on_disk told).any_moment);
-      at_last = λ told. rw disk_is (after_all o.state m.state ran.0 (means.meaning o.disk) (means.meaning m.disk) m.seat (on_disk told));
+          (moments_of o.reading (reached_of means.faults o) ran.0 (means.meaning disk) (means.meaning o.disk) (means.meaning m.disk) time (on_disk told).time (opens told gated) (on_disk told).any_moment);
+      at_last = λ told. rw disk_is (after_all (reached_of means.faults o) m.state ran.0 (means.meaning o.disk) (means.meaning m.disk) m.seat (on_disk told));
     }

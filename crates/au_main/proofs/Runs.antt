@@ -12,12 +12,12 @@ use Rattle.std.proofs.lemmas.List.Concat.{flat_map-append}
 use Rattle.au_io.specs.Moments.{CountsNow, OnlyNow}
 use Rattle.au_journal.specs.declared.doubt.Doubt.TheVariants.{Settled}
 use Rattle.au_store.specs.Stored.{Stored, IsKeptOn}
-use Rattle.au_main.specs.Answers.{Answer}
+use Rattle.au_main.specs.Answers.{Answer, texts}
 use Rattle.au_main.specs.Built.{IsNoScriptLine}
-use Rattle.au_main.specs.Given.{AppendsFront}
-use Rattle.au_main.specs.Lines.{AreLines, BeginsWithLines, HasNoEnd, LF, ended, last_line, with_end}
+use Rattle.au_main.specs.Given.{AppendsBehind, AppendsFront}
+use Rattle.au_main.specs.Lines.{AreLines, BeginsWithLines, HasNoEnd, LF, TakenLines, TakenOf, ended, last_line, with_end}
 use Rattle.au_main.specs.Means.{Means}
-use Rattle.au_main.specs.NextLine.{NextLine}
+use Rattle.au_main.specs.NextLine.{NextLine, Takes}
 use Rattle.au_script.specs.Lines.{IsContent, carriage_return, line_limit}
 use Rattle.au_main.specs.declared.status.Status.{Status}
 use Rattle.au_main.specs.declared.status.Status.TheVariants.{Done, Usage, ReadFault, WriteFault, DiskFault, Unformatted, Formatted, Damaged, BadLine, TooLong, LobbyFault, Memory, Worn}
@@ -138,18 +138,18 @@ last_line-some : (bytes : List ℕ) → 0 < length bytes → last_line bytes ≡
 last_line-some [] some = absurd (omega arith)
 last_line-some (b ∷ bytes) some = refl
 
--- the lines stand at the front of what was there
-begins-before : (lines : List (List ℕ)) (got rest : List ℕ) (a b : Option (List ℕ)) → got ≡ ended lines ++ rest → Consumes a b got → IfSome a (BeginsWithLines lines)
-begins-before lines got rest None b joined h = tt
-begins-before lines got rest (Some xs) None joined h = absurd h
-begins-before lines got rest (Some xs) (Some ys) joined h = inl (rest ++ ys, h ∙ ap (λ l. l ++ ys) joined ∙ append_assoc (ended lines) rest ys)
+-- a front of more bytes was given behind others
+behind : (g h i : Option (List ℕ)) (text first more bytes : List ℕ) → text ≡ first → more ≡ bytes → Appends g h text → AppendsFront h i more → AppendsBehind g i first bytes
+behind g h i text first more bytes same is given front = (
+  front.0,
+  front.1,
+  sym is ∙ front.2,
+  subst (λ (t : List ℕ). Appends g i (t ++ front.0)) same (Appends-trans g h i text front.0 given front.3),
+)
 
-front_of : (g h i : Option (List ℕ)) (text more : List ℕ) → Appends g h text → AppendsFront h i more → AppendsFront g i (text ++ more)
-front_of g h i text more first second =
-    (text ++ second.0, second.1, ap (λ l. text ++ l) second.2 ∙ sym (append_assoc text second.0 second.1), Appends-trans g h i text second.0 first second.3)
-
-whole_front : (g h : Option (List ℕ)) (text : List ℕ) → Appends g h text → AppendsFront g h text
-whole_front g h text given = (text, [], sym (append-nil text), given)
+-- nothing more was given
+behind_none : (g h : Option (List ℕ)) (text first : List ℕ) → text ≡ first → Appends g h text → AppendsBehind g h first []
+behind_none g h text first same given = ([], [], refl, subst (λ (t : List ℕ). Appends g h t) (same ∙ sym (append-nil first)) given)
 
 module _ {D C : Type 0} (means : Means D C) where
   -- how a run ended, with its answers
@@ -164,18 +164,25 @@ module _ {D C : Type 0} (means : Means D C) where
     taken_next : (c : Option (List ℕ)) (got : List ℕ) → Consumes b c got → Consumes a c (ended so_far.lines ++ (p.bytes ++ got))
     taken_next c got more = rw (sym (ap (λ l. l ++ got) so_far.joined ∙ append_assoc (ended so_far.lines) p.bytes got)) (Consumes-trans a b c so_far.got got so_far.taken more)
 
-    pub RanToFront-before : RanToFront means a o m so_far.answers g h
-    RanToFront-before = record {
+    -- the lines so far were done, and more was taken since
+    RanToFront-before : (c : Option (List ℕ)) (more : List ℕ) → Consumes b c more → RanToFront means a c o m so_far.answers g h
+    RanToFront-before c more then = record {
       lines = so_far.lines;
+      got = so_far.got ++ more;
       text = so_far.text;
+      told = so_far.answers;
+      last = [];
       whole = so_far.whole;
-      stands = begins-before so_far.lines so_far.got p.bytes a b so_far.joined so_far.taken;
+      taken = Consumes-trans a b c so_far.got more so_far.taken then;
+      begins = inl (p.bytes ++ more, ap (λ l. l ++ more) so_far.joined ∙ append_assoc (ended so_far.lines) p.bytes more);
       ran = so_far.ran;
-      given_front = whole_front g h so_far.text so_far.given_all;
+      split = sym (append-nil so_far.answers);
+      one = omega arith;
+      given_front = behind_none g h so_far.text (texts so_far.answers) so_far.ran.text_is so_far.given_all;
     }
 
-    pub no_memory_before : (c : Option (List ℕ)) → Ended-so Memory a c o m g h
-    no_memory_before c = (so_far.answers, RanToFront-before)
+    pub no_memory_before : (c : Option (List ℕ)) → Takes b c → Ended-so Memory a c o m g h
+    no_memory_before c took = (so_far.answers, RanToFront-before c took.0 took.1)
 
     module _ (q : Stretch) (c : Option (List ℕ)) where
       pub RanToFault-at : NextLine p q b c Failed → Ended-so ReadFault a c o m g h
@@ -226,14 +233,18 @@ module _ {D C : Type 0} (means : Means D C) where
       )
 
       module _ (number : ℕ) (counted : number ≡ count + 1) where
-        RanToBadLine-line : (line : List ℕ) → HasNoEnd line → IfSome a (BeginsWithLines (so_far.lines ++ line ∷ [])) → IsNoScriptLine line → RanToBadLine means number a o m so_far.answers g h
-        RanToBadLine-line line whole stands nothing = record {
+        RanToBadLine-line : (line got : List ℕ) → HasNoEnd line → IfSome a (BeginsWithLines (so_far.lines ++ line ∷ [])) → Consumes a c (ended so_far.lines ++ got) → TakenOf line got c
+            → IsNoScriptLine line → RanToBadLine means number a c o m so_far.answers g h
+        RanToBadLine-line line got whole stands taken of_bad nothing = record {
           lines = so_far.lines;
           bad = line;
+          got = got;
           text = so_far.text;
           number = counted ∙ ap (λ k. k + 1) (sym so_far.number);
           whole = AreLines-push so_far.lines line so_far.whole whole;
           stands = stands;
+          taken = taken;
+          of_bad = of_bad;
           says_nothing = nothing;
           ran = so_far.ran;
           given_all = so_far.given_all;
@@ -242,40 +253,55 @@ module _ {D C : Type 0} (means : Means D C) where
         pub RanToBadLine-overlong : NextLine p q b c Overlong → Ended-so (BadLine number) a c o m g h
         RanToBadLine-overlong line =
             let begun = p.bytes ++ line.got in
-            let whole = completed so_far.lines begun a c (taken_next c line.got line.taken) line.next.0 in
-            (so_far.answers, RanToBadLine-line (begun ++ whole.more) whole.whole whole.stands (too_long (begun ++ whole.more) (omega (arith, line.next.1, length-append begun whole.more))))
+            let taken = taken_next c line.got line.taken in
+            let whole = completed so_far.lines begun a c taken line.next.0 in (
+              so_far.answers,
+              RanToBadLine-line (begun ++ whole.more) begun whole.whole whole.stands taken (inr (inr (whole.more, refl, line.next.1)))
+                  (too_long (begun ++ whole.more) (omega (arith, line.next.1, length-append begun whole.more))),
+            )
 
       -- behind another line
-      module _ (n : Stored D C) (i : Option (List ℕ)) (line : List ℕ) (whole : HasNoEnd line) (stands : IfSome a (BeginsWithLines (so_far.lines ++ line ∷ []))) where
-        in_part : ServedInPart means m n line h i → (answers : List Answer) × RanToFront means a o n answers g i
-        in_part served =
+      module _ (n : Stored D C) (i : Option (List ℕ)) (line more : List ℕ) (whole : HasNoEnd line) (then : Consumes b c more) where
+        in_part : TakenLines (so_far.lines ++ line ∷ []) (so_far.got ++ more) c → ServedInPart means m n line h i → (answers : List Answer) × RanToFront means a c o n answers g i
+        in_part begins served =
             let ran = Ran-more means so_far.lines line o m n so_far.answers so_far.text served.text so_far.ran served.serves in (
-              ran.0,
+              so_far.answers ++ ran.last,
               record {
                 lines = so_far.lines ++ line ∷ [];
+                got = so_far.got ++ more;
                 text = so_far.text ++ served.text;
+                told = so_far.answers;
+                last = ran.last;
                 whole = AreLines-push so_far.lines line so_far.whole whole;
-                stands = stands;
-                ran = ran.1;
-                given_front = front_of g h i so_far.text served.text so_far.given_all served.given_front;
+                taken = Consumes-trans a b c so_far.got more so_far.taken then;
+                begins = begins;
+                ran = ran.ran;
+                split = refl;
+                one = ran.one;
+                given_front = behind g h i so_far.text (texts so_far.answers) served.text (texts ran.last) so_far.ran.text_is ran.more_is so_far.given_all served.given_front;
               },
             )
 
         -- nothing was done since
         stayed : Stays m n h i → Ended-so Memory a c o n g i
-        stayed stays = rw (stays.0, stays.1) (no_memory_before c)
+        stayed stays = rw (stays.0, stays.1) (so_far.answers, RanToFront-before c more then)
 
-        no_memory : FoundNoMemory means m n line h i → Ended-so Memory a c o n g i
-        no_memory (inl stays) = stayed stays
-        no_memory (inr served) = in_part served
+        no_memory : TakenLines (so_far.lines ++ line ∷ []) (so_far.got ++ more) c → FoundNoMemory means m n line h i → Ended-so Memory a c o n g i
+        no_memory begins (inl stays) = stayed stays
+        no_memory begins (inr served) = in_part begins served
 
-        bad_line : (number : ℕ) → number ≡ count + 1 → IsNoScriptLine line → Stays m n h i → Ended-so (BadLine number) a c o n g i
-        bad_line number counted nothing stays = rw (stays.0, stays.1) (so_far.answers, RanToBadLine-line number counted line whole stands nothing)
+        bad_line : (number : ℕ) (got : List ℕ) → number ≡ count + 1 → IfSome a (BeginsWithLines (so_far.lines ++ line ∷ [])) → Consumes a c (ended so_far.lines ++ got) → TakenOf line got c
+            → IsNoScriptLine line → Stays m n h i → Ended-so (BadLine number) a c o n g i
+        bad_line number got counted stands taken of_bad nothing stays =
+            rw (stays.0, stays.1) (so_far.answers, RanToBadLine-line number counted line got whole stands taken of_bad nothing)
 
       -- a line with its end
       module _ (n : Stored D C) (i : Option (List ℕ)) (v : Vec ℕ Global) (line : NextLine p q b c (Ended v)) where
-        stands_ended : IfSome a (BeginsWithLines (so_far.lines ++ v.items ∷ []))
-        stands_ended = begins-ended so_far.lines v.items q.bytes a c (subst (λ l. Consumes a c (ended so_far.lines ++ l)) line.next.1 (taken_next c line.got line.taken))
+        taken_ended : Consumes a c (ended so_far.lines ++ (v.items ++ LF ∷ q.bytes))
+        taken_ended = subst (λ l. Consumes a c (ended so_far.lines ++ l)) line.next.1 (taken_next c line.got line.taken)
+
+        joined_ended : so_far.got ++ line.got ≡ ended (so_far.lines ++ v.items ∷ []) ++ q.bytes
+        joined_ended = ap (λ l. l ++ line.got) so_far.joined ∙ append_assoc (ended so_far.lines) p.bytes line.got ∙ ap (λ l. ended so_far.lines ++ l) line.next.1 ∙ ended-next so_far.lines v.items q.bytes
 
         pub RanSoFar-more : (next : ℕ) → next ≡ count + 1 → Served means m n v.items h i → RanSoFar means next o n q a c g i
         RanSoFar-more next counted served =
@@ -287,21 +313,22 @@ module _ {D C : Type 0} (means : Means D C) where
               whole = AreLines-push so_far.lines v.items so_far.whole line.next.0;
               number = length_push so_far.lines v.items ∙ ap (λ k. k + 1) so_far.number ∙ sym counted;
               taken = Consumes-trans a b c so_far.got line.got so_far.taken line.taken;
-              joined = ap (λ l. l ++ line.got) so_far.joined ∙ append_assoc (ended so_far.lines) p.bytes line.got ∙ ap (λ l. ended so_far.lines ++ l) line.next.1 ∙ ended-next so_far.lines v.items q.bytes;
+              joined = joined_ended;
               size = omega (arith, line.next.2, so_far.size, length-append so_far.got line.got);
-              answers = ran.0;
-              ran = ran.1;
+              answers = so_far.answers ++ ran.last;
+              ran = ran.ran;
               given_all = Appends-trans g h i so_far.text served.text so_far.given_all served.given_all;
             }
 
         pub RanToFront-ended : ServedInPart means m n v.items h i → Ended-so WriteFault a c o n g i
-        RanToFront-ended served = in_part n i v.items line.next.0 stands_ended served
+        RanToFront-ended served = in_part n i v.items line.got line.next.0 line.taken (inl (q.bytes, joined_ended)) served
 
         pub RanToFront-no_memory : FoundNoMemory means m n v.items h i → Ended-so Memory a c o n g i
-        RanToFront-no_memory found = no_memory n i v.items line.next.0 stands_ended found
+        RanToFront-no_memory found = no_memory n i v.items line.got line.next.0 line.taken (inl (q.bytes, joined_ended)) found
 
         pub RanToBadLine-ended : (number : ℕ) → number ≡ count + 1 → IsNoScriptLine v.items → Stays m n h i → Ended-so (BadLine number) a c o n g i
-        RanToBadLine-ended number counted nothing stays = bad_line n i v.items line.next.0 stands_ended number counted nothing stays
+        RanToBadLine-ended number counted nothing stays =
+            bad_line n i v.items line.got line.next.0 line.taken number (v.items ++ LF ∷ q.bytes) counted (begins-ended so_far.lines v.items q.bytes a c taken_ended) taken_ended (inl (q.bytes, refl)) nothing stays
 
       -- the last line
       module _ (n : Stored D C) (i : Option (List ℕ)) (v : Vec ℕ Global) (line : NextLine p q b c (Last v)) where
@@ -311,10 +338,17 @@ module _ {D C : Type 0} (means : Means D C) where
         stands_last : IfSome a (BeginsWithLines (so_far.lines ++ v.items ∷ []))
         stands_last = begins-last so_far.lines v.items a c taken_last line.next.2
 
+        begins_last : TakenLines (so_far.lines ++ v.items ∷ []) (so_far.got ++ line.got) c
+        begins_last = inr (
+          ap with_end (ap (λ l. l ++ line.got) so_far.joined ∙ append_assoc (ended so_far.lines) p.bytes line.got ∙ ap (λ l. ended so_far.lines ++ l) line.next.1)
+              ∙ append_assoc (ended so_far.lines) v.items (LF ∷ []) ∙ sym (ended-push so_far.lines v.items),
+          line.next.2,
+        )
+
         RanToEnd-last : Served means m n v.items h i → Ended-so Done a c o n g i
         RanToEnd-last served =
             let ran = Ran-more means so_far.lines v.items o m n so_far.answers so_far.text served.text so_far.ran served.serves in (
-              ran.0,
+              so_far.answers ++ ran.last,
               record {
                 lines = so_far.lines;
                 rest = v.items;
@@ -322,7 +356,7 @@ module _ {D C : Type 0} (means : Means D C) where
                 whole = AreLines-push so_far.lines v.items so_far.whole line.next.0;
                 taken = taken_last;
                 at_end = line.next.2;
-                ran = rw (last_line-some v.items line.next.3) ran.1;
+                ran = rw (last_line-some v.items line.next.3) ran.ran;
                 given_all = Appends-trans g h i so_far.text served.text so_far.given_all served.given_all;
               },
             )
@@ -331,9 +365,9 @@ module _ {D C : Type 0} (means : Means D C) where
         pub RanTo-last : (number : ℕ) → number ≡ count + 1 → (status : Status) → EndsLast means number status m n v.items h i → Ended-so status a c o n g i
         RanTo-last number counted Done served = RanToEnd-last served
         RanTo-last number counted (BadLine k) bad =
-            rw bad.0 (bad_line n i v.items line.next.0 stands_last number counted bad.1 bad.2)
-        RanTo-last number counted WriteFault served = in_part n i v.items line.next.0 stands_last served
-        RanTo-last number counted Memory found = no_memory n i v.items line.next.0 stands_last found
+            rw bad.0 (bad_line n i v.items line.got line.next.0 line.taken number v.items counted stands_last taken_last (inr (inl (refl, line.next.2))) bad.1 bad.2)
+        RanTo-last number counted WriteFault served = in_part n i v.items line.got line.next.0 line.taken begins_last served
+        RanTo-last number counted Memory found = no_memory n i v.items line.got line.next.0 line.taken begins_last found
         RanTo-last number counted ReadFault h = absurd h
         RanTo-last number counted TooLong h = absurd h
         RanTo-last number counted Usage h = absurd h
@@ -365,4 +399,4 @@ module _ {D C : Type 0} (means : Means D C) where
       → s.seat.doubt ≡ Settled → (means.told → IsKeptOn s.state.kept (means.meaning s.disk) s.seat) → Ended-so Memory a a s s g g
   RanToFront-opened s a g counts only settled kept =
       let nothing : Stretch = record { bytes = []; taken = 0 } in
-      no_memory_before 0 s s nothing a a g g (RanSoFar-none means s nothing a g counts only settled kept refl refl) a
+      no_memory_before 0 s s nothing a a g g (RanSoFar-none means s nothing a g counts only settled kept refl refl) a ([], Consumes-nil a)

@@ -14,12 +14,12 @@ use Rattle.au_engine.specs.State.{State}
 use Rattle.au_engine.specs.Step.{Event}
 use Rattle.au_script.specs.declared.lines.ScriptLine.TheVariants as line
 use Rattle.au_script.specs.Lines.{Says, SaysNothing, SaysOneThing}
-use Rattle.au_store.specs.declared.entry.Entry.{Entry as Held}
+use Rattle.au_store.specs.declared.entry.Entry.{Entry}
 use Rattle.au_store.specs.History.{HistoryGoesOn, Tells}
 use Rattle.au_store.specs.Steps.{IsTried, IsUnmended, StepLeaves, StepsBy, event_at}
 use Rattle.au_store.specs.Doubts.{IsStoodOn}
 use Rattle.au_store.specs.Stored.{Stored, IsKeptOn}
-use Rattle.au_main.specs.Answers.{EntriesOf, Made, Unmended, ReadAll, line_of, said_of}
+use Rattle.au_main.specs.Answers.{AnswerTells, Made, Unmended, ReadAll, line_of, said_of}
 use Rattle.au_main.specs.Built.{IsBuilt, IsBuiltLine, IsNoScriptLine, IsScriptLine}
 use Rattle.au_main.specs.Means.{Means}
 use Rattle.au_main.specs.Serving.{AnswersBy, Served, ServedInPart, Told, ToldInPart}
@@ -33,7 +33,7 @@ read_none None = tt
 read_none (Some t) = refl
 
 -- an entry of a fault, where that was said
-entries_faulted : (client : ClientNo) (ask : Ask) (reading : ℕ) (said : Said) (made : List Held) → said ≡ Disk → Tells client ask reading said made → EntriesOf (Unmended client ask) made
+entries_faulted : (client : ClientNo) (ask : Ask) (reading : ℕ) (said : Said) (made : List Entry) → said ≡ Disk → Tells client ask reading said made → AnswerTells (Unmended client ask) made
 entries_faulted client ask reading said made is tells = subst (λ (a : Said). Tells client ask reading a made) is tells
 
 state_stays : (m n : State) (event : Event) (said : Said) → said ≡ Disk → StepsBy m event said n → n ≡ m
@@ -42,7 +42,7 @@ state_stays m n event said is step = subst (λ (a : Said). StepsBy m event a n) 
 -- what a step of the store did is an answer to the ask
 pub answers_by : {D C : Type 0} (means : Means D C) (s t : Stored D C) (client : ClientNo) (ask : Ask) (said : Said) → client.0 ≡ 1
     → StepsBy s.state (event_at client ask t.reading) said t.state
-    → HistoryGoesOn means.faults client ask s t said
+    → HistoryGoesOn means.told means.meaning means.faults client ask s t said
     → IsTried means.told means.meaning means.ticking (event_at client ask t.reading) s t said ⊎ IsUnmended means.told means.meaning s t said
     → (said ≢ Disk → t.seat.doubt ≡ Settled)
     → (means.told → said ≢ Disk → IsKeptOn t.state.kept (means.meaning t.disk) t.seat)

@@ -6,12 +6,11 @@ use Rattle.au_base.specs.declared.reply.Said.{Said}
 use Rattle.au_base.specs.declared.reply.Said.TheVariants.{Replied, Disk, Full, Memory}
 use Rattle.au_http.specs.Replies.{said_text}
 use Rattle.au_io.specs.Time.{Ticking, after_reading}
-use Rattle.au_engine.specs.History.{Entry, Stepped}
 use Rattle.au_script.specs.declared.lines.ScriptLine.{ScriptLine}
 use Rattle.au_script.specs.declared.lines.ScriptLine.TheVariants as line
-use Rattle.au_store.specs.declared.entry.Entry.{Entry as Held}
-use Rattle.au_store.specs.declared.entry.Entry.TheVariants.{Faulted}
-use Rattle.au_store.specs.History.{StandsFor, Tells, first_of}
+use Rattle.au_store.specs.declared.entry.Entry.{Entry}
+use Rattle.au_store.specs.declared.entry.Entry.TheVariants.{Stepped, Faulted}
+use Rattle.au_store.specs.History.{Leads, StandsFor, Tells, first_of}
 use Rattle.au_store.specs.Stored.{Stored}
 use Rattle.au_main.specs.Lines.{with_end}
 use Rattle.au_main.specs.Means.{Means}
@@ -67,21 +66,28 @@ ReadAll (Some t) new [] = new ≡ Some t
 ReadAll (Some t) new (reading ∷ readings) = (reading ≡ t.next) × ReadAll (Some (after_reading t)) new readings
 
 -- the entries that the answer leaves in the store's history
-abbrev pub EntriesOf : Answer → List Held → Type 0
-EntriesOf (Made client ask reading said) made = Tells client ask reading said made
-EntriesOf (Unmended client ask) made = (count : ℕ) × (made ≡ Faulted client count ∷ [])
+abbrev pub AnswerTells : Answer → List Entry → Type 0
+AnswerTells (Made client ask reading said) made = Tells client ask reading said made
+AnswerTells (Unmended client ask) made = (count : ℕ) × (made ≡ Faulted client count ∷ [])
 
 -- the answers, one after another, leave these entries
-abbrev pub AllEntriesOf : List Answer → List Held → Type 0
-AllEntriesOf [] entries = entries ≡ []
-AllEntriesOf (a ∷ answers) entries = (made rest : List Held) × EntriesOf a made × AllEntriesOf answers rest × (entries ≡ made ++ rest)
+abbrev pub AllTell : List Answer → List Entry → Type 0
+AllTell [] entries = entries ≡ []
+AllTell (a ∷ answers) entries = (made rest : List Entry) × AnswerTells a made × AllTell answers rest × (entries ≡ made ++ rest)
 
 -- The store as it was opened, and the entries of the answers, are a legal list of the store: a reply is a step, and where
 -- the disk failed or the journal was full an entry of that stands in the step's place. The store stands for the list.
 pub record IsLegalBy {D C : Type 0} (means : Means D C) (opened here : Stored D C) (answers : List Answer) : Type 0 where
-  pub entries : List Held
-  pub of_answers : AllEntriesOf answers entries
-  pub stands : StandsFor means.faults here (first_of means.faults opened ++ entries)
+  pub entries : List Entry
+  pub of_answers : AllTell answers entries
+  pub stands : StandsFor means.told means.meaning means.faults here (first_of means.faults opened ++ entries)
+
+-- The store as it was opened, and the entries of the replies alone, are a legal list too. It leads to the state, the used
+-- length and the limit of the store; the count of faults is that of the opening.
+abbrev pub RepliesLead : {D C : Type 0} → Means D C → (opened here : Stored D C) → List Answer → Type 0
+RepliesLead means opened here answers =
+    Leads (first_of means.faults opened ++ flat_map steps_of answers)
+    (record { state = here.state; used = here.seat.used; limit = here.seat.limit; faults = means.faults opened.disk })
 
 -- each of them is of a step that couldn't mend an earlier one's doubt
 abbrev pub AreUnmended : List Answer → Type 0

@@ -33,6 +33,10 @@ pub record NextLine (old new : Stretch) (left now : Option (List ℕ)) (line : L
   pub taken : Consumes left now got
   pub next : IsNext old new got now line
 
+-- some bytes were taken, or none
+abbrev pub Takes : Option (List ℕ) → Option (List ℕ) → Type 0
+Takes left now = (got : List ℕ) × Consumes left now got
+
 -- the count of faults rose where the source failed, and nowhere else
 abbrev pub IsNextCause : ℕ → ℕ → Line → Type 0
 IsNextCause before now Failed = HasRisen before now

@@ -10,9 +10,9 @@ use Rattle.au_io.specs.Disk.{Meaning, Passes}
 use Rattle.au_io.specs.Moments.{LeavesSince}
 use Rattle.au_journal.specs.declared.doubt.Doubt.TheVariants.{Settled}
 use Rattle.au_journal.specs.declared.seat.Seat.{Seat}
-use Rattle.au_engine.specs.History.{AreSteps}
 use Rattle.au_engine.specs.State.{State}
 use Rattle.au_engine.specs.Step.{Event}
+use Rattle.au_store.specs.History.{GoesOver, Reached}
 use Rattle.au_store.specs.Recovery.{RecoversTo, RecoversToEither}
 use Rattle.au_store.specs.Doubts.{HasFrame, IsAfter, IsStoodOn}
 use Rattle.au_store.specs.Steps.{StepDoubts, StepLeaves, event_at}
@@ -20,23 +20,24 @@ use Rattle.au_store.specs.Stored.{IsKeptOn}
 use Rattle.au_main.specs.Answers.{Answer, AreUnmended, Made, Unmended, steps_of}
 
 -- the first step that is still to come is tried, and this is kept after its event
-abbrev pub IsTried : State → List Answer → Kept → Type 0
-IsTried m [] kept = ⊥
-IsTried m (Made client ask reading said ∷ answers) kept = IsAfter m (event_at client ask reading) kept
-IsTried m (Unmended client ask ∷ answers) kept = ⊥
+abbrev pub IsNextTried : State → List Answer → Kept → Type 0
+IsNextTried m [] kept = ⊥
+IsNextTried m (Made client ask reading said ∷ answers) kept = IsAfter m (event_at client ask reading) kept
+IsNextTried m (Unmended client ask ∷ answers) kept = ⊥
 
--- a run from m came by this: it is kept before some step or after the last one, or after the event of a step that was tried
-pub record CameBy (m : State) (answers : List Answer) (kept : Kept) : Type 0 where
+-- a run that began here came by this: it is kept before some step or after the last one, where the replies before it lead,
+-- or after the event of a step that was tried
+pub record CameBy (opened : Reached) (answers : List Answer) (kept : Kept) : Type 0 where
   pub before : List Answer
   pub rest : List Answer
   pub split : answers ≡ before ++ rest
-  pub state : State
-  pub reached : AreSteps m (flat_map steps_of before) state
-  pub is : (kept ≡ state.kept) ⊎ IsTried state rest kept
+  pub here : Reached
+  pub reached : GoesOver opened (flat_map steps_of before) here
+  pub is : (kept ≡ here.state.kept) ⊎ IsNextTried here.state rest kept
 
 -- the areas recover to something that the run came by
-abbrev pub RecoversAlong : State → List Answer → Areas → Type 0
-RecoversAlong m answers all = (kept : Kept) × CameBy m answers kept × RecoversTo kept all
+abbrev pub RecoversAlong : Reached → List Answer → Areas → Type 0
+RecoversAlong opened answers all = (kept : Kept) × CameBy opened answers kept × RecoversTo kept all
 
 -- a step is in doubt, and this is kept after its event: it was tried with a frame to write, the disk failed, and no step
 -- since could mend that
@@ -56,17 +57,17 @@ abbrev pub RecoversAfter : State → List Answer → Areas → Type 0
 RecoversAfter m answers all = RecoversTo m.kept all ⊎ ((kept : Kept) × IsUncertain m answers kept × RecoversTo kept all)
 
 -- the journal stands for what is kept in m, and perhaps for the step in doubt
-pub record StandsFor (m : State) (answers : List Answer) (meaning : Meaning) (seat : Seat) : Type 0 where
+pub record RestsOn (m : State) (answers : List Answer) (meaning : Meaning) (seat : Seat) : Type 0 where
   pub doubted : Kept
   pub stood : IsStoodOn m.kept doubted meaning seat
   pub which : (doubted ≡ m.kept) ⊎ IsUncertain m answers doubted
 
--- a run from m to n, over these answers: each image of a moment recovers to what the run came by, each image of the last
--- to what is kept in n or after the step in doubt
-pub record IsOnDisk (m n : State) (answers : List Answer) (old new : Meaning) (seat : Seat) : Type 0 where
+-- a run that began here and came to n, over these answers: each image of a moment recovers to what the run came by, each
+-- image of the last to what is kept in n or after the step in doubt
+pub record IsOnDisk (opened : Reached) (n : State) (answers : List Answer) (old new : Meaning) (seat : Seat) : Type 0 where
   pub time : Passes old new
-  pub any_moment : LeavesSince (RecoversAlong m answers) old new
-  pub stands : StandsFor n answers new seat
+  pub any_moment : LeavesSince (RecoversAlong opened answers) old new
+  pub stands : RestsOn n answers new seat
 
 -- what a step does on the disk, by what is said
 pub record MakesOnDisk (m n : State) (event : Event) (said : Said) (old new : Meaning) (before after : Seat) : Type 0 where

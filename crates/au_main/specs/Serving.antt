@@ -10,11 +10,11 @@ use Rattle.au_journal.specs.declared.seat.Seat.{Seat}
 use Rattle.au_engine.specs.State.{State}
 use Rattle.au_script.specs.declared.lines.ScriptLine.{ScriptLine}
 use Rattle.au_script.specs.declared.lines.ScriptLine.TheVariants as line
-use Rattle.au_store.specs.declared.entry.Entry.{Entry as Held}
+use Rattle.au_store.specs.declared.entry.Entry.{Entry}
 use Rattle.au_store.specs.History.{StandsFor}
 use Rattle.au_store.specs.Steps.{StepsBy, event_at}
 use Rattle.au_store.specs.Stored.{Stored}
-use Rattle.au_main.specs.Answers.{Answer, EntriesOf, Made, ReadAll, Unmended, asked, line_of, readings_of, said_of}
+use Rattle.au_main.specs.Answers.{Answer, AnswerTells, Made, ReadAll, Unmended, asked, line_of, readings_of, said_of}
 use Rattle.au_main.specs.Built.{IsScriptLine}
 use Rattle.au_main.specs.Given.{AppendsFront}
 use Rattle.au_main.specs.Means.{Means}
@@ -35,7 +35,7 @@ pub record Answers {D C : Type 0} (means : Means D C) (s t : Stored D C) (ask : 
   pub asks : asked answer ≡ (1, ask)
   pub read : ReadAll (means.ticking s.clock) (means.ticking t.clock) (readings_of answer)
   pub state : StateBy s.state answer t.state
-  pub history : (entries : List Held) → StandsFor means.faults s entries → (made : List Held) × EntriesOf answer made × StandsFor means.faults t (entries ++ made)
+  pub history : (entries : List Entry) → StandsFor means.told means.meaning means.faults s entries → (made : List Entry) × AnswerTells answer made × StandsFor means.told means.meaning means.faults t (entries ++ made)
   pub doubt : DoubtBy answer s.seat t.seat
   pub on_disk : means.told → StepsOnDisk s.state t.state answer (means.meaning s.disk) (means.meaning t.disk) s.seat t.seat
   pub time : Passes (means.meaning s.disk) (means.meaning t.disk)

@@ -1,7 +1,7 @@
 //! The lines of a script, one after another.
 ghost use Rattle.std.specs.Prelude.{◌≡◌, ◌≤◌, IfOk, OnErr};
 ghost use Rattle.au_main.specs.Lines.{script_limit};
-ghost use Rattle.au_main.specs.NextLine.{NextLine, IsNextCause};
+ghost use Rattle.au_main.specs.NextLine.{NextLine, IsNextCause, Takes};
 
 use crate::line::Line;
 use crate::refill::Refill;
@@ -21,6 +21,7 @@ pub(crate) fn next_line<S: Source>(
     ensures cause { IfOk result (IsNextCause (S.faults source.old) (S.faults source.new)) }
     ensures within { pending.new.taken ≤ script_limit }
     ensures memory { OnErr result (S.faults source.new ≡ S.faults source.old) }
+    ensures took { OnErr result (Takes (S.left source.old) (S.left source.new)) }
 {
     let mut line = Vec::new(alloc);
     loop {

@@ -1,5 +1,5 @@
 //! One line of a script.
-ghost use Rattle.std.specs.Prelude.{◌≡◌, OnOk, IfOk, IsErrOf};
+ghost use Rattle.std.specs.Prelude.{◌≡◌, ◌<◌, OnOk, IfOk, IsErrOf};
 ghost use Rattle.au_io.specs.Faults.{HasRisen};
 ghost use Rattle.au_engine.specs.Step.{IsAsked};
 ghost use Rattle.au_main.specs.Answers.{line_of};
@@ -10,11 +10,13 @@ ghost use Rattle.au_main.specs.Serving.{AnswersBy, FoundNoMemory, Served, Served
 use crate::built::built_ask;
 use crate::give::give_all;
 use crate::stop::Stop;
-use au_base::{Ask, ClientNo, Memory, Said};
+use au_base::{Ask, ClientNo, Memory, Said, Steps};
 use au_io::{Clock, Disk, Sink};
 use au_script::{ScriptLine, line, said_text, say_one_thing};
 use au_store::Store;
 use std::alloc::Global;
+use std::marker::Brand;
+use std::sync::ledger::{Blank, Ledger};
 
 // The client with the one label that is built.
 const CLIENT: ClientNo = ClientNo(1);
@@ -66,12 +68,28 @@ fn answer<D: Disk, C: Clock, W: Sink>(
     Ok(())
 }
 
-// One step of the client.
+// One step of the client, whose count of steps nobody asks.
 fn step<D: Disk, C: Clock>(alloc: Global, store: &mut Store<D, C>, ask: &Ask) -> Said
     requires { IsAsked ask.now }
     ensures { AnswersBy (means_of D.told D.meaning D.faults C.ticking) store.old store.new ask.now result }
 {
-    store.step(alloc, CLIENT, ask)
+    counted_step::<D, C, Brand>(alloc, store, ask, Blank::new(1))
+}
+
+fn counted_step<D: Disk, C: Clock, L: Ledger>(
+    alloc: Global,
+    store: &mut Store<D, C>,
+    ask: &Ask,
+    blank: Blank,
+) -> Said
+    requires asked { IsAsked ask.now }
+    requires name { blank.name ≡ L.name }
+    requires parts { blank.parts ≡ L.parts }
+    requires some { 0 < L.parts }
+    ensures { AnswersBy (means_of D.told D.meaning D.faults C.ticking) store.old store.new ask.now result }
+{
+    let mut steps = Steps::<L>::new(blank);
+    store.step(alloc, CLIENT, ask, &mut steps)
 }
 
 // The text of what was said, with the LF that ends it.

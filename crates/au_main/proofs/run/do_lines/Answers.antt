@@ -167,7 +167,7 @@ returns-in-Ok-Beyond-clause-read g c =
 pub returns-in-Err-clause-ran : goal.returns-in-Err-clause-ran
 returns-in-Err-clause-ran g c =
     let means = means_of g.D.Disk.told g.D.Disk.meaning g.D.Disk.faults g.C.Clock.ticking in
-    no_memory_before means _ _ _ _ _ _ _ _ c.loop-line.invariant.ran (g.S.Stream.left c.next_line.new.source)
+    no_memory_before means _ _ _ _ _ _ _ _ c.loop-line.invariant.ran (g.S.Stream.left c.next_line.new.source) c.in-Err.ensures.took
 
 pub returns-in-Err-clause-read : goal.returns-in-Err-clause-read
 returns-in-Err-clause-read g c = c.in-Err.ensures.memory ∙ c.loop-line.invariant.read

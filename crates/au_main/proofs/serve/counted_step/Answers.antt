@@ -1,7 +1,7 @@
 use Rattle.std.proofs.Common.{refl}
 use Rattle.au_main.specs.Means.{means_of}
 use Rattle.au_main.proofs.Serving.{answers_by}
-use Rattle.au_main.proofs.serve.step.Goals as goal
+use Rattle.au_main.proofs.serve.counted_step.Goals as goal
 
 pub returns : goal.returns
 returns g c =
