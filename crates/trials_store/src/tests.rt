@@ -1,11 +1,13 @@
 //! Stores on disks in memory: made, used, shut and opened again.
-ghost use Rattle.std.specs.Prelude.{IfOk};
+ghost use Rattle.std.specs.Prelude.{◌≡◌, ◌<◌, IfOk};
 ghost use Rattle.au_engine.specs.Step.{IsAsked};
 
-use au_base::{Ask, Cell, ClientNo, Memory, Said, Text};
+use au_base::{Ask, Cell, ClientNo, Memory, Said, Steps, Text};
 use au_io::{Area, Disk, Failed, MemClock, MemDisk};
-use au_store::{Created, OpenFault, Store};
+use au_store::{Created, LookFault, OpenFault, Store};
 use std::alloc::Global;
+use std::marker::Brand;
+use std::sync::ledger::{Blank, Ledger};
 use std::test::Fail;
 
 const LIMIT: u32 = 1_073_741_824;
@@ -105,8 +107,23 @@ fn ask(
     asked: Option<&str>,
 ) -> Result<Told, Memory> {
     let ask = ask_of(alloc, asked)?;
-    let said = store.step(alloc, ClientNo(1), &ask);
+    let said = counted::<Brand>(alloc, store, &ask, Blank::new(1));
     Ok(in_short(&said))
+}
+
+fn counted<L: Ledger>(
+    alloc: Global,
+    store: &mut Store<MemDisk, MemClock>,
+    ask: &Ask,
+    blank: Blank,
+) -> Said
+    requires asked { IsAsked ask.now }
+    requires name { blank.name ≡ L.name }
+    requires parts { blank.parts ≡ L.parts }
+    requires some { 0 < L.parts }
+{
+    let mut steps = Steps::<L>::new(blank);
+    store.step(alloc, ClientNo(1), ask, &mut steps)
 }
 
 // Whether the client is told this at each of its asks, in order.
@@ -269,6 +286,72 @@ fn a_step_mends_what_the_one_before_left_in_doubt(rt: HostRuntime) -> Result<(),
     for call in 0..4 {
         let mut store = begun(alloc, LIMIT, MAKING + OPENING + call)?;
         assert!(rt; answers(alloc, &mut store, &MENDED)?, "call {call}");
+    }
+    Ok(())
+}
+
+// What is seen of a store: its instance, how many records it has, and its used length; or why not.
+type Seen = Result<(u32, usize, u64), LookFault>;
+
+fn seen(alloc: Global, disk: MemDisk) -> (MemDisk, Seen) {
+    match Store::<MemDisk, MemClock>::look(alloc, disk) {
+        (disk, Ok((kept, used))) => (disk, Ok((kept.instance, kept.trail.len(), used))),
+        (disk, Err(why)) => (disk, Err(why)),
+    }
+}
+
+#[test]
+fn a_look_sees_what_is_kept_and_how_long_it_is(rt: HostRuntime) -> Result<(), Fail> {
+    let (_, new) = seen(rt.alloc(), made(rt.alloc(), LIMIT, u64::MAX)?);
+    assert!(rt; new == Ok((0, 0, 320)));
+    let (_, none) = seen(rt.alloc(), MemDisk::new(rt.alloc(), &[])?);
+    assert!(rt; none == Err(LookFault::Unformatted));
+    Ok(())
+}
+
+// Why a look at a store of two frames, scribbled on there, sees nothing.
+fn unseen(alloc: Global, at: u64, bytes: [u8; 4]) -> Result<Option<LookFault>, OpenFault> {
+    let (mut disk, _) = begun(alloc, LIMIT, u64::MAX)?.shut();
+    if scribble(&mut disk, at, bytes).is_err() {
+        return Err(OpenFault::Memory);
+    }
+    Ok(seen(alloc, disk).1.err())
+}
+
+// the same that is damage to an opening; and a number of an instance that is the last, which a look sees
+const UNSEEN: [(u64, [u8; 4], Option<LookFault>); 4] = [
+    (
+        1,
+        [0x42, 0x55, 0x4a, 0x52],
+        Some(LookFault::Damaged {
+            area: Area::A,
+            at: 1,
+        }),
+    ),
+    (
+        22,
+        [2, 0, 0, 0],
+        Some(LookFault::Damaged {
+            area: Area::A,
+            at: 13,
+        }),
+    ),
+    (
+        329,
+        [9, 0, 0, 0],
+        Some(LookFault::Damaged {
+            area: Area::A,
+            at: 320,
+        }),
+    ),
+    (343, [0x3b, 0x9a, 0xc9, 0xff], None),
+];
+
+#[test]
+fn a_look_tells_damage_and_no_worn_number(rt: HostRuntime) -> Result<(), Fail> {
+    for (written, bytes, wanted) in UNSEEN {
+        let why = unseen(rt.alloc(), written, bytes)?;
+        assert_eq!(rt; why, wanted, "at {written}");
     }
     Ok(())
 }
