@@ -15,6 +15,7 @@ use au_io::{Clock, Disk, Sink};
 use au_script::{ScriptLine, line, said_text, say_one_thing};
 use au_store::Store;
 use std::alloc::Global;
+use std::marker::Brand;
 use std::sync::ledger::{Blank, Ledger};
 
 // The client with the one label that is built.
@@ -81,7 +82,7 @@ fn counted_step<D: Disk, C: Clock, L: Ledger>(
     ask: &Ask,
     blank: Blank,
 ) -> Said
-    requires { IsAsked ask.now }
+    requires asked { IsAsked ask.now }
     requires name { blank.name ≡ L.name }
     requires parts { blank.parts ≡ L.parts }
     requires some { 0 < L.parts }

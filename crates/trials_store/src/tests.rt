@@ -6,6 +6,7 @@ use au_base::{Ask, Cell, ClientNo, Memory, Said, Steps, Text};
 use au_io::{Area, Disk, Failed, MemClock, MemDisk};
 use au_store::{Created, LookFault, OpenFault, Store};
 use std::alloc::Global;
+use std::marker::Brand;
 use std::sync::ledger::{Blank, Ledger};
 use std::test::Fail;
 

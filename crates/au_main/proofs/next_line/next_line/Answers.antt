@@ -1,5 +1,5 @@
 use Rattle.std.proofs.Common.{◌∙◌, arith}
-use Rattle.au_main.proofs.Gathering.{Gathers-moved, Gathers-more, NextLine-failed, NextLine-beyond}
+use Rattle.au_main.proofs.Gathering.{on_err, Gathers-moved, Gathers-more, NextLine-failed, NextLine-beyond}
 use Rattle.au_main.proofs.next_line.next_line.Goals as goal
 
 pub loop-line-smaller : goal.loop-line-smaller
@@ -31,4 +31,4 @@ returns-in-Beyond-clause-line g c =
     NextLine-beyond _ _ _ _ _ _ _ _ gathers moved.1 beyond.3 beyond.1 beyond.2
 
 pub returns-in_err-move_line-clause-took : goal.returns-in_err-move_line-clause-took
-returns-in_err-move_line-clause-took g c = (c.loop-line.invariant.gathers.got, c.loop-line.invariant.gathers.taken)
+returns-in_err-move_line-clause-took g c = on_err c.from_residual.result _ (c.loop-line.invariant.gathers.got, c.loop-line.invariant.gathers.taken)
