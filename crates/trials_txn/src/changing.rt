@@ -128,44 +128,6 @@ fn write_two(
     Ok(())
 }
 
-/// Writes the three changes at once, where nothing is against them.
-fn write_three(
-    alloc: Global,
-    desk: &mut Desk,
-    client: ClientNo,
-    changes: (RowChange, RowChange, RowChange),
-) -> Result<(), Fault>
-    requires tables { (changes.1.table ≡ changes.0.table) × (changes.2.table ≡ changes.0.table) }
-    requires rows { (changes.0.row.0 ≢ changes.1.row.0) × (changes.0.row.0 ≢ changes.2.row.0) × (changes.1.row.0 ≢ changes.2.row.0) }
-    requires there { IsTrue (is_open changes.0.table desk.old.tables) }
-    requires free { (¬ IsRowLocked (open_of desk.old) client changes.0.table changes.0.row) × (¬ IsRowLocked (open_of desk.old) client changes.1.table changes.1.row) × (¬ IsRowLocked (open_of desk.old) client changes.2.table changes.2.row) }
-    requires numbered { (1 ≤ changes.0.row.0) × (1 ≤ changes.1.row.0) × (1 ≤ changes.2.row.0) }
-    requires content { (IsSome changes.0.old ⊎ IsSome changes.0.new) × (IsSome changes.1.old ⊎ IsSome changes.1.new) × (IsSome changes.2.old ⊎ IsSome changes.2.new) }
-    requires first_old { changes.0.old ≡ row_at changes.0.table changes.0.row (laid_over desk.old.rows (open_of desk.old client)) }
-    requires second_old { changes.1.old ≡ row_at changes.1.table changes.1.row (laid_over desk.old.rows (open_of desk.old client)) }
-    requires third_old { changes.2.old ≡ row_at changes.2.table changes.2.row (laid_over desk.old.rows (open_of desk.old client)) }
-    requires spare { 3 ≤ spare_of client desk.old }
-{
-    laid_rows_answer();
-    let (first, second, third) = changes;
-    let mut contents = Vec::new(alloc);
-    if let Some(cells) = &first.new {
-        contents.push(copy_of(alloc, cells.as_slice())?)?;
-    }
-    if let Some(cells) = &second.new {
-        contents.push(copy_of(alloc, cells.as_slice())?)?;
-    }
-    if let Some(cells) = &third.new {
-        contents.push(copy_of(alloc, cells.as_slice())?)?;
-    }
-    let mut changes = Vec::new(alloc);
-    changes.push(first)?;
-    changes.push(second)?;
-    changes.push(third)?;
-    desk.write(client, changes, contents);
-    Ok(())
-}
-
 /// A row and its new content, none where it is to go.
 #[derive(Drop)]
 pub struct Wanted {
@@ -216,72 +178,6 @@ pub fn change_two(
         new: second.new,
     };
     write_two(alloc, desk, client, first, second)?;
-    Ok("done")
-}
-
-/// The change of the row that the client makes, where the row isn't locked and is there before or
-/// after.
-fn made(
-    alloc: Global,
-    desk: &Desk,
-    client: ClientNo,
-    table: &TableName,
-    wanted: Wanted,
-) -> Result<Result<RowChange, &'static str>, Fault>
-    ensures table { IfOk result (λ made. IfOk made (λ change. change.table ≡ table.now)) }
-    ensures row { IfOk result (λ made. IfOk made (λ change. change.row ≡ wanted.row)) }
-    ensures free { IfOk result (λ made. IfOk made (λ change. ¬ IsRowLocked (open_of desk.now) client table.now wanted.row)) }
-    ensures numbered { IfOk result (λ made. IfOk made (λ change. 1 ≤ wanted.row.0)) }
-    ensures content { IfOk result (λ made. IfOk made (λ change. IsSome change.old ⊎ IsSome change.new)) }
-    ensures old { IfOk result (λ made. IfOk made (λ change. change.old ≡ row_at table.now wanted.row (laid_over desk.now.rows (open_of desk.now client)))) }
-{
-    if wanted.row.0 == 0 {
-        return Ok(Err("no table"));
-    }
-    if desk.locked_row(client, table, wanted.row) {
-        return Ok(Err("locked"));
-    }
-    let old = seen(alloc, desk, client, table, wanted.row)?;
-    if old.is_none() && wanted.new.is_none() {
-        return Ok(Err("no row"));
-    }
-    Ok(Ok(RowChange {
-        table: table.clone()?,
-        row: wanted.row,
-        old,
-        new: wanted.new,
-    }))
-}
-
-/// Makes the client's changes of the three rows in one write, and says what came.
-pub fn change_three(
-    alloc: Global,
-    desk: &mut Desk,
-    client: ClientNo,
-    table: &TableName,
-    wanted: (Wanted, Wanted, Wanted),
-) -> Result<&'static str, Fault> {
-    let (first, second, third) = wanted;
-    desk.reserve(alloc, client, 3)?;
-    if !desk.is_open(table) {
-        return Ok("no table");
-    }
-    if first.row.0 == second.row.0 || first.row.0 == third.row.0 || second.row.0 == third.row.0 {
-        return Ok("one row");
-    }
-    let first = match made(alloc, desk, client, table, first)? {
-        Ok(change) => change,
-        Err(came) => return Ok(came),
-    };
-    let second = match made(alloc, desk, client, table, second)? {
-        Ok(change) => change,
-        Err(came) => return Ok(came),
-    };
-    let third = match made(alloc, desk, client, table, third)? {
-        Ok(change) => change,
-        Err(came) => return Ok(came),
-    };
-    write_three(alloc, desk, client, (first, second, third))?;
     Ok("done")
 }
 

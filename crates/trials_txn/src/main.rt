@@ -7,7 +7,6 @@
 //! - `put|CLIENT|TABLE|ROW|CELLS`, `gone|CLIENT|TABLE|ROW`: a change of the client
 //! - `two|CLIENT|TABLE|ROW|CELLS|ROW|CELLS`: two changes in one write, `gone` for the cells of a row
 //!   that goes
-//! - `three|CLIENT|TABLE|ROW|CELLS|ROW|CELLS|ROW|CELLS`: three
 //! - `many|CLIENT|TABLE|COUNT`, `many from|CLIENT|TABLE|FIRST|COUNT`: so many rows, from number 1 or
 //!   the first on, in one transaction; `many gone|CLIENT|TABLE|FIRST|COUNT`: so many that go
 //! - `commit|CLIENT`, `roll back|CLIENT`, `forget|CLIENT`
@@ -60,7 +59,6 @@ fn changed(alloc: Global, desk: &mut Desk, case: &Case<'_>) -> Result<Option<&'s
             let content = content_at(alloc, case, 2)?.map(List::into_vec);
             Ok(Some(changing::lay(desk, &table, row, content)?))
         }
-        "three" => Ok(Some(three(alloc, desk, case)?)),
         "many" => {
             let rows = (1, case.number(2)?);
             Ok(Some(changing::change_many(alloc, desk, case, rows, false)?))
@@ -93,15 +91,6 @@ fn wanted_at(alloc: Global, case: &Case<'_>, place: usize) -> Result<Wanted, Fau
         row: case.row(place)?,
         new: content_at(alloc, case, place + 1)?,
     })
-}
-
-// What comes of three changes in one write.
-fn three(alloc: Global, desk: &mut Desk, case: &Case<'_>) -> Result<&'static str, Fault> {
-    let first = wanted_at(alloc, case, 2)?;
-    let second = wanted_at(alloc, case, 4)?;
-    let third = wanted_at(alloc, case, 6)?;
-    let (client, table) = (case.client(0)?, case.table(alloc, 1)?);
-    changing::change_three(alloc, desk, client, &table, (first, second, third))
 }
 
 // What comes of two changes in one write.
