@@ -1,0 +1,36 @@
+//! Makes the program's commands on a disk in memory that fails at listed calls. The cases are lines of
+//! standard input; each is written again, and behind it what came of it. Lines that are empty or begin
+//! with `#` are written and ask nothing.
+//!
+//! A case is the numbers of the disk's calls that are to fail, with commas between them, or `-`, then
+//! `:` and its steps, with `;` between them. `L..H` makes the case once for each number from L to H,
+//! and `N+L..H` once for each of these that comes so long after the call N, which fails too. The steps:
+//!
+//! - `init`: makes a store; the answer is how that ends
+//! - `run ASK ..`: a script of these asks of one client: `local`, `audit` (AUDIT POLICY P_ALL),
+//!   `noaudit`, `count` (of the trail). The answers are `ok`, the count, `disk` or `full`, and behind
+//!   them how often the clock was read; where the run ends otherwise than done, how
+//! - `grow N`: the frames behind the start of the first run are written so many times more, as if their
+//!   statements had been asked again at the same moments; the answer is the size of area A
+//! - `images`: what a run counts on each image: what was synced, what reads, and what was written since
+//!   filled with 42, 5a and a5; `none` where no store stands there
+#![tactic(auto)]
+
+mod case;
+mod fault;
+mod outside;
+mod scripts;
+mod words;
+
+use std::io;
+
+fn main(rt: HostRuntime) -> io::Result<()> {
+    for line in rt.lines(rt.alloc()) {
+        let line = line?;
+        println!(rt; "{line}")?;
+        if !line.is_empty() && !line.starts_with('#') {
+            print!(rt; "{}", case::answers(rt.alloc(), &line)?)?;
+        }
+    }
+    Ok(())
+}
