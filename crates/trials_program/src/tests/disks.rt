@@ -1,29 +1,11 @@
-//! Commands on disks that hold stores, and on disks that fail.
+//! Commands on disks that hold stores, damaged ones and full ones.
 
 use super::*;
 use au_io::{Disk, Failed};
 
-// the calls of the disk that making a store takes
-const MAKING: u64 = 16;
-
-// the calls of the disk, from the first of `init`, that append the first frame behind the start of a
-// run: a write and a sync of the frame, a write and a sync of its gate
-const APPENDING: [u64; 4] = [28, 29, 30, 31];
-
-// Makes a store whose SYS has the password `p`.
-fn made_on(alloc: Global, disk: MemDisk) -> Result<Outcome, Fail> {
-    on_disk(alloc, INITS[0], b"s1 local\n", 9, (&[], &[]), disk)
-}
-
 // Runs the script.
 fn run_on(alloc: Global, script: &str, disk: MemDisk) -> Result<Outcome, Fail> {
     on_disk(alloc, &["run"], script.as_bytes(), 4096, (&[], &[]), disk)
-}
-
-// Makes a store on a disk of which those calls fail, and runs the script on it.
-fn run_failing(alloc: Global, script: &str, fail: &[u64]) -> Result<Outcome, Fail> {
-    let made = made_on(alloc, empty_disk(alloc, fail)?)?;
-    run_on(alloc, script, made.disk)
 }
 
 // Writes over bytes of area A.
@@ -57,46 +39,6 @@ fn a_store_is_made_once(rt: HostRuntime) -> Result<(), Fail> {
     Ok(())
 }
 
-// How making a store ends on a disk of which that call fails, and then again.
-fn made_twice(alloc: Global, call: u64) -> Result<(Status, Status), Fail> {
-    let first = made_on(alloc, empty_disk(alloc, &[call])?)?;
-    let second = made_on(alloc, first.disk)?;
-    Ok((first.status, second.status))
-}
-
-#[test]
-fn a_store_is_made_again_after_a_disk_fault(rt: HostRuntime) -> Result<(), Fail> {
-    for call in 0..MAKING {
-        // the last call syncs a gate that is open by then
-        let again = if call + 1 < MAKING {
-            Status::Done
-        } else {
-            Status::Formatted
-        };
-        assert!(rt;
-            made_twice(rt.alloc(), call)? == (Status::DiskFault, again),
-            "at call {call}"
-        );
-    }
-    Ok(())
-}
-
-// What a run counts in a store that was made twice, since that call failed.
-fn counted_after(alloc: Global, call: u64) -> Result<Outcome, Fail> {
-    let first = made_on(alloc, empty_disk(alloc, &[call])?)?;
-    let second = made_on(alloc, first.disk)?;
-    run_on(alloc, COUNT, second.disk)
-}
-
-#[test]
-fn a_store_that_was_made_again_is_new(rt: HostRuntime) -> Result<(), Fail> {
-    for call in 0..MAKING {
-        let ran = counted_after(rt.alloc(), call)?;
-        assert_eq!(rt; ran.given.as_slice(), NEW.as_bytes(), "at call {call}");
-    }
-    Ok(())
-}
-
 #[test]
 fn a_run_needs_a_store(rt: HostRuntime) -> Result<(), Fail> {
     let ran = run_on(rt.alloc(), COUNT, empty_disk(rt.alloc(), &[])?)?;
@@ -108,16 +50,6 @@ fn a_run_needs_a_store(rt: HostRuntime) -> Result<(), Fail> {
 
 const COUNT: &str = "s1 local
 s1 sql SELECT COUNT(*) FROM UNIFIED_AUDIT_TRAIL
-";
-
-// what that gives where no record was left and no policy is enabled
-const NEW: &str = "{\"code\":0,\"columns\":[],\"count\":0,\"rows\":[]}
-{\"code\":0,\"columns\":[\"COUNT(*)\"],\"count\":1,\"rows\":[[0]]}
-";
-
-// and where one was left of the AUDIT that enabled a policy, so that the logon leaves one too
-const AUDITED: &str = "{\"code\":0,\"columns\":[],\"count\":0,\"rows\":[]}
-{\"code\":0,\"columns\":[\"COUNT(*)\"],\"count\":1,\"rows\":[[2]]}
 ";
 
 const FIRST: &str = "s1 local
@@ -240,108 +172,6 @@ fn a_full_journal_refuses_a_statement(rt: HostRuntime) -> Result<(), Fail> {
         let ran = limited(rt.alloc(), limit, script)?;
         assert_eq!(rt; ran.status, Status::Done, "{limit}");
         assert_eq!(rt; ran.given.as_slice(), given.as_bytes(), "{limit}");
-    }
-    Ok(())
-}
-
-const FAULTS: &str = "s1 local
-s1 sql AUDIT POLICY P_ALL
-s1 sql SELECT COUNT(*) FROM UNIFIED_AUDIT_TRAIL
-s1 sql AUDIT POLICY P_ALL
-";
-
-// what is said where a call of the first AUDIT's append failed
-const FAULTED: &str = "{\"code\":0,\"columns\":[],\"count\":0,\"rows\":[]}
-{\"fault\":\"disk\"}
-{\"code\":0,\"columns\":[\"COUNT(*)\"],\"count\":1,\"rows\":[[0]]}
-{\"code\":0,\"columns\":[],\"count\":0,\"rows\":[]}
-";
-
-#[test]
-fn a_failed_append_is_answered_and_taken_back(rt: HostRuntime) -> Result<(), Fail> {
-    for call in APPENDING {
-        let ran = run_failing(rt.alloc(), FAULTS, &[call])?;
-        assert_eq!(rt; ran.status, Status::Done, "at call {call}");
-        assert_eq!(rt; ran.given.as_slice(), FAULTED.as_bytes(), "at call {call}");
-        assert_eq!(rt; ran.next, 1_000_005, "at call {call}");
-    }
-    Ok(())
-}
-
-const MENDS: &str = "s1 local
-s1 sql AUDIT POLICY P_ALL
-s1 sql SELECT COUNT(*) FROM UNIFIED_AUDIT_TRAIL
-s1 sql SELECT COUNT(*) FROM UNIFIED_AUDIT_TRAIL
-s1 sql AUDIT POLICY P_ALL
-";
-
-// what is said where the mend behind that failed too
-const UNMENDED: &str = "{\"code\":0,\"columns\":[],\"count\":0,\"rows\":[]}
-{\"fault\":\"disk\"}
-{\"fault\":\"disk\"}
-{\"code\":0,\"columns\":[\"COUNT(*)\"],\"count\":1,\"rows\":[[0]]}
-{\"code\":0,\"columns\":[],\"count\":0,\"rows\":[]}
-";
-
-#[test]
-fn a_failed_mend_is_made_again(rt: HostRuntime) -> Result<(), Fail> {
-    for call in APPENDING {
-        let ran = run_failing(rt.alloc(), MENDS, &[call, call + 1])?;
-        assert_eq!(rt; ran.given.as_slice(), UNMENDED.as_bytes(), "at call {call}");
-        // the clock isn't read where the mend failed
-        assert_eq!(rt; ran.next, 1_000_005, "at call {call}");
-    }
-    Ok(())
-}
-
-// the call of the append that failed, what a crash then does with what was written since the last
-// sync (0: it is lost, 1: it stands, else: it is filled with the byte), and what is counted
-const CRASHES: [(u64, u8, &str); 13] = [
-    (28, 0, NEW),
-    (28, 1, NEW),
-    (28, 0xa5, NEW),
-    (29, 0, NEW),
-    (29, 1, NEW),
-    (29, 0xa5, NEW),
-    (30, 0, NEW),
-    (30, 1, NEW),
-    (30, 0xa5, AUDITED),
-    (31, 0, NEW),
-    (31, 1, AUDITED),
-    (31, 7, NEW),
-    (31, 0xa5, AUDITED),
-];
-
-// What a run counts after a crash behind the script, on a disk of which that call failed.
-fn counted_behind(alloc: Global, script: &str, call: u64, pick: u8) -> Result<Outcome, Fail> {
-    let ran = run_failing(alloc, script, &[call])?;
-    let image = ran.disk.image(alloc, pick)?;
-    run_on(alloc, COUNT, image)
-}
-
-#[test]
-fn a_crash_leaves_a_failed_append_done_or_not(rt: HostRuntime) -> Result<(), Fail> {
-    for (call, pick, given) in CRASHES {
-        let ran = counted_behind(rt.alloc(), AUDIT, call, pick)?;
-        assert_eq!(rt; ran.status, Status::Done, "at call {call}, {pick}");
-        assert_eq!(rt;
-            ran.given.as_slice(),
-            given.as_bytes(),
-            "at call {call}, {pick}"
-        );
-    }
-    Ok(())
-}
-
-#[test]
-fn a_crash_behind_the_mend_leaves_it_undone(rt: HostRuntime) -> Result<(), Fail> {
-    for (call, pick, _) in CRASHES {
-        let ran = counted_behind(rt.alloc(), AUDIT_AND_COUNT, call, pick)?;
-        assert_eq!(rt;
-            ran.given.as_slice(),
-            NEW.as_bytes(),
-            "at call {call}, {pick}"
-        );
     }
     Ok(())
 }
