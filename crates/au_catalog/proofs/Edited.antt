@@ -79,9 +79,9 @@ edited_ordered (DropUser name) catalog o = record {
   fga = o.fga;
 }
 edited_ordered (PutRole name) catalog o =
-    record { users = o.users; roles = from_keys _ (put_by_name (λ (role : List ℕ). role) name catalog.roles (to_keys catalog.roles o.roles)); tables = o.tables; policies = o.policies; enabled = o.enabled; fga = o.fga }
+    record { users = o.users; roles = from_keys (put_in_order (λ other. by_name other name) name catalog.roles) (put_by_name (λ (role : List ℕ). role) name catalog.roles (to_keys catalog.roles o.roles)); tables = o.tables; policies = o.policies; enabled = o.enabled; fga = o.fga }
 edited_ordered (DropRole name) catalog o =
-    record { users = o.users; roles = from_keys _ (kept_by_name (λ (role : List ℕ). role) (λ role. not (bytes_eq role name)) catalog.roles (to_keys catalog.roles o.roles)); tables = o.tables; policies = o.policies; enabled = o.enabled; fga = o.fga }
+    record { users = o.users; roles = from_keys (without (λ role. bytes_eq role name) catalog.roles) (kept_by_name (λ (role : List ℕ). role) (λ role. not (bytes_eq role name)) catalog.roles (to_keys catalog.roles o.roles)); tables = o.tables; policies = o.policies; enabled = o.enabled; fga = o.fga }
 edited_ordered (PutTable table) catalog o =
     record { users = o.users; roles = o.roles; tables = put_by_fields (λ (other : Table). table_fields other.name) table catalog.tables o.tables; policies = o.policies; enabled = o.enabled; fga = o.fga }
 edited_ordered (DropTable name) catalog o = record {

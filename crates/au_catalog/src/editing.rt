@@ -1,5 +1,5 @@
 //! Edits made in vectors of what the catalogue has.
-ghost use Rattle.std.specs.Prelude.{◌≡◌, ◌≤◌, ◌<◌, ◌+◌, IsTrue, length, map, vec_capacity, vec_len};
+ghost use Rattle.std.specs.Prelude.{◌≡◌, ◌≤◌, ◌<◌, ◌+◌, IsTrue, false, length, map, vec_capacity, vec_len};
 ghost use Rattle.std.specs.Str.{bytes_eq};
 ghost use Rattle.au_base.specs.Order.{fields_before, is_in_order, name_before};
 ghost use Rattle.au_base.specs.Sameness.{same_table};
@@ -12,8 +12,8 @@ ghost use Rattle.au_catalog.specs.descent.Editing.{HasRoom, KeepsRoom, edited, e
 use crate::edit::Edit;
 use crate::lists::CatalogLists;
 use crate::placing::put_reserved;
-use au_base::{Name, TableName, is_same_table};
-use au_entries::{AuditPolicy, Enabled, FgaPolicy, Table};
+use au_base::{List, Name, TableName, is_same_table};
+use au_entries::{AuditPolicy, Enabled, FgaPolicy, Outcomes, Table};
 
 /// Makes the edits in their order. There is room for what they put in, and the call takes no
 /// memory.
@@ -83,7 +83,12 @@ fn drop_enabled_user(entries: &mut Vec<(Name, Enabled)>, user: &Name)
     ensures size { length entries.new.items ≤ length entries.old.items }
     ensures capacity { vec_capacity entries.new ≡ vec_capacity entries.old }
 {
-    entries.retain_mut(|entry| leaves(entry, user));
+    let stays = |listed: &mut (Name, Enabled)| -> bool
+        ensures { (result ≡ is_on (without_user user.entry.now listed.entry.now.1)) × (listed.exit.now ≡ (listed.entry.now.0, without_user user.entry.now listed.entry.now.1)) }
+    {
+        leaves(listed, user)
+    };
+    entries.retain_mut(stays);
 }
 
 // Takes the user out of the enablement, and says whether it still is for somebody.
@@ -98,15 +103,34 @@ fn leaves(entry: &mut (Name, Enabled), user: &Name) -> bool
 fn take_out(enabled: &mut Enabled, user: &Name)
     ensures { enabled.new ≡ without_user user.now enabled.old }
 {
+    drop_place(enabled, user);
+    if !enabled.is_on() {
+        *enabled = Enabled::Off;
+    }
+}
+
+// Drops the user's place in the enablement. One that is left for nobody may still be a list.
+fn drop_place(enabled: &mut Enabled, user: &Name)
+    ensures on { IsTrue (is_on enabled.new) → enabled.new ≡ without_user user.now enabled.old }
+    ensures off { is_on enabled.new ≡ false → without_user user.now enabled.old ≡ Enabled.Off }
+{
     match enabled {
         Enabled::Off => {}
-        Enabled::By(users) => {
-            users.retain(|listed| listed.0 != *user);
-        }
-        Enabled::Except(users, _) => {
-            users.retain(|other| other != user);
-        }
+        Enabled::By(users) => drop_listed(users, user),
+        Enabled::Except(users, _) => drop_excepted(users, user),
     }
+}
+
+fn drop_listed(users: &mut List<(Name, Outcomes)>, user: &Name)
+    ensures { users.new ≡ without_listed (λ listed. bytes_eq listed.0 user.now) users.old }
+{
+    users.retain(|listed| listed.0 != *user);
+}
+
+fn drop_excepted(users: &mut List<Name>, user: &Name)
+    ensures { users.new ≡ without_listed (λ other. bytes_eq other user.now) users.old }
+{
+    users.retain(|other| other != user);
 }
 
 fn drop_role(roles: &mut Vec<Name>, name: &Name)
