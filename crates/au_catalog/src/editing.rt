@@ -85,9 +85,7 @@ fn drop_enabled_user(entries: &mut Vec<(Name, Enabled)>, user: &Name)
 {
     let stays = |listed: &mut (Name, Enabled)| -> bool
         ensures { (result ≡ is_on (without_user user.entry.now listed.entry.now.1)) × (listed.exit.now ≡ (listed.entry.now.0, without_user user.entry.now listed.entry.now.1)) }
-    {
-        leaves(listed, user)
-    };
+    { leaves(listed, user) };
     entries.retain_mut(stays);
 }
 
@@ -200,5 +198,6 @@ fn drop_fga(policies: &mut Vec<FgaPolicy>, table: &TableName, policy: &Name)
     ensures size { length policies.new.items ≤ length policies.old.items }
     ensures capacity { vec_capacity policies.new ≡ vec_capacity policies.old }
 {
-    policies.retain(|other| !(is_same_table(&other.name.table, table) && other.name.policy == *policy));
+    policies.retain(|other| !(is_same_table(&other.name.table, table)
+        && other.name.policy == *policy));
 }
