@@ -8,6 +8,7 @@ mod keyed;
 mod laws;
 mod lists;
 mod placing;
+mod room;
 
 pub use au_audit::as_row;
 pub use au_entries::{

@@ -5,7 +5,7 @@ use Rattle.au_catalog.specs.declared.edit.Edit.{Edit}
 use Rattle.au_catalog.specs.Staging.{IsOrdered}
 use Rattle.au_catalog.specs.descent.Editing.{HasRoom, edited_all, listed}
 use Rattle.au_catalog.proofs.Edited.{edited_ordered}
-use Rattle.au_catalog.proofs.Room.{room_first, room_left}
+use Rattle.au_catalog.proofs.RoomLeft.{room_first, room_left}
 use Rattle.au_catalog.proofs.editing.make_all.Goals as goal
 
 long : (edit : Edit) (rest all : List Edit) → all ≡ edit ∷ rest → length all ≡ length rest + 1
