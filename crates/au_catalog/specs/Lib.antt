@@ -1,4 +1,6 @@
 pub mod Settling
+pub mod Staging
+pub mod descent
 pub use Rattle.au_entries.specs.Changing
 pub use Rattle.au_entries.specs.Demand
 pub use Rattle.au_entries.specs.Enabling

@@ -2,7 +2,13 @@
 #![tactic(auto)]
 
 mod catalog;
+mod edit;
+mod editing;
+mod keyed;
 mod laws;
+mod lists;
+mod placing;
+mod room;
 
 pub use au_audit::as_row;
 pub use au_entries::{
