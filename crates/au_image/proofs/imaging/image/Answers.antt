@@ -1,0 +1,35 @@
+use Rattle.std.proofs.Common.{◌≡◌, ◌∙◌, ◌≤◌, refl, arith}
+use Rattle.au_image.specs.Image.{image_changes, kept_of}
+use Rattle.au_image.proofs.Pieces.{changes_told, image_held, no_change, records_done, records_wait}
+use Rattle.au_image.proofs.imaging.image.Goals as goal
+
+pub new-requires : goal.new-requires
+new-requires c = c.requires.last
+
+pub write_changes-requires : goal.write_changes-requires
+write_changes-requires c = (c.in_ok-writer.ensures.changes ∙ (c.in_ok-changes.ensures ∙ c.count_changes.ensures c.args.rows.now refl c.args.instance), c.requires.changes)
+
+pub write_records-requires-clause-changes : goal.write_records-requires-clause-changes
+write_records-requires-clause-changes c =
+    changes_told _ _ _ _ _ c.in_ok-writer.ensures.changes c.in_ok-changes.ensures (c.count_changes.ensures c.args.rows.now refl c.args.instance) c.in_ok-write_changes.ensures
+
+pub write_records-requires-clause-left : goal.write_records-requires-clause-left
+write_records-requires-clause-left c = records_wait _ _ _ c.args.trail.now _ c.in_ok-writer.ensures.records c.in_ok-records.ensures c.in_ok-write_changes.ensures
+
+pub write_records-requires-clause-spellable : goal.write_records-requires-clause-spellable
+write_records-requires-clause-spellable c = c.requires.records
+
+pub finish-requires-clause-changes : goal.finish-requires-clause-changes
+finish-requires-clause-changes c =
+    no_change _ _ _
+    (changes_told _ _ _ _ _ c.in_ok-writer.ensures.changes c.in_ok-changes.ensures (c.count_changes.ensures c.args.rows.now refl c.args.instance) c.in_ok-write_changes.ensures)
+    c.in_ok-write_records.ensures
+
+pub finish-requires-clause-records : goal.finish-requires-clause-records
+finish-requires-clause-records c = records_done _ _ _ _ _ _ c.in_ok-writer.ensures.records c.in_ok-records.ensures c.in_ok-write_changes.ensures c.in_ok-write_records.ensures
+
+pub returns-clause-bytes : goal.returns-clause-bytes
+returns-clause-bytes c = c.in_ok-bytes.ensures.bytes _ _ _ (image_held _ _ _ _ _ _ c.in_ok-writer.ensures.holds c.in_ok-write_changes.ensures c.in_ok-write_records.ensures)
+
+pub returns-clause-spellable : goal.returns-clause-spellable
+returns-clause-spellable c = c.in_ok-bytes.ensures.spellable _ _ _ (image_held _ _ _ _ _ _ c.in_ok-writer.ensures.holds c.in_ok-write_changes.ensures c.in_ok-write_records.ensures)

@@ -1,0 +1,185 @@
+//! The image of what is kept, written entry by entry.
+ghost use Rattle.std.specs.Prelude.{◌≡◌, ◌≤◌, ◌<◌, ◌∷◌, ℕ, List, [], length, map, IfOk, OnOk};
+ghost use Rattle.au_entries.specs.declared.change.Change.TheVariants.{Start};
+ghost use Rattle.std.specs.List.{AllByRecursion};
+ghost use Rattle.rec_codec.specs.Changes.{IsChangeSpellable};
+ghost use Rattle.rec_codec.specs.Frames.{IsSpellable, framed};
+ghost use Rattle.rec_codec.specs.Images.{Wrote};
+ghost use Rattle.rec_codec.specs.Records.{trail_record};
+ghost use Rattle.au_image.specs.Image.{IsReady, IsWritable, Row, archive_changes, audit_changes, image_changes, image_of, kept_of, stored_changes};
+
+use crate::entries::Entry;
+use au_base::{Cell, List, Memory, RowNo, Stamp, TableName};
+use au_catalog::{Catalog, Change, Record};
+use au_grants::Grants;
+use rec_codec::ImageWriter;
+use std::alloc::Global;
+
+/// The framed image of this catalogue, these grants and rows and this trail, with the last stamp
+/// and the number of the instance. What has more changes or records than an image can count,
+/// 4,294,967,295, answers `Memory`.
+pub fn image(
+    alloc: Global,
+    catalog: &Catalog,
+    grants: &Grants,
+    rows: &[(TableName, RowNo, List<Cell>)],
+    trail: &[Record],
+    last: Stamp,
+    instance: u32,
+) -> Result<Vec<u8>, Memory>
+    requires { IsWritable (kept_of catalog.now grants.now rows.now trail.now last instance) }
+    ensures bytes { IfOk result (λ bytes. bytes.items ≡ framed (image_of (kept_of catalog.now grants.now rows.now trail.now last instance))) }
+    ensures spellable { IfOk result (λ bytes. IsSpellable (image_of (kept_of catalog.now grants.now rows.now trail.now last instance))) }
+{
+    let changes = count_of(count_changes(catalog, grants, rows.len()))?;
+    let records = count_of(trail.len() as u128)?;
+    let mut writer = ImageWriter::new(alloc, last, changes, records)?;
+    write_changes(&mut writer, catalog, grants, rows, instance)?;
+    write_records(&mut writer, trail)?;
+    let bytes = writer.finish()?;
+    Ok(bytes)
+}
+
+// An image counts its changes and its records in four bytes each.
+fn count_of(len: u128) -> Result<u32, Memory>
+    ensures { IfOk result (λ count. count ≡ len) }
+{
+    if len > u32::MAX as u128 {
+        return Err(Memory);
+    }
+    Ok(len as u32)
+}
+
+// How many changes the image has.
+fn count_changes(catalog: &Catalog, grants: &Grants, rows: usize) -> u128
+    ensures { (stored : List Row) → length stored ≡ rows → (instance : ℕ) → result ≡ length (image_changes (kept_of catalog.now grants.now stored [] (record { 0 = 0 }) instance)) }
+{
+    let names = catalog.users.len() as u128 + catalog.roles.len() as u128;
+    let system = grants.system_grants().len() as u128;
+    let role = grants.role_grants().len() as u128;
+    let object = grants.object_grants().len() as u128;
+    let stored = catalog.tables.len() as u128 + rows as u128;
+    let audit = catalog.policies.len() as u128 + catalog.enabled.len() as u128;
+    let fga = catalog.fga.len() as u128 + count_archive(catalog.archive) as u128;
+    names + system + role + stored + object + audit + fga + 1
+}
+
+fn count_archive(archive: Option<Stamp>) -> u8
+    ensures { result ≡ length (archive_changes archive) }
+{
+    match archive {
+        None => 0,
+        Some(_) => 1,
+    }
+}
+
+fn write_changes(
+    writer: &mut ImageWriter,
+    catalog: &Catalog,
+    grants: &Grants,
+    rows: &[(TableName, RowNo, List<Cell>)],
+    instance: u32,
+) -> Result<(), Memory>
+    requires { IsReady writer.old (image_changes (kept_of catalog.now grants.now rows.now [] (record { 0 = 0 }) instance)) }
+    ensures { OnOk result (Wrote writer.old writer.new (image_changes (kept_of catalog.now grants.now rows.now [] (record { 0 = 0 }) instance)) []) }
+{
+    write_group(writer, catalog.users.as_slice())?;
+    write_group(writer, catalog.roles.as_slice())?;
+    write_group(writer, grants.system_grants())?;
+    write_group(writer, grants.role_grants())?;
+    write_stored(writer, catalog, grants, rows, instance)?;
+    Ok(())
+}
+
+// What stands behind the grants of roles: tables, rows, object privileges, and what is behind them.
+fn write_stored(
+    writer: &mut ImageWriter,
+    catalog: &Catalog,
+    grants: &Grants,
+    rows: &[(TableName, RowNo, List<Cell>)],
+    instance: u32,
+) -> Result<(), Memory>
+    requires { IsReady writer.old (stored_changes (kept_of catalog.now grants.now rows.now [] (record { 0 = 0 }) instance)) }
+    ensures { OnOk result (Wrote writer.old writer.new (stored_changes (kept_of catalog.now grants.now rows.now [] (record { 0 = 0 }) instance)) []) }
+{
+    write_group(writer, catalog.tables.as_slice())?;
+    write_group(writer, rows)?;
+    write_group(writer, grants.object_grants())?;
+    write_audit(writer, catalog, instance)?;
+    Ok(())
+}
+
+// What stands behind the object privileges: policies, the archive timestamp and the instance.
+fn write_audit(writer: &mut ImageWriter, catalog: &Catalog, instance: u32) -> Result<(), Memory>
+    requires { IsReady writer.old (audit_changes catalog.now instance) }
+    ensures { OnOk result (Wrote writer.old writer.new (audit_changes catalog.now instance) []) }
+{
+    write_group(writer, catalog.policies.as_slice())?;
+    write_group(writer, catalog.enabled.as_slice())?;
+    write_group(writer, catalog.fga.as_slice())?;
+    write_archive(writer, catalog.archive)?;
+    write_start(writer, instance)?;
+    Ok(())
+}
+
+#[tactic(auto, using(rec_codec::specs::ImageLaws::none_wrote))]
+fn write_archive(writer: &mut ImageWriter, archive: Option<Stamp>) -> Result<(), Memory>
+    requires left { length (archive_changes archive) ≤ writer.old.changes }
+    requires spellable { AllByRecursion IsChangeSpellable (archive_changes archive) }
+    ensures { OnOk result (Wrote writer.old writer.new (archive_changes archive) []) }
+{
+    match archive {
+        None => Ok(()),
+        Some(stamp) => writer.push_change(&Change::Archive(Some(stamp))),
+    }
+}
+
+fn write_start(writer: &mut ImageWriter, instance: u32) -> Result<(), Memory>
+    requires left { 0 < writer.old.changes }
+    requires spellable { IsChangeSpellable (Start instance) }
+    ensures { OnOk result (Wrote writer.old writer.new (Start instance ∷ []) []) }
+{
+    writer.push_change(&Change::Start(instance))
+}
+
+// Writes the entries of a list, each as its change.
+fn write_group<T: Entry>(writer: &mut ImageWriter, entries: &[T]) -> Result<(), Memory>
+    requires left { length entries.now ≤ writer.old.changes }
+    requires spellable { AllByRecursion IsChangeSpellable (map T.as_change entries.now) }
+    ensures { OnOk result (Wrote writer.old writer.new (map T.as_change entries.now) []) }
+{
+    for entry in entries {
+        write_entry(writer, entry)?;
+    }
+    Ok(())
+}
+
+// The change is lent in a function of its own, which has no way out while it stands.
+fn write_entry<T: Entry>(writer: &mut ImageWriter, entry: &T) -> Result<(), Memory>
+    requires left { 0 < writer.old.changes }
+    requires spellable { IsChangeSpellable (T.as_change entry.now) }
+    ensures { OnOk result (Wrote writer.old writer.new (T.as_change entry.now ∷ []) []) }
+{
+    let change = entry.change()?;
+    write_change(writer, &change)
+}
+
+fn write_change(writer: &mut ImageWriter, change: &Change) -> Result<(), Memory>
+    requires left { 0 < writer.old.changes }
+    requires spellable { IsChangeSpellable change.now }
+    ensures { OnOk result (Wrote writer.old writer.new (change.now ∷ []) []) }
+{
+    writer.push_change(change)
+}
+
+fn write_records(writer: &mut ImageWriter, trail: &[Record]) -> Result<(), Memory>
+    requires changes { writer.old.changes ≡ 0 }
+    requires left { length trail.now ≤ writer.old.records }
+    requires spellable { AllByRecursion trail_record.IsSpellable trail.now }
+    ensures { OnOk result (Wrote writer.old writer.new [] trail.now) }
+{
+    for entry in trail {
+        writer.push_record(entry)?;
+    }
+    Ok(())
+}
