@@ -1,5 +1,5 @@
 -- Entries that stand in the order of their fields.
-use Rattle.std.proofs.Common.{◌≡◌, ◌∙◌, ℕ, Bool, true, false, not, cond, inl, inr, List, [], ◌∷◌, ◌++◌, refl, sym, ap, subst}
+use Rattle.std.proofs.Common.{◌≡◌, ◌∙◌, ◌⊎◌, ℕ, Bool, true, false, not, cond, inl, inr, List, [], ◌∷◌, ◌++◌, map, ◌&&◌, refl, sym, ap, ap₂, subst}
 use Rattle.std.specs.List.{Contains, filter, list_all}
 use Rattle.std.specs.declared.cmp.Ordering.{Ordering}
 use Rattle.std.specs.declared.cmp.Ordering.TheVariants.{Less, Equal, Greater}
@@ -9,7 +9,7 @@ use Rattle.std.specs.Cmp.Lexicographic.{bytes_decides, lists_ties, pointwise_dec
 use Rattle.std.proofs.lemmas.Bool.{and_parts, and_from}
 use Rattle.std.proofs.lemmas.Cmp.{lists_total, nat_cmp_total, on_total}
 use Rattle.std.proofs.lemmas.List.Folds.{list_all-append}
-use Rattle.au_base.specs.Order.{fields_before, is_in_order, placed}
+use Rattle.au_base.specs.Order.{IsTransitive, fields_before, is_in_order, placed}
 use Rattle.au_audit.proofs.Members.{here, kept, none, split, there}
 
 -- a test that each element passes
@@ -60,6 +60,15 @@ kept_in_order before test (x ∷ xs) ordered =
     let parts = and_parts (list_all (before x) xs) (is_in_order before xs) ordered in
     kept_at before test x xs (test x) parts.0 (kept_in_order before test xs parts.1)
 
+all_mapped : {X Y : Type 0} (test : Y → Bool) (f : X → Y) (xs : List X) → list_all test (map f xs) ≡ list_all (λ x. test (f x)) xs
+all_mapped test f [] = refl
+all_mapped test f (x ∷ xs) = ap (λ (rest : Bool). test (f x) && rest) (all_mapped test f xs)
+
+-- what entries are mapped to stands in order where they do by it
+pub mapped_order : {X Y : Type 0} (before : Y → Y → Bool) (f : X → Y) (xs : List X) → is_in_order before (map f xs) ≡ is_in_order (λ a b. before (f a) (f b)) xs
+mapped_order before f [] = refl
+mapped_order before f (x ∷ xs) = ap₂ (λ (a b : Bool). a && b) (all_mapped (before (f x)) f xs) (mapped_order before f xs)
+
 -- the order of entries by their fields
 abbrev pub cmp_by : {X : Type 0} → (X → List (List ℕ)) → X → X → Ordering
 cmp_by fields = on fields (slice_cmp (slice_cmp nat_cmp))
@@ -93,23 +102,37 @@ not_false : (b : Bool) → not b ≡ true → b ≡ false
 not_false true is = absurd (let e : false ≡ true = is in cc)
 not_false false is = refl
 
--- a new entry that the order tells from all others leaves them in order
-pub placed_in_order : {X : Type 0} (fields : X → List (List ℕ)) (entry : X) (xs : List X) → ((x : X) → Contains xs x → is_eq (cmp_by fields x entry) ≡ false)
-    → is_in_order (before_by fields) xs ≡ true → is_in_order (before_by fields) (placed (before_by fields) entry xs) ≡ true
-placed_in_order fields entry xs new ordered =
-    let before = before_by fields in
+-- a new entry before or behind each of the others leaves them in order
+pub placed_new : {X : Type 0} (before : X → X → Bool) → IsTransitive before → (entry : X) (xs : List X) → ((x : X) → Contains xs x → (before x entry ≡ true) ⊎ (before entry x ≡ true))
+    → is_in_order before xs ≡ true → is_in_order before (placed before entry xs) ≡ true
+placed_new {X} before transitive entry xs new ordered =
     let front = filter (λ other. before other entry) xs in
     let rest = filter (λ other. not (before other entry)) xs in
-    let behind : (y : _) → Contains rest y → before entry y ≡ true =
-    λ y has. before_back fields y entry (not_false _ (passes (λ other. not (before other entry)) xs y has)) (new y (kept (λ other. not (before other entry)) xs y has)) in
+    let behind : (y : X) → Contains rest y → before entry y ≡ true =
+    λ y has. (let first = passes (λ other. not (before other entry)) xs y has in
+    elim (new y (kept (λ other. not (before other entry)) xs y has)) [
+      | inl less ↦ absurd (let e : true ≡ false = sym less ∙ not_false _ first in cc)
+      | inr more ↦ more
+    ]) in
     joined_in_order before front (entry ∷ rest)
     (kept_in_order before (λ other. before other entry) xs ordered)
     (and_from _ _ (all_to (before entry) rest behind) (kept_in_order before (λ other. not (before other entry)) xs ordered))
     (λ x y has later. (let first = passes (λ other. before other entry) xs x has in
     elim (split entry rest y later) [
       | inl same ↦ subst (λ z. before x z ≡ true) same first
-      | inr last ↦ before_joined fields x entry y first (behind y last)
+      | inr last ↦ transitive x entry y first (behind y last)
     ]))
+
+either : (b : Bool) (P : Type 0) → (b ≡ false → P) → (b ≡ true) ⊎ P
+either true P other = inl refl
+either false P other = inr (other refl)
+
+-- a new entry that the order tells from all others leaves them in order
+pub placed_in_order : {X : Type 0} (fields : X → List (List ℕ)) (entry : X) (xs : List X) → ((x : X) → Contains xs x → is_eq (cmp_by fields x entry) ≡ false)
+    → is_in_order (before_by fields) xs ≡ true → is_in_order (before_by fields) (placed (before_by fields) entry xs) ≡ true
+placed_in_order fields entry xs new ordered =
+    placed_new (before_by fields) (before_joined fields) entry xs
+    (λ x has. either (before_by fields x entry) _ (λ less. before_back fields x entry less (new x has))) ordered
 
 -- fields that the order doesn't tell apart are the same
 pub same_fields : (a b : List (List ℕ)) → is_eq (slice_cmp (slice_cmp nat_cmp) a b) ≡ true → a ≡ b

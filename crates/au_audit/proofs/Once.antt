@@ -1,11 +1,12 @@
 -- Names that are kept once: one more name is kept where it isn't among those that are.
-use Rattle.std.proofs.Common.{◌≡◌, ◌∙◌, ℕ, Bool, true, false, not, ◌||◌, cond, if◌then◌else◌, ◌+◌, ◌<◌, List, [], ◌∷◌, ◌++◌, get_or, length, take, refl, sym, ap}
+use Rattle.std.proofs.Common.{◌≡◌, ◌∙◌, ℕ, Bool, true, false, not, ◌||◌, cond, if◌then◌else◌, ◌+◌, ◌<◌, List, [], ◌∷◌, ◌++◌, get_or, length, map, take, refl, sym, ap, ap₂}
 use Rattle.std.specs.List.{filter, list_any}
 use Rattle.std.specs.Str.{bytes_eq}
 use Rattle.std.proofs.lemmas.List.{append-nil, take_more}
 use Rattle.std.proofs.lemmas.List.Elements.{filter-append}
 use Rattle.std.proofs.lemmas.Slice.Eq.{bytes_eq-Decides}
-use Rattle.au_entries.specs.Enabling.{each_once, is_among}
+use Rattle.au_entries.specs.declared.policy.Outcomes.{Outcomes}
+use Rattle.au_entries.specs.Enabling.{each_once, is_among, is_listed, widened, with_outcomes, with_users, without_users}
 
 -- the names but this one
 abbrev but : List ℕ → List (List ℕ) → List (List ℕ)
@@ -69,3 +70,60 @@ pub once_pushed : (names once after : List (List ℕ)) (i : ℕ) (name : List �
 once_pushed names once after i name within at before pushed =
     pushed ∙ ap (λ (o : List (List ℕ)). if is_among o name then o else o ++ name ∷ []) before ∙ sym (once_more (take i names) name)
     ∙ ap (λ (last : List ℕ). each_once (take i names ++ last ∷ [])) at ∙ ap each_once (sym (take_more names i name within))
+
+-- ---- which names are kept
+
+among_once_at : (x name : List ℕ) (names : List (List ℕ)) (b : Bool) → bytes_eq name x ≡ b → is_among (each_once names) name ≡ is_among names name
+    → (b || is_among (but x (each_once names)) name) ≡ (b || is_among names name)
+among_once_at x name names true is more = refl
+among_once_at x name names false is more = among_but (each_once names) x name is ∙ more
+
+-- a name is among the names that are kept where it is among all
+pub among_once : (names : List (List ℕ)) (name : List ℕ) → is_among (each_once names) name ≡ is_among names name
+among_once [] name = refl
+among_once (x ∷ xs) name = among_once_at x name xs (bytes_eq name x) refl (among_once xs name)
+
+or_last : (a b : Bool) → (a || (b || false)) ≡ (b || a)
+or_last true true = refl
+or_last true false = refl
+or_last false true = refl
+or_last false false = refl
+
+-- one more name is among those with it
+among_last : (names : List (List ℕ)) (name other : List ℕ) → is_among (names ++ name ∷ []) other ≡ (bytes_eq other name || is_among names other)
+among_last [] name other = or_last false (bytes_eq other name)
+among_last (x ∷ xs) name other = ap (λ (b : Bool). bytes_eq other x || b) (among_last xs name other) ∙ or_turned (bytes_eq other x) (bytes_eq other name) (is_among xs other)
+  where
+    or_turned : (a b c : Bool) → (a || (b || c)) ≡ (b || (a || c))
+    or_turned true true c = refl
+    or_turned true false c = refl
+    or_turned false b c = refl
+
+there_at : (names : List (List ℕ)) (name other : List ℕ) (b : Bool) → bytes_eq other name ≡ b → is_among names name ≡ true → is_among names other ≡ (b || is_among names other)
+there_at names name other true same there = ap (is_among names) (same_name other name same) ∙ there
+there_at names name other false same there = refl
+
+among_pushed_at : (names : List (List ℕ)) (name other : List ℕ) (b : Bool) → is_among names name ≡ b → is_among (if b then names else names ++ name ∷ []) other ≡ (bytes_eq other name || is_among names other)
+among_pushed_at names name other true there = there_at names name other (bytes_eq other name) refl there
+among_pushed_at names name other false there = among_last names name other
+
+pub among_pushed : (names : List (List ℕ)) (name other : List ℕ) → is_among (if is_among names name then names else names ++ name ∷ []) other ≡ (bytes_eq other name || is_among names other)
+among_pushed names name other = among_pushed_at names name other (is_among names name) refl
+
+-- ---- listed users
+
+-- AUDIT BY by the names that are kept
+pub with_once : (users once names : List (List ℕ)) (outcomes : Outcomes) (listed wider all : List (List ℕ × Outcomes)) → once ≡ each_once users → ((user : List ℕ) → is_among names user ≡ is_listed listed user)
+    → wider ≡ map (widened once outcomes) listed → all ≡ wider ++ map (λ user. (user, outcomes)) (filter (λ user. not (is_among names user)) once) → all ≡ with_users users outcomes listed
+with_once users once names outcomes listed wider all is there widens pushes =
+    let test : is_among once ≡ is_among users = λ i. λ name. (ap (λ (ns : List (List ℕ)). is_among ns name) is ∙ among_once users name) i in
+    pushes
+    ∙ ap₂ (λ (w : List (List ℕ × Outcomes)) (ns : List (List ℕ)). w ++ map (λ user. (user, outcomes)) ns)
+    (widens ∙ ap (λ (among : List ℕ → Bool). map (λ (entry : List ℕ × Outcomes). if among entry.0 then (entry.0, with_outcomes outcomes entry.1) else entry) listed) test)
+    (ap₂ (λ (among : List ℕ → Bool) (ns : List (List ℕ)). filter (λ user. not (among user)) ns) (λ i. λ user. there user i) is)
+
+-- NOAUDIT BY by the names that are kept
+pub without_once : (users once : List (List ℕ)) (listed left : List (List ℕ × Outcomes)) → once ≡ each_once users → left ≡ without_users once listed → left ≡ without_users users listed
+without_once users once listed left is leaves =
+    let test : is_among once ≡ is_among users = λ i. λ name. (ap (λ (ns : List (List ℕ)). is_among ns name) is ∙ among_once users name) i in
+    leaves ∙ ap (λ (among : List ℕ → Bool). filter (λ (entry : List ℕ × Outcomes). not (among entry.0)) listed) test

@@ -1,11 +1,13 @@
 //! What AUDIT and NOAUDIT make of an enablement.
-ghost use Rattle.std.specs.Prelude.{◌≡◌, ◌++◌, ◌∷◌, [], if◌then◌else◌, IfOk, OnOk, map, not};
+ghost use Rattle.std.specs.Prelude.{◌≡◌, ◌++◌, IfOk, OnOk, map, not};
 ghost use Rattle.std.specs.List.{filter};
-ghost use Rattle.au_entries.specs.Enabling.{audit_made, audited_by, audited_except, each_once, for_users, is_among, is_listed, newly_listed, noaudit_made, noaudited, noaudited_by, outcomes_named, widened, with_outcomes, with_users, without_users};
+ghost use Rattle.au_entries.specs.Enabling.{audit_made, audited_by, audited_except, each_once, for_users, is_among, newly_listed, noaudit_made, noaudited, noaudited_by, outcomes_named, widened, with_outcomes, with_users, without_users};
 ghost use Rattle.au_entries.specs.declared.policy.Outcomes.{Outcomes};
 
+use crate::names::{each_once, is_among, listed_names};
 use au_base::{Code, List, Memory, Name};
 use au_entries::{Enabled, Outcomes};
+use indexmap::IndexSet;
 use sql_ast::{AuditedUsers, Whenever};
 use std::alloc::Global;
 
@@ -23,7 +25,8 @@ pub fn audited(
     match users {
         None => Ok(audited_except(Vec::new(alloc), outcomes, enabled)),
         Some(AuditedUsers::Except(users)) => {
-            let users = each_once(alloc, users.as_slice())?;
+            let once = each_once(alloc, users.as_slice())?;
+            let users = once.as_slice().to_vec(alloc)?;
             Ok(audited_except(users, outcomes, enabled))
         }
         Some(AuditedUsers::By(users)) => audited_by(alloc, users.as_slice(), outcomes, enabled),
@@ -72,33 +75,6 @@ fn with_outcomes(added: Outcomes, standing: Outcomes) -> Outcomes
         success: standing.success || added.success,
         failure: standing.failure || added.failure,
     }
-}
-
-fn is_among(names: &[Name], name: &Name) -> bool
-    ensures { result ≡ is_among names.now name.now }
-{
-    names.iter().any(|other| *name == *other)
-}
-
-// The names as they are first written, each once.
-fn each_once(alloc: Global, names: &[Name]) -> Result<Vec<Name>, Memory>
-    ensures { IfOk result (λ once. once.items ≡ each_once names.now) }
-{
-    let mut once = Vec::new(alloc);
-    for name in names {
-        push_once(&mut once, name)?;
-    }
-    Ok(once)
-}
-
-// Adds the name where it isn't there.
-fn push_once(once: &mut Vec<Name>, name: &Name) -> Result<(), Memory>
-    ensures { OnOk result (once.new.items ≡ (if is_among once.old.items name.now then once.old.items else once.old.items ++ name.now ∷ [])) }
-{
-    if !is_among(once.as_slice(), name) {
-        once.push(name.clone()?)?;
-    }
-    Ok(())
 }
 
 fn audited_except(users: Vec<Name>, outcomes: Outcomes, enabled: &Enabled) -> Result<Enabled, Code>
@@ -189,19 +165,20 @@ fn with_users(
 ) -> Result<Vec<(Name, Outcomes)>, Memory>
     ensures { IfOk result (λ all. all.items ≡ with_users users.now outcomes listed.now) }
 {
-    let mut all = widened(alloc, users, outcomes, listed)?;
     let once = each_once(alloc, users)?;
-    push_new(&mut all, once.as_slice(), outcomes, listed)?;
+    let there = listed_names(alloc, listed)?;
+    let mut all = widened(alloc, &once, outcomes, listed)?;
+    push_new(&mut all, once.as_slice(), outcomes, &there)?;
     Ok(all)
 }
 
 fn widened(
     alloc: Global,
-    users: &[Name],
+    users: &IndexSet<Name>,
     outcomes: Outcomes,
     listed: &[(Name, Outcomes)],
 ) -> Result<Vec<(Name, Outcomes)>, Memory>
-    ensures { IfOk result (λ all. all.items ≡ map (widened users.now outcomes) listed.now) }
+    ensures { IfOk result (λ all. all.items ≡ map (widened users.now.keys outcomes) listed.now) }
 {
     let mut all = Vec::new(alloc);
     for entry in listed {
@@ -211,11 +188,11 @@ fn widened(
 }
 
 fn widened_entry(
-    users: &[Name],
+    users: &IndexSet<Name>,
     outcomes: Outcomes,
     entry: &(Name, Outcomes),
 ) -> Result<(Name, Outcomes), Memory>
-    ensures { IfOk result (λ after. after ≡ widened users.now outcomes entry.now) }
+    ensures { IfOk result (λ after. after ≡ widened users.now.keys outcomes entry.now) }
 {
     if is_among(users, &entry.0) {
         Ok((entry.0.clone()?, with_outcomes(outcomes, entry.1)))
@@ -229,22 +206,16 @@ fn push_new(
     all: &mut Vec<(Name, Outcomes)>,
     users: &[Name],
     outcomes: Outcomes,
-    listed: &[(Name, Outcomes)],
+    listed: &IndexSet<Name>,
 ) -> Result<(), Memory>
-    ensures { OnOk result (all.new.items ≡ all.old.items ++ map (λ user. (user, outcomes)) (filter (λ user. not (is_listed listed.now user)) users.now)) }
+    ensures { OnOk result (all.new.items ≡ all.old.items ++ map (λ user. (user, outcomes)) (filter (λ user. not (is_among listed.now.keys user)) users.now)) }
 {
     for user in users {
-        if !is_listed(listed, user) {
+        if !is_among(listed, user) {
             all.push((user.clone()?, outcomes))?;
         }
     }
     Ok(())
-}
-
-fn is_listed(listed: &[(Name, Outcomes)], user: &Name) -> bool
-    ensures { result ≡ is_listed listed.now user.now }
-{
-    listed.iter().any(|entry| *user == entry.0)
 }
 
 // The listed users but these.
@@ -254,6 +225,17 @@ fn without_users(
     listed: &[(Name, Outcomes)],
 ) -> Result<Vec<(Name, Outcomes)>, Memory>
     ensures { IfOk result (λ left. left.items ≡ without_users users.now listed.now) }
+{
+    let once = each_once(alloc, users)?;
+    without(alloc, &once, listed)
+}
+
+fn without(
+    alloc: Global,
+    users: &IndexSet<Name>,
+    listed: &[(Name, Outcomes)],
+) -> Result<Vec<(Name, Outcomes)>, Memory>
+    ensures { IfOk result (λ left. left.items ≡ without_users users.now.keys listed.now) }
 {
     let mut left = Vec::new(alloc);
     for entry in listed {

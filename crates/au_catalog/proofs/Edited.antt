@@ -18,8 +18,7 @@ use Rattle.au_catalog.specs.declared.catalog.Catalog.{Catalog}
 use Rattle.au_catalog.specs.declared.edit.Edit.{Edit}
 use Rattle.au_catalog.specs.declared.edit.Edit.TheVariants.{PutUser, DropUser, PutRole, DropRole, PutTable, DropTable, PutPolicy, DropPolicy, Enable, PutFga, DropFga, SetArchive}
 use Rattle.au_catalog.specs.Settling.{catalog_after, catalog_after_all}
-use Rattle.au_catalog.specs.Staging.{IsOrdered, edit_of, edits_of}
-use Rattle.au_catalog.specs.descent.Editing.{edited, edited_all}
+use Rattle.au_catalog.specs.Staging.{IsOrdered, edit_of, edited, edited_all, edits_of}
 use Rattle.au_catalog.specs.descent.Keys.{fields_total, names_total}
 use Rattle.au_catalog.proofs.Rising.{Rises, in_order, kept_rises, mapped_rises, put_rises, rises}
 use Rattle.sql_ast.specs.declared.expression.Expr.{Expr}

@@ -1,13 +1,13 @@
 //! Edits made in vectors of what the catalogue has.
-ghost use Rattle.std.specs.Prelude.{◌≡◌, ◌≤◌, ◌<◌, ◌+◌, IsTrue, false, length, map, vec_capacity, vec_len};
+ghost use Rattle.std.specs.Prelude.{◌≡◌, ◌≤◌, ◌<◌, ◌+◌, ◌∷◌, [], IsTrue, false, length, map, vec_capacity, vec_len};
 ghost use Rattle.std.specs.Str.{bytes_eq};
 ghost use Rattle.au_base.specs.Order.{fields_before, is_in_order, name_before};
 ghost use Rattle.au_base.specs.Sameness.{same_table};
 ghost use Rattle.au_entries.specs.declared.change.Change.TheVariants as change;
 ghost use Rattle.au_entries.specs.Changing.{enabled_after, is_fga, is_on, put_in_order, by_name, with_enablement, without_user};
 ghost use Rattle.au_grants.specs.Changing.{without as without_listed};
-ghost use Rattle.au_catalog.specs.Staging.{IsOrdered};
-ghost use Rattle.au_catalog.specs.descent.Editing.{HasRoom, KeepsRoom, edited, edited_all, listed};
+ghost use Rattle.au_catalog.specs.Staging.{IsOrdered, edited, edited_all};
+ghost use Rattle.au_catalog.specs.descent.Editing.{HasRoom, KeepsRoom, listed};
 
 use crate::edit::Edit;
 use crate::lists::CatalogLists;
@@ -19,8 +19,9 @@ use au_entries::{AuditPolicy, Enabled, FgaPolicy, Outcomes, Table};
 /// memory.
 pub fn make_all(lists: &mut CatalogLists, edits: Vec<Edit>)
     requires order { IsOrdered (listed lists.old) }
-    requires room { HasRoom (length edits.items) lists.old }
-    ensures { listed lists.new ≡ edited_all edits.items (listed lists.old) }
+    requires room { HasRoom edits.items lists.old }
+    ensures after { listed lists.new ≡ edited_all edits.items (listed lists.old) }
+    ensures order { IsOrdered (listed lists.new) }
 {
     let mut rest = edits.into_iter();
     while let Some(edit) = rest.next() {
@@ -31,9 +32,9 @@ pub fn make_all(lists: &mut CatalogLists, edits: Vec<Edit>)
 /// Makes the edit. There is room for what it puts in, and the call takes no memory.
 fn make(lists: &mut CatalogLists, edit: Edit)
     requires order { IsOrdered (listed lists.old) }
-    requires room { HasRoom 1 lists.old }
+    requires room { HasRoom (edit ∷ []) lists.old }
     ensures after { listed lists.new ≡ edited edit (listed lists.old) }
-    ensures room { KeepsRoom lists.old lists.new }
+    ensures room { KeepsRoom edit lists.old lists.new }
 {
     match edit {
         Edit::PutUser(name, verifier) => put_reserved(&mut lists.users, (name, verifier)),
@@ -63,7 +64,7 @@ fn put_role(roles: &mut Vec<Name>, name: Name)
 
 fn drop_user(lists: &mut CatalogLists, user: &Name)
     ensures after { listed lists.new ≡ edited (Edit.DropUser user.now) (listed lists.old) }
-    ensures room { KeepsRoom lists.old lists.new }
+    ensures room { KeepsRoom (Edit.DropUser user.now) lists.old lists.new }
 {
     drop_named_user(&mut lists.users, user);
     drop_enabled_user(&mut lists.enabled, user);
@@ -141,7 +142,7 @@ fn drop_role(roles: &mut Vec<Name>, name: &Name)
 
 fn drop_table(lists: &mut CatalogLists, table: &TableName)
     ensures after { listed lists.new ≡ edited (Edit.DropTable table.now) (listed lists.old) }
-    ensures room { KeepsRoom lists.old lists.new }
+    ensures room { KeepsRoom (Edit.DropTable table.now) lists.old lists.new }
 {
     drop_named_table(&mut lists.tables, table);
     drop_on_table(&mut lists.fga, table);

@@ -2,13 +2,18 @@
 #![tactic(auto)]
 
 mod catalog;
+mod counts;
 mod edit;
 mod editing;
+mod edits;
 mod keyed;
+mod kind;
 mod laws;
 mod lists;
 mod placing;
 mod room;
+mod staged;
+mod staging;
 
 pub use au_audit::as_row;
 pub use au_entries::{
@@ -17,4 +22,5 @@ pub use au_entries::{
     matches,
 };
 pub use catalog::Catalog;
-pub use laws::catalogues_change_by_their_parts;
+pub use laws::{catalogues_change_by_their_parts, edits_make_what_changes_make};
+pub use staged::Staged;

@@ -12,7 +12,7 @@ use Rattle.std.proofs.lemmas.Bool.Decides.{nat_tests}
 use Rattle.std.proofs.lemmas.Map.Made.{distinct_count-from_IsDistinct}
 use Rattle.std.proofs.lemmas.Slice.Eq.{bytes_eq-Decides}
 use Rattle.au_grants.specs.Order.{comes_before, is_in_order}
-use Rattle.rec_codec.specs.Spelling.{is_without_repeats}
+use Rattle.rec_parts.specs.Spelling.{is_without_repeats}
 use Rattle.au_entries.specs.Demand.{placed}
 
 pub all_joined : {X : Type 0} (P : X → Type 0) (xs ys : List X) → AllByRecursion P xs → AllByRecursion P ys → AllByRecursion P (xs ++ ys)

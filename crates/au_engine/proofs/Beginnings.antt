@@ -8,7 +8,7 @@ use Rattle.au_base.specs.BuiltIn.{sys, audit_admin, audit_viewer}
 use Rattle.au_base.specs.Naming.{IsName}
 use Rattle.au_entries.specs.declared.kept.Kept.{Kept}
 use Rattle.rec_codec.specs.Changes.{IsChangeSpellable, parts, policy, role_grant, system_grant, user, when}
-use Rattle.rec_codec.specs.Parts.{action, names, privilege, privileges_in_order, table, truth, verifier}
+use Rattle.rec_parts.specs.Parts.{action, names, privilege, privileges_in_order, table, truth, verifier}
 use Rattle.au_engine.specs.Image.{nothing, policy_change, role_grant_change, system_change, user_change}
 use Rattle.au_engine.specs.Lawful.{CanBeWritten, IsLawful, IsLawfulState, ora_mandatory}
 use Rattle.au_engine.specs.Opening.{each_privilege, granted_to_sys, opening, opening_role_grants, opening_system, opening_users, p_all, policy_of_all}

@@ -3,7 +3,6 @@ pub mod Apart
 pub mod Beginnings
 pub mod Events
 pub mod Following
-pub mod Histories
 pub mod Imaged
 pub mod Mapped
 pub mod Replays

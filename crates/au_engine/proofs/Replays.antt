@@ -22,7 +22,7 @@ use Rattle.au_grants.specs.Order.{AreInOrder, comes_before, is_in_order, placed,
 use Rattle.au_grants.specs.Rights.{Grants, RoleEntry, SystemEntry}
 use Rattle.rec_codec.specs.Changes.{IsChangeSpellable, change, role_grant, system_grant}
 use Rattle.rec_codec.specs.Frames.{body}
-use Rattle.rec_codec.specs.Parts.{stamp, truth}
+use Rattle.rec_parts.specs.Parts.{stamp, truth}
 use Rattle.rec_codec.specs.Records.{trail_record}
 use Rattle.au_engine.specs.Image.{enablement_change, policy_change, role_change, role_grant_change, system_change, user_change, written_condition}
 use Rattle.au_engine.specs.Lawful.{CanBeWritten, IsLawful, IsPlain, ora_mandatory, policy_names}

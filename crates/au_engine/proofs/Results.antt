@@ -1,4 +1,4 @@
--- What a step, a run and a history come to is one.
+-- What a step and a run come to is one.
 use Rattle.std.proofs.Common.{◌≡◌, ◌∙◌, ℕ, List, [], ◌∷◌, refl, sym, ap, subst, inl, inr}
 use Rattle.std.specs.Prelude.{Option, Some, None, MatchOption, Result}
 use Rattle.au_base.specs.declared.action.Action.{Action}
@@ -23,8 +23,7 @@ use Rattle.au_engine.specs.declared.session.Session.{Session}
 use Rattle.au_engine.specs.Answering.{code_reply, reply_of}
 use Rattle.au_engine.specs.Deciding as g
 use Rattle.au_engine.specs.Deciding.{Decides, DecidesEnabling, DecidesSelect, Enables, MayAudit, by_right}
-use Rattle.au_engine.specs.History as history
-use Rattle.au_engine.specs.History.{Entry, IsHistory, Run, entries_of}
+use Rattle.au_engine.specs.Runs.{Run}
 use Rattle.sql_ast.specs.declared.statement.Statement.{Statement}
 use Rattle.sql_parse.specs.Statements.{IsUnread, Reads}
 use Rattle.au_engine.specs.Reading.{IsUnbuilt, ReadsForm, form_of, unread, not_built}
@@ -164,32 +163,3 @@ one_run one m n k [] (r ∷ rs) ss x y = absurd x
 one_run one m n k [] [] (s ∷ ss) x y = absurd y
 one_run one m n k (e ∷ es) [] ss x y = absurd x
 one_run one m n k (e ∷ es) (r ∷ rs) [] x y = absurd y
-
-same_step : (m n : State) (c d : ClientNo) (a b : Ask) (p q : ℕ) (r s : Reply) → c ≡ d → a ≡ b → p ≡ q → r ≡ s → StepAt m c a (stamp_of m p) r n → StepAt m d b (stamp_of m q) s n
-same_step m n c d a b p q r s ec ea ep er h =
-    subst (λ (x : ClientNo). StepAt m x b (stamp_of m q) s n) ec
-    (subst (λ (x : Ask). StepAt m c x (stamp_of m q) s n) ea
-    (subst (λ (x : ℕ). StepAt m c a (stamp_of m x) s n) ep (subst (λ (x : Reply). StepAt m c a (stamp_of m p) x n) er h)))
-
--- runs with the same entries end in the same state
-one_end : Determined → (m n k : State) (es fs : List Event) (rs ss : List Reply) → Run m es rs n → Run m fs ss k → entries_of es rs ≡ entries_of fs ss → n ≡ k
-one_end one m n k [] [] [] [] x y same = x ∙ sym y
-one_end one m n k (e ∷ es) (f ∷ fs) (r ∷ rs) (s ∷ ss) x y same =
-    let there : StepAt m f.client f.ask (stamp_of m f.reading) s x.0 = same_step m x.0 e.client f.client e.ask f.ask e.reading f.reading r s (cc) (cc) (cc) (cc) x.1 in
-    let first : (s ≡ s) × (x.0 ≡ y.0) = one_step one m x.0 y.0 f.client f.ask (stamp_of m f.reading) s s there y.1 in
-    one_end one y.0 n k es fs rs ss (subst (λ (b : State). Run b es rs n) first.1 x.2) y.2 (cc)
-one_end one m n k [] (f ∷ fs) [] (s ∷ ss) x y same = cc
-one_end one m n k (e ∷ es) [] (r ∷ rs) [] x y same = cc
-one_end one m n k [] fs (r ∷ rs) ss x y same = absurd x
-one_end one m n k (e ∷ es) fs [] ss x y same = absurd x
-one_end one m n k [] [] [] (s ∷ ss) x y same = absurd y
-one_end one m n k [] (f ∷ fs) [] [] x y same = absurd y
-one_end one m n k (e ∷ es) [] (r ∷ rs) (s ∷ ss) x y same = absurd y
-one_end one m n k (e ∷ es) (f ∷ fs) (r ∷ rs) [] x y same = absurd y
-
--- what happened leads to one state
-pub one_history : Determined → (m n : State) (entries : List Entry) → IsHistory entries m → IsHistory entries n → m ≡ n
-one_history one m n (history.Opened k ∷ entries) x y =
-    one_end one k m n x.events y.events x.replies y.replies x.run y.run (sym x.told ∙ y.told)
-one_history one m n (history.Stepped client ask reading reply ∷ entries) x y = absurd x
-one_history one m n [] x y = absurd x

@@ -38,7 +38,7 @@ use Rattle.au_priv.specs.declared.allowed.Allowed.TheVariants.{Owner, Object, Sy
 use Rattle.au_grants.specs.declared.grants.Grants.{Grants}
 use Rattle.au_priv.specs.Allowing.{AllowedOnTrail}
 use Rattle.rec_codec.specs.Changes.{IsChangeSpellable, IsEnabledSpellable, enabled, enablement}
-use Rattle.rec_codec.specs.Parts.{names, outcomes, privilege, privileges_in_order}
+use Rattle.rec_parts.specs.Parts.{names, outcomes, privilege, privileges_in_order}
 use Rattle.rec_codec.specs.Records.{trail_record}
 use Rattle.sql_lex.specs.declared.token.Token.{Token}
 use Rattle.sql_lex.specs.Tokens.{AreTokens}

@@ -20,10 +20,10 @@ use Rattle.au_entries.specs.declared.kept.Kept.{Kept}
 use Rattle.au_entries.specs.declared.policy.AuditPolicy.{AuditPolicy}
 use Rattle.au_entries.specs.Demand.{demanded, demands, is_mandatory, placed}
 use Rattle.rec_codec.specs.Changes.{IsChangeSpellable, policy}
-use Rattle.rec_codec.specs.Parts.{name, text, stamp, session, action, return_code, names, privileges_in_order}
+use Rattle.rec_parts.specs.Parts.{name, text, stamp, session, action, return_code, names, privileges_in_order, kind}
 use Rattle.rec_codec.specs.Records as records
-use Rattle.rec_codec.specs.Records.{kind, done_action, statement_text, origin, deed, grounds, trail_record}
-use Rattle.rec_codec.specs.Spelling.{IsOptionSpellable}
+use Rattle.rec_codec.specs.Records.{done_action, statement_text, origin, deed, grounds, trail_record}
+use Rattle.rec_parts.specs.Spelling.{IsOptionSpellable}
 use Rattle.au_engine.specs.declared.place.Place.{Place}
 use Rattle.au_engine.specs.Auditing.{holds_always, object_name, record_of, records_naming, records_of, schema_of}
 use Rattle.au_engine.specs.Image.{policy_change}

@@ -5,7 +5,6 @@ pub mod Deciding
 pub mod Drafting
 pub mod Forms
 pub mod Framing
-pub mod History
 pub mod Image
 pub mod Lawful
 pub mod Opening
@@ -13,6 +12,7 @@ pub mod Prepared
 pub mod Reading
 pub mod Replaying
 pub mod Returning
+pub mod Runs
 pub mod Staging
 pub mod State
 pub mod Step

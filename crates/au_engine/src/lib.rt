@@ -31,7 +31,7 @@ pub use engine::Engine;
 pub use form::BuiltForm;
 pub use frame_laws::{frames_lead_on, images_come_back, starts_lead_on};
 pub use framing::asks_are_text;
-pub use laws::{histories_go_on, one_result};
+pub use laws::one_result;
 pub use opening_state::{opening, verifier};
 pub use place::Place;
 pub use prepared::{Prepared, SessionChange};

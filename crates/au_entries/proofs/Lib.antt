@@ -3,6 +3,7 @@ mod AllOf
 mod Bounds
 mod DemandedNames
 mod Founded
+mod GrantedTo
 mod Groups
 mod Imaged
 mod Members

@@ -10,6 +10,7 @@ use crate::facts::Facts;
 use crate::policy::{AuditPolicy, Enabled, Outcomes};
 use au_base::{
     Action, Code, Name, Privilege, TableName, is_same_action, is_same_privilege, is_same_table,
+    same_is_equal,
 };
 use au_grants::Grants;
 
@@ -94,13 +95,15 @@ fn has_role(roles: &[Name], facts: &Facts, grants: &Grants) -> bool
 fn covers_role(grants: &Grants, used: &[Privilege], role: &Name) -> bool
     ensures { result ≡ list_any (λ privilege. list_any (grants_privilege role.now privilege) grants.now.system) used.now }
 {
-    used.iter().any(|privilege| is_granted(grants.system_grants(), role, *privilege))
+    used.iter()
+        .any(|privilege| is_granted(grants, role, *privilege))
 }
 
-fn is_granted(system: &[(Name, Privilege, bool)], role: &Name, privilege: Privilege) -> bool
-    ensures { result ≡ list_any (grants_privilege role.now privilege) system.now }
+fn is_granted(grants: &Grants, role: &Name, privilege: Privilege) -> bool
+    ensures { result ≡ list_any (grants_privilege role.now privilege) grants.now.system }
 {
-    system.iter().any(|entry| entry.0 == *role && is_same_privilege(entry.1, privilege))
+    same_is_equal();
+    grants.is_privilege_granted(role, privilege)
 }
 
 fn lists_user(users: &[(Name, Outcomes)], user: &Name, code: Code) -> bool

@@ -11,7 +11,8 @@ use Rattle.au_base.specs.Actions as actions
 use Rattle.au_base.specs.Privileges as privileges
 use Rattle.au_grants.specs.Changing.{role_to}
 use Rattle.au_grants.specs.descent.Halving.{IsPlaceOf}
-use Rattle.au_grants.specs.Holding.{grants_role, grants_privilege, grants_any_table, grants_object, grants_some_object, is_any_table, same_privilege}
+use Rattle.au_grants.specs.Holding.{grants_role, grants_privilege, grants_object, is_any_table, same_privilege}
+use Rattle.au_grants.specs.descent.Direct.{grants_any_table, grants_some_object}
 use Rattle.au_grants.specs.Order.{is_in_order, object_before, object_fields, role_before, role_fields, system_before, system_fields}
 use Rattle.au_grants.specs.Rights.{Name, ObjectEntry, RoleEntry, SystemEntry}
 use Rattle.au_grants.specs.Holding.{grants_privilege_as, grants_role_as}

@@ -15,7 +15,8 @@ use Rattle.au_base.specs.declared.privilege.TheConstants.Privilege as AllPrivile
 use Rattle.au_base.specs.declared.table.TableName.{TableName}
 use Rattle.au_base.specs.Privileges as privileges
 use Rattle.au_base.specs.Actions as actions
-use Rattle.au_grants.specs.Holding.{same_table, same_privilege, same_action, grants_role, grants_privilege, grants_any_table, grants_object, grants_some_object, is_any_table}
+use Rattle.au_grants.specs.Holding.{same_table, same_privilege, same_action, grants_role, grants_privilege, grants_object, is_any_table}
+use Rattle.au_grants.specs.descent.Direct.{grants_any_table, grants_some_object}
 use Rattle.au_grants.specs.Rights.{Name, SystemEntry, RoleEntry, ObjectEntry, IsRoleGranted}
 use Rattle.au_grants.specs.Holding.{grants_privilege_as, grants_role_as}
 use Rattle.au_grants.proofs.Members.{any_from, any_to}

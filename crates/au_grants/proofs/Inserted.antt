@@ -1,14 +1,8 @@
 -- What is inserted at the place that halving finds stands in order.
-use Rattle.std.proofs.Common.{◌≡◌, ◌≤◌, ◌<◌, ℕ, zero, suc, cond, Bool, true, false, not, List, [], ◌∷◌, ◌++◌, length, get_or, take, drop, insert, refl, sym, ap, subst, ◌∙◌, arith}
+use Rattle.std.proofs.Common.{◌≡◌, ◌≤◌, ◌<◌, ℕ, zero, suc, cond, Bool, true, false, not, List, [], ◌∷◌, ◌++◌, length, get_or, take, drop, insert, refl, sym, ap, ◌∙◌, arith}
 use Rattle.std.specs.List.{filter}
-use Rattle.au_base.specs.declared.action.Action.{Action}
-use Rattle.au_base.specs.declared.privilege.Privilege.{Privilege}
-use Rattle.au_base.specs.declared.table.TableName.{TableName}
-use Rattle.au_base.specs.Actions as actions
-use Rattle.au_base.specs.Privileges as privileges
 use Rattle.au_grants.specs.descent.Halving.{IsPlaceOf}
-use Rattle.au_grants.specs.Order.{fields_before, object_before, object_fields, placed, role_before, role_fields, system_before, system_fields}
-use Rattle.au_grants.specs.Rights.{Name, ObjectEntry, RoleEntry, SystemEntry}
+use Rattle.au_grants.specs.Order.{fields_before, placed}
 
 -- the entries that pass stand before the place, and the others behind it
 cut : {X : Type 0} (test : X → Bool) (xs : List X) (k : ℕ) → k ≤ length xs → ((i : ℕ) (d : X) → i < k → test (get_or xs i d) ≡ true) → ((i : ℕ) (d : X) → k ≤ i → i < length xs → test (get_or xs i d) ≡ false)
@@ -32,21 +26,3 @@ pub inserted : {X : Type 0} (fields : X → List (List ℕ)) (entry : X) (xs : L
 inserted fields entry xs k place =
     let parts = cut_at fields entry xs k place in
     λ j. sym parts.0 j ++ entry ∷ sym parts.1 j
-
--- the same of a lent list
-pub system_put : (grantee : Name) (privilege : Privilege) (admin : Bool) (xs lent after : List SystemEntry) (k : ℕ) → lent ≡ xs
-    → IsPlaceOf system_fields (grantee ∷ (privileges.code_of privilege ∷ []) ∷ []) lent k → after ≡ insert xs k (grantee, privilege, admin) → after ≡ placed system_before (grantee, privilege, admin) xs
-system_put grantee privilege admin xs lent after k same place makes =
-    makes ∙ inserted system_fields (grantee, privilege, admin) xs k (subst (λ (ys : List SystemEntry). IsPlaceOf system_fields (grantee ∷ (privileges.code_of privilege ∷ []) ∷ []) ys k) same place)
-
-pub role_put : (grantee role text : Name) (admin : Bool) (xs lent after : List RoleEntry) (k : ℕ) → text ≡ role → lent ≡ xs
-    → IsPlaceOf role_fields (grantee ∷ text ∷ []) lent k → after ≡ insert xs k (grantee, role, admin) → after ≡ placed role_before (grantee, role, admin) xs
-role_put grantee role text admin xs lent after k read same place makes =
-    makes ∙ inserted role_fields (grantee, role, admin) xs k
-    (subst (λ (ys : List RoleEntry). IsPlaceOf role_fields (grantee ∷ role ∷ []) ys k) same (subst (λ (n : Name). IsPlaceOf role_fields (grantee ∷ n ∷ []) lent k) read place))
-
-pub object_put : (grantee : Name) (table : TableName) (action : Action) (xs lent after : List ObjectEntry) (k : ℕ) → lent ≡ xs
-    → IsPlaceOf object_fields (grantee ∷ table.owner ∷ table.name ∷ (actions.code_of action ∷ []) ∷ []) lent k → after ≡ insert xs k (grantee, table, action) → after ≡ placed object_before (grantee, table, action) xs
-object_put grantee table action xs lent after k same place makes =
-    makes ∙ inserted object_fields (grantee, table, action) xs k
-    (subst (λ (ys : List ObjectEntry). IsPlaceOf object_fields (grantee ∷ table.owner ∷ table.name ∷ (actions.code_of action ∷ []) ∷ []) ys k) same place)

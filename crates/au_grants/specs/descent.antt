@@ -1,3 +1,4 @@
+pub mod Direct
 pub mod Editing
 pub mod Growing
 pub mod Halving

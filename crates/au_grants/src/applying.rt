@@ -3,13 +3,14 @@ ghost use Rattle.std.specs.Prelude.{◌≡◌, ◌<◌, ◌≤◌, ◌∷◌, []
 ghost use Rattle.std.specs.List.{insert, list_any};
 ghost use Rattle.au_grants.specs.Changing.{applied, applied_all, without, with_admin, with_grant, with_object, system_to, role_to, object_to, names_role, names_table};
 ghost use Rattle.au_grants.specs.Holding.{grants_privilege, grants_role, grants_object};
-ghost use Rattle.au_grants.specs.Order.{AreInOrder, is_in_order, object_before, placed, role_before, system_before};
+ghost use Rattle.au_grants.specs.Order.{AreInOrder, is_in_order, object_before, role_before, system_before};
 ghost use Rattle.au_grants.specs.descent.Editing.{HasRoom, KeepsCapacity, listed};
 
 use crate::change::GrantChange;
 use crate::direct::{
     has_object, has_privilege, has_role, is_object_grant, is_role_grant, is_system_grant,
 };
+use crate::growing::place;
 use crate::lists::GrantLists;
 use crate::places::{object_place, role_place, system_place};
 use au_base::{Action, Memory, Name, Privilege, TableName, is_same_privilege, is_same_table};
@@ -204,7 +205,7 @@ fn grant_privilege(
     if has_privilege(entries.as_slice(), &grantee, privilege) {
         set_privilege_admin(entries, &grantee, privilege, admin);
     } else {
-        add_privilege(entries, grantee, privilege, admin);
+        place(entries, (grantee, privilege, admin));
     }
 }
 
@@ -238,21 +239,6 @@ fn set_admin_of_privilege(
     }
 }
 
-fn add_privilege(
-    entries: &mut Vec<(Name, Privilege, bool)>,
-    grantee: Name,
-    privilege: Privilege,
-    admin: bool,
-)
-    requires order { IsTrue (is_in_order system_before entries.old.items) }
-    requires room { vec_len entries.old < vec_capacity entries.old }
-    ensures items { entries.new.items ≡ placed system_before (grantee, privilege, admin) entries.old.items }
-    ensures capacity { vec_capacity entries.new ≡ vec_capacity entries.old }
-{
-    let place = system_place(entries.as_slice(), &grantee, privilege);
-    insert_at(entries, place, (grantee, privilege, admin));
-}
-
 fn grant_role(entries: &mut Vec<(Name, Name, bool)>, grantee: Name, name: Name, admin: bool)
     requires order { IsTrue (is_in_order role_before entries.old.items) }
     requires room { vec_len entries.old < vec_capacity entries.old }
@@ -262,7 +248,7 @@ fn grant_role(entries: &mut Vec<(Name, Name, bool)>, grantee: Name, name: Name, 
     if has_role(entries.as_slice(), &grantee, name.as_str()) {
         set_role_admin(entries, &grantee, &name, admin);
     } else {
-        add_role(entries, grantee, name, admin);
+        place(entries, (grantee, name, admin));
     }
 }
 
@@ -291,16 +277,6 @@ fn set_admin_of_role(entry: &mut (Name, Name, bool), grantee: &Name, name: &Name
     }
 }
 
-fn add_role(entries: &mut Vec<(Name, Name, bool)>, grantee: Name, name: Name, admin: bool)
-    requires order { IsTrue (is_in_order role_before entries.old.items) }
-    requires room { vec_len entries.old < vec_capacity entries.old }
-    ensures items { entries.new.items ≡ placed role_before (grantee, name, admin) entries.old.items }
-    ensures capacity { vec_capacity entries.new ≡ vec_capacity entries.old }
-{
-    let place = role_place(entries.as_slice(), &grantee, name.as_str());
-    insert_at(entries, place, (grantee, name, admin));
-}
-
 fn grant_object(
     entries: &mut Vec<(Name, TableName, Action)>,
     grantee: Name,
@@ -313,23 +289,8 @@ fn grant_object(
     ensures capacity { vec_capacity entries.new ≡ vec_capacity entries.old }
 {
     if !has_object(entries.as_slice(), &grantee, &table, action) {
-        add_object(entries, grantee, table, action);
+        place(entries, (grantee, table, action));
     }
-}
-
-fn add_object(
-    entries: &mut Vec<(Name, TableName, Action)>,
-    grantee: Name,
-    table: TableName,
-    action: Action,
-)
-    requires order { IsTrue (is_in_order object_before entries.old.items) }
-    requires room { vec_len entries.old < vec_capacity entries.old }
-    ensures items { entries.new.items ≡ placed object_before (grantee, table, action) entries.old.items }
-    ensures capacity { vec_capacity entries.new ≡ vec_capacity entries.old }
-{
-    let place = object_place(entries.as_slice(), &grantee, &table, action);
-    insert_at(entries, place, (grantee, table, action));
 }
 
 /// Inserts the entry at the place. There is room for it, and the call takes no memory.

@@ -2,7 +2,8 @@
 ghost use Rattle.std.specs.Prelude.{◌≡◌, ◌↔◌, IsTrue};
 ghost use Rattle.std.specs.List.{list_any};
 ghost use Rattle.au_grants.specs.Changing.{role_to};
-ghost use Rattle.au_grants.specs.Holding.{IsGranted, grants_role, grants_privilege, grants_any_table, grants_object, grants_some_object};
+ghost use Rattle.au_grants.specs.Holding.{grants_role, grants_privilege, grants_object};
+ghost use Rattle.au_grants.specs.descent.Direct.{IsGranted, grants_any_table, grants_some_object};
 ghost use Rattle.au_grants.specs.Order.{is_in_order, object_before, role_before, system_before};
 ghost use Rattle.au_grants.specs.Holding.{grants_privilege_as, grants_role_as};
 

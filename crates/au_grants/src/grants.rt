@@ -1,15 +1,16 @@
 //! Grants.
-ghost use Rattle.std.specs.Prelude.{◌≡◌, ◌≤◌, ◌↔◌, [], Bool, IsTrue, IfOk, length};
+ghost use Rattle.std.specs.Prelude.{◌≡◌, ◌≤◌, ◌↔◌, ℕ, [], Bool, IsTrue, IfOk, None, Some, length};
 ghost use Rattle.std.specs.List.{Contains};
 ghost use Rattle.au_base.specs.Limits.{GRANTS};
 ghost use Rattle.au_grants.specs.Changing.{applied_all};
+ghost use Rattle.au_grants.specs.Holding.{Holds, HoldsNone, IsFirstHeld};
 ghost use Rattle.au_grants.specs.Order.{is_in_order, object_before, role_before, system_before};
 ghost use Rattle.au_grants.specs.Staging.{Fits};
 ghost use Rattle.au_grants.specs.Rights.{AdministersPrivilege, AdministersRole, HoldsPrivilege, HoldsRole, IsHolder, IsRoleGranted, grant_count};
 
 use crate::change::GrantChange;
 use crate::direct::is_granted;
-use crate::holding::has_right;
+use crate::holding::first_held;
 use crate::right::Sought;
 use crate::staged::StagedGrants;
 use au_base::{Action, List, Memory, Name, Privilege, TableName};
@@ -100,39 +101,54 @@ impl Grants {
         self.object.as_slice()
     }
 
+    /// The place, from 0, of the first of the rights that the user holds, directly or by a chain of
+    /// role grants; none where the user holds none of them. It takes no memory, and goes over the
+    /// roles that the user holds once, whatever is looked for.
+    pub fn first_right(&self, user: &Name, rights: &[Sought<'_>]) -> Option<usize>
+        ensures some { (place : ℕ) → (result ≡ Some place) ↔ IsFirstHeld self.now user.now rights.now place }
+        ensures none { (result ≡ None) ↔ HoldsNone self.now user.now rights.now }
+    {
+        let place = first_held(self, user, rights);
+        if place < rights.len() {
+            Some(place)
+        } else {
+            None
+        }
+    }
+
+    /// Whether the user holds the right.
+    pub fn holds(&self, user: &Name, right: Sought<'_>) -> bool
+        ensures { IsTrue result ↔ Holds self.now user.now right.entry }
+    {
+        first_held(self, user, &[right]) == 0
+    }
+
     /// Whether the user holds the role: some chain of role grants leads from the user to it.
     pub fn holds_role(&self, user: &Name, role: &Name) -> bool
         ensures { IsTrue result ↔ HoldsRole self.now.role user.now role.now }
     {
-        self.holds_role_named(user, role.as_str())
-    }
-
-    /// Whether the user holds the role of this name.
-    pub fn holds_role_named(&self, user: &Name, role: &str) -> bool
-        ensures { IsTrue result ↔ HoldsRole self.now.role user.now role.now }
-    {
-        has_right(self, user, Sought::Role(role))
+        self.holds(user, Sought::Role(role.as_str()))
     }
 
     /// Whether the system privilege is granted to the user or to a held role.
     pub fn holds_privilege(&self, user: &Name, privilege: Privilege) -> bool
         ensures { IsTrue result ↔ HoldsPrivilege self.now user.now privilege }
     {
-        has_right(self, user, Sought::Privilege(privilege))
+        self.holds(user, Sought::Privilege(privilege))
     }
 
     /// Whether the role is granted with admin option to the user or to a held role.
     pub fn administers_role(&self, user: &Name, role: &Name) -> bool
         ensures { IsTrue result ↔ AdministersRole self.now user.now role.now }
     {
-        has_right(self, user, Sought::RoleWithAdmin(role.as_str()))
+        self.holds(user, Sought::RoleWithAdmin(role.as_str()))
     }
 
     /// Whether the system privilege is granted with admin option to the user or to a held role.
     pub fn administers_privilege(&self, user: &Name, privilege: Privilege) -> bool
         ensures { IsTrue result ↔ AdministersPrivilege self.now user.now privilege }
     {
-        has_right(self, user, Sought::PrivilegeWithAdmin(privilege))
+        self.holds(user, Sought::PrivilegeWithAdmin(privilege))
     }
 
     /// Whether the role is granted to the name directly.

@@ -81,8 +81,8 @@ pub fn add<T: Entry>(kept: &mut Vec<T>, fresh: &mut Vec<T>, moving: &mut Vec<T>,
     }
 }
 
-// Places the entry among entries in order, which have room for it.
-fn place<T: Entry>(entries: &mut Vec<T>, entry: T)
+/// Places the entry among entries in order, which have room for it. It takes no memory.
+pub fn place<T: Entry>(entries: &mut Vec<T>, entry: T)
     requires order { IsTrue (is_in_order (before_by T.fields) entries.old.items) }
     requires room { vec_len entries.old < vec_capacity entries.old }
     ensures items { entries.new.items ≡ placed (before_by T.fields) entry entries.old.items }

@@ -1,147 +1,140 @@
-//! Who holds which right.
-ghost use Rattle.std.specs.Prelude.{◌≤◌, ◌↔◌, IsTrue, length};
+//! The first of several rights that a user holds.
+ghost use Rattle.std.specs.Prelude.{◌≡◌, ◌≤◌, ◌<◌, ◌↔◌, IsTrue, length};
 ghost use Rattle.au_base.specs.Limits.{GRANTS};
 ghost use Rattle.au_grants.specs.declared.searching.TheConstants.{FEW_ROLES};
-ghost use Rattle.au_grants.specs.Holding.{HasRight, IsGranted};
-ghost use Rattle.au_grants.specs.descent.Search.{HasByRole, IsFirstGrant, IsGrantedBehind, IsReach, grantee_at};
+ghost use Rattle.au_grants.specs.Holding.{Holds};
+ghost use Rattle.au_grants.specs.descent.Direct.{IsGranted};
+ghost use Rattle.au_grants.specs.descent.Search.{IsFirstGrant, IsFirstOf, IsGivenAt, IsGivenBehind, IsGivenByRole, IsReach, right_at};
 
-use crate::circle::is_granted_to_some;
 use crate::direct::{is_granted, is_grantee};
 use crate::grants::Grants;
 use crate::right::Sought;
-use crate::searching::{FEW_ROLES, end_of_grants, reach, role_of};
+use crate::searching::{FEW_ROLES, end_of_grants, has_admin, reach, role_of};
 use au_base::Name;
 use au_base::limits::GRANTS;
 
-/// Whether the right is granted to the user or to a role that the user holds. It takes no memory.
-pub fn has_right(grants: &Grants, user: &Name, right: Sought<'_>) -> bool
-    ensures { IsTrue result ↔ HasRight grants.now user.now right.entry }
+/// Where the first of the rights stands that the user holds, or how many rights there are. The roles
+/// that the user holds are searched once for all rights, and only where the first isn't granted
+/// directly.
+pub fn first_held(grants: &Grants, user: &Name, rights: &[Sought<'_>]) -> usize
+    ensures { IsFirstOf (λ j. Holds grants.now user.now (right_at rights.now j)) (length rights.now) result }
 {
-    if is_granted(grants, user, right) {
-        return true;
+    let direct = first_granted(grants, user, rights);
+    first_by_role(grants, user, rights, direct)
+}
+
+// The first of the rights that is granted to the holder directly.
+fn first_granted(grants: &Grants, holder: &Name, rights: &[Sought<'_>]) -> usize
+    ensures { IsFirstOf (λ j. IsGranted grants.now holder.now (right_at rights.now j)) (length rights.now) result }
+{
+    for j in 0..rights.len() {
+        if is_granted(grants, holder, rights[j]) {
+            return j;
+        }
     }
-    has_by_role(grants, user, right)
+    rights.len()
 }
 
 // Most users hold no role, and most stores have few grants of roles: the search takes places for
 // as many grants as there can be only where it has to.
-fn has_by_role(grants: &Grants, user: &Name, right: Sought<'_>) -> bool
-    requires direct { ¬ IsGranted grants.now user.now right }
-    ensures { IsTrue result ↔ HasByRole grants.now user.now right.entry }
+fn first_by_role(grants: &Grants, user: &Name, rights: &[Sought<'_>], limit: usize) -> usize
+    requires { limit ≤ length rights.now }
+    ensures { IsFirstOf (λ j. IsGivenByRole grants.now user.now (right_at rights.now j)) limit result }
 {
+    if limit == 0 {
+        return 0;
+    }
     let roles = grants.role_grants();
     if !is_grantee(roles, user) {
-        return false;
+        return limit;
     }
     if roles.len() <= FEW_ROLES {
-        has_by_few_roles(grants, user, right)
+        first_by_search::<FEW_ROLES>(grants, user, rights, limit)
     } else {
-        has_by_many_roles(grants, user, right)
+        first_by_search::<GRANTS>(grants, user, rights, limit)
     }
 }
 
-fn has_by_few_roles(grants: &Grants, user: &Name, right: Sought<'_>) -> bool
-    requires direct { ¬ IsGranted grants.now user.now right }
-    requires few { length grants.now.role ≤ FEW_ROLES }
-    ensures { IsTrue result ↔ HasByRole grants.now user.now right.entry }
-{
-    let mut marks = [false; FEW_ROLES];
-    let mut queue = [0; FEW_ROLES];
-    has_by_search(grants, user, right, &mut marks, &mut queue)
-}
-
-fn has_by_many_roles(grants: &Grants, user: &Name, right: Sought<'_>) -> bool
-    requires direct { ¬ IsGranted grants.now user.now right }
-    requires few { length grants.now.role ≤ GRANTS }
-    ensures { IsTrue result ↔ HasByRole grants.now user.now right.entry }
-{
-    let mut marks = [false; GRANTS];
-    let mut queue = [0; GRANTS];
-    has_by_search(grants, user, right, &mut marks, &mut queue)
-}
-
-fn has_by_search(
+fn first_by_search<const PLACES: usize>(
     grants: &Grants,
     user: &Name,
-    right: Sought<'_>,
-    marks: &mut [bool],
-    queue: &mut [usize],
-) -> bool
-    requires direct { ¬ IsGranted grants.now user.now right }
-    requires marks { length grants.now.role ≤ length marks.old }
-    requires queue { length grants.now.role ≤ length queue.old }
-    ensures { IsTrue result ↔ HasByRole grants.now user.now right.entry }
+    rights: &[Sought<'_>],
+    limit: usize,
+) -> usize
+    requires limit { limit ≤ length rights.now }
+    requires few { length grants.now.role ≤ PLACES }
+    requires places { PLACES ≤ GRANTS }
+    ensures { IsFirstOf (λ j. IsGivenByRole grants.now user.now (right_at rights.now j)) limit result }
 {
+    let mut marks = [false; PLACES];
+    let mut queue = [0; PLACES];
     let roles = grants.role_grants();
-    let count = reach(roles, user, &mut marks[..roles.len()], queue);
-    has_by_found(grants, user, &*queue, count, right)
+    let count = reach(roles, user, &mut marks[..roles.len()], &mut queue);
+    first_found(grants, user, &queue, count, rights, limit)
 }
 
-/// Whether the right is granted to the user or to a role that the user holds, of whose roles a
-/// search has filled the queue.
-pub fn has_found(
+// The first of the rights that a grant to the user or to a held role gives, of which a search has
+// filled the queue.
+fn first_found(
     grants: &Grants,
     user: &Name,
     queue: &[usize],
     count: usize,
-    right: Sought<'_>,
-) -> bool
-    requires { IsReach grants.now.role user.now queue.now count }
-    ensures { IsTrue result ↔ HasRight grants.now user.now right.entry }
-{
-    if is_granted(grants, user, right) {
-        return true;
-    }
-    has_by_found(grants, user, queue, count, right)
-}
-
-fn has_by_found(
-    grants: &Grants,
-    user: &Name,
-    queue: &[usize],
-    count: usize,
-    right: Sought<'_>,
-) -> bool
-    requires direct { ¬ IsGranted grants.now user.now right }
+    rights: &[Sought<'_>],
+    limit: usize,
+) -> usize
+    requires limit { limit ≤ length rights.now }
     requires reach { IsReach grants.now.role user.now queue.now count }
-    ensures { IsTrue result ↔ HasByRole grants.now user.now right.entry }
+    ensures { IsFirstOf (λ j. IsGivenByRole grants.now user.now (right_at rights.now j)) limit result }
+{
+    let mut first = limit;
+    for k in 0..count {
+        if first == 0 {
+            return 0;
+        }
+        first = first_behind(grants, queue[k], rights, first);
+    }
+    first
+}
+
+// The first of the rights that a grant to the grantee of the one at the place gives.
+fn first_behind(grants: &Grants, place: usize, rights: &[Sought<'_>], limit: usize) -> usize
+    requires limit { limit ≤ length rights.now }
+    requires first { IsFirstGrant grants.now.role place }
+    ensures { IsFirstOf (λ j. IsGivenBehind grants.now place (right_at rights.now j)) limit result }
+{
+    let end = end_of_grants(grants.role_grants(), place);
+    let mut first = limit;
+    for at in place..end {
+        first = first_given(grants, at, rights, first);
+    }
+    first
+}
+
+// The first of the rights that the grant of a role at the place gives.
+fn first_given(grants: &Grants, at: usize, rights: &[Sought<'_>], limit: usize) -> usize
+    requires limit { limit ≤ length rights.now }
+    requires at { at < length grants.now.role }
+    ensures { IsFirstOf (λ j. IsGivenAt grants.now at (right_at rights.now j)) limit result }
+{
+    for j in 0..limit {
+        if gives(grants, at, rights[j]) {
+            return j;
+        }
+    }
+    limit
+}
+
+// Whether the grant of a role at the place gives the right: it is of the role that is looked for, or
+// the right is granted to its role.
+fn gives(grants: &Grants, at: usize, right: Sought<'_>) -> bool
+    requires { at < length grants.now.role }
+    ensures { IsTrue result ↔ IsGivenAt grants.now at right.entry }
 {
     let roles = grants.role_grants();
     match right {
-        Sought::Role(role) => is_granted_to_some(roles, user, queue, count, role),
-        _ => some_lead_to(grants, user, queue, count, right),
+        Sought::Role(role) => role_of(roles, at).as_str() == role,
+        Sought::RoleWithAdmin(role) => has_admin(roles, at) && role_of(roles, at).as_str() == role,
+        _ => is_granted(grants, role_of(roles, at), right),
     }
-}
-
-fn some_lead_to(
-    grants: &Grants,
-    user: &Name,
-    queue: &[usize],
-    count: usize,
-    right: Sought<'_>,
-) -> bool
-    requires { IsReach grants.now.role user.now queue.now count }
-    ensures { IsTrue result ↔ HasByRole grants.now user.now right.entry }
-{
-    for k in 0..count {
-        if leads_to(grants, queue[k], right) {
-            return true;
-        }
-    }
-    false
-}
-
-// Whether the right is granted to a role that is granted to the grantee of the grant at the place.
-fn leads_to(grants: &Grants, place: usize, right: Sought<'_>) -> bool
-    requires { IsFirstGrant grants.now.role place }
-    ensures { IsTrue result ↔ IsGrantedBehind grants.now (grantee_at grants.now.role place) right.entry }
-{
-    let roles = grants.role_grants();
-    let end = end_of_grants(roles, place);
-    for at in place..end {
-        if is_granted(grants, role_of(roles, at), right) {
-            return true;
-        }
-    }
-    false
 }

@@ -1,12 +1,11 @@
 //! Laws of grants.
-ghost use Rattle.std.specs.Prelude.{◌≡◌, ◌≤◌, ◌+◌, ◌∷◌, [], List, false, length, map};
-ghost use Rattle.std.specs.List.{filter, list_any};
+ghost use Rattle.std.specs.Prelude.{◌≡◌, ◌≤◌, ◌+◌, ◌∷◌, [], length, map};
+ghost use Rattle.std.specs.List.{filter};
 ghost use Rattle.au_grants.specs.declared.change.GrantChange.{GrantChange};
 ghost use Rattle.au_grants.specs.declared.grants.Grants.{Grants};
-ghost use Rattle.au_grants.specs.Changing.{Closes, IsDrop, IsGrant, applied, applied_all, is_new, object_grant, role_grant, role_to, system_grant};
+ghost use Rattle.au_grants.specs.Changing.{Closes, IsDrop, IsGrant, applied, applied_all, is_new, object_grant, role_grant, system_grant};
 ghost use Rattle.au_grants.specs.Order.{AreInOrder};
-ghost use Rattle.au_grants.specs.Rights.{HasNoCircle, Name, RoleEntry, grant_count};
-ghost use Rattle.au_grants.specs.descent.Search.{IsReach};
+ghost use Rattle.au_grants.specs.Rights.{HasNoCircle, grant_count};
 
 /// No drop closes a circle of roles. It does nothing, and states the law for its callers; that no
 /// statement GRANT or REVOKE closes one is a clause of `decide`, which stands on this crate.
@@ -42,10 +41,4 @@ pub fn grants_in_order_come_back()
     ensures system { (grants : Grants) → AreInOrder grants → applied_all (map system_grant grants.system) (record grants { system = [] }) ≡ grants }
     ensures role { (grants : Grants) → AreInOrder grants → applied_all (map role_grant grants.role) (record grants { role = [] }) ≡ grants }
     ensures object { (grants : Grants) → AreInOrder grants → applied_all (map object_grant grants.object) (record grants { object = [] }) ≡ grants }
-{}
-
-/// The search for the roles of a user finds none where no role is granted to the user. It does
-/// nothing, and states the law for its callers.
-pub fn searches_without_grants_find_none()
-    ensures { (roles : List RoleEntry) (user : Name) → list_any (role_to user) roles ≡ false → IsReach roles user [] 0 }
 {}

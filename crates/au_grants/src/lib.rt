@@ -23,14 +23,11 @@ mod staged;
 
 pub use change::GrantChange;
 pub use course::Course;
-pub use direct::{is_granted, is_grantee};
 pub use draft::GrantDraft;
 pub use grants::Grants;
-pub use holding::{has_found, has_right};
 pub use laws::{
     changes_add_one_grant_at_most, changes_keep_no_circle, changes_keep_order,
-    drops_close_no_circle, grants_in_order_come_back, searches_without_grants_find_none,
+    drops_close_no_circle, grants_in_order_come_back,
 };
 pub use right::Sought;
-pub use searching::{FEW_ROLES, reach};
 pub use staged::StagedGrants;

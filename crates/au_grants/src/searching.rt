@@ -3,7 +3,7 @@
 ghost use Rattle.std.specs.Prelude.{◌≡◌, ◌≤◌, ◌<◌, IsTrue, false, length, true};
 ghost use Rattle.au_grants.specs.Order.{is_in_order, role_before};
 ghost use Rattle.au_grants.specs.Rights.{IsRoleGranted, Name as Bytes};
-ghost use Rattle.au_grants.specs.descent.Search.{EndAt, IsFirstGrant, IsReach, IsSearch, IsSeen, WentOn, grantee_at, mark_at, role_at};
+ghost use Rattle.au_grants.specs.descent.Search.{EndAt, IsFirstGrant, IsReach, IsSearch, IsSeen, WentOn, admin_at, grantee_at, mark_at, role_at};
 
 use crate::places::first_role_place;
 use au_base::Name;
@@ -135,4 +135,12 @@ pub fn role_of<'a>(roles: &'a [(Name, Name, bool)], place: usize) -> &'a Name
     ensures { result.now ≡ role_at roles.now place }
 {
     &roles[place].1
+}
+
+/// Whether the grant at the place has the admin option.
+pub fn has_admin(roles: &[(Name, Name, bool)], place: usize) -> bool
+    requires { place < length roles.now }
+    ensures { result ≡ admin_at roles.now place }
+{
+    roles[place].2
 }

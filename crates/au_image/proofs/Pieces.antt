@@ -9,22 +9,22 @@ use Rattle.au_entries.specs.declared.change.Change.{Change}
 use Rattle.au_entries.specs.declared.change.Change.TheVariants.{Start}
 use Rattle.au_entries.specs.declared.kept.Kept.{Kept}
 use Rattle.au_entries.specs.declared.trail_record.Record.{Record}
+use Rattle.au_entries.specs.Changing.{KeptRow}
 use Rattle.au_grants.specs.Rights.{Grants}
 use Rattle.rec_codec.specs.Changes.{IsChangeSpellable}
-use Rattle.rec_codec.specs.ImageLaws.{both_wrote, none_wrote}
-use Rattle.rec_codec.specs.Images.{Holds, Written, Wrote}
+use Rattle.rec_codec.specs.Images.{Holds, WritesJoin, Written, Wrote}
 use Rattle.rec_codec.specs.Records.{trail_record}
-use Rattle.au_image.specs.Image.{IsReady, Row, archive_changes, audit_changes, enablement_change, fga_change, image_changes, object_change, policy_change, role_change, role_grant_change, row_change, system_change, table_change, user_change}
+use Rattle.au_image.specs.Image.{IsReady, archive_changes, audit_changes, enablement_change, fga_change, image_changes, object_change, policy_change, role_change, role_grant_change, row_change, system_change, table_change, user_change}
 
 pub length_mapped : {X Y : Type 0} (f : X → Y) (xs : List X) → length (map f xs) ≡ length xs
 length_mapped f [] = refl
 length_mapped f (x ∷ xs) = ap suc (length_mapped f xs)
 
-all_front : {X : Type 0} (P : X → Type 0) (xs ys : List X) → AllByRecursion P (xs ++ ys) → AllByRecursion P xs
+pub all_front : {X : Type 0} (P : X → Type 0) (xs ys : List X) → AllByRecursion P (xs ++ ys) → AllByRecursion P xs
 all_front P [] ys all = tt
 all_front P (x ∷ xs) ys all = (all.0, all_front P xs ys all.1)
 
-all_behind : {X : Type 0} (P : X → Type 0) (xs ys : List X) → AllByRecursion P (xs ++ ys) → AllByRecursion P ys
+pub all_behind : {X : Type 0} (P : X → Type 0) (xs ys : List X) → AllByRecursion P (xs ++ ys) → AllByRecursion P ys
 all_behind P [] ys all = all
 all_behind P (x ∷ xs) ys all = all_behind P xs ys all.1
 
@@ -51,11 +51,11 @@ pub step : {X : Type 0} (f : X → Change) (xs slice : List X) (rest : List Chan
 step f xs slice rest a b ready is wrote = rest_ready (map f xs) rest a b ready (wrote_list f xs slice a b is wrote)
 
 -- two parts are written
-pub both_changes : (a b c : Written) (xs ys : List Change) → Wrote a b xs [] → Wrote b c ys [] → Wrote a c (xs ++ ys) []
-both_changes a b c xs ys one two = both_wrote a b c xs ys [] [] one two
+pub both_changes : (laws : WritesJoin) (a b c : Written) (xs ys : List Change) → Wrote a b xs [] → Wrote b c ys [] → Wrote a c (xs ++ ys) []
+both_changes laws a b c xs ys one two = laws.both a b c xs ys [] [] one two
 
-pub joins : {X : Type 0} (f : X → Change) (xs slice : List X) (rest : List Change) (a b c : Written) → slice ≡ xs → Wrote a b (map f slice) [] → Wrote b c rest [] → Wrote a c (map f xs ++ rest) []
-joins f xs slice rest a b c is one two = both_changes a b c (map f xs) rest (wrote_list f xs slice a b is one) two
+pub joins : {X : Type 0} (laws : WritesJoin) (f : X → Change) (xs slice : List X) (rest : List Change) (a b c : Written) → slice ≡ xs → Wrote a b (map f slice) [] → Wrote b c rest [] → Wrote a c (map f xs ++ rest) []
+joins laws f xs slice rest a b c is one two = both_changes laws a b c (map f xs) rest (wrote_list f xs slice a b is one) two
 
 -- the archive timestamp stands in front of the rest
 pub archive_fits : (archive : Option Stamp) (rest : List Change) (left : ℕ) → (left ≡ length (archive_changes archive ++ rest)) × AllByRecursion IsChangeSpellable (archive_changes archive ++ rest) → length (archive_changes archive) ≤ left
@@ -77,29 +77,29 @@ behind_policies catalog instance = map enablement_change catalog.enabled ++ behi
 abbrev pub behind_rows : Catalog → Grants → ℕ → List Change
 behind_rows catalog grants instance = map object_change grants.object ++ audit_changes catalog instance
 
-abbrev pub behind_tables : Catalog → Grants → List Row → ℕ → List Change
+abbrev pub behind_tables : Catalog → Grants → List KeptRow → ℕ → List Change
 behind_tables catalog grants rows instance = map row_change rows ++ behind_rows catalog grants instance
 
-abbrev pub stored : Catalog → Grants → List Row → ℕ → List Change
+abbrev pub stored : Catalog → Grants → List KeptRow → ℕ → List Change
 stored catalog grants rows instance = map table_change catalog.tables ++ behind_tables catalog grants rows instance
 
-abbrev pub behind_system : Catalog → Grants → List Row → ℕ → List Change
+abbrev pub behind_system : Catalog → Grants → List KeptRow → ℕ → List Change
 behind_system catalog grants rows instance = map role_grant_change grants.role ++ stored catalog grants rows instance
 
-abbrev pub behind_roles : Catalog → Grants → List Row → ℕ → List Change
+abbrev pub behind_roles : Catalog → Grants → List KeptRow → ℕ → List Change
 behind_roles catalog grants rows instance = map system_change grants.system ++ behind_system catalog grants rows instance
 
-abbrev pub behind_users : Catalog → Grants → List Row → ℕ → List Change
+abbrev pub behind_users : Catalog → Grants → List KeptRow → ℕ → List Change
 behind_users catalog grants rows instance = map role_change catalog.roles ++ behind_roles catalog grants rows instance
 
 -- a loop over entries has come to one more
-pub one_change : {X : Type 0} (f : X → Change) (entries : List X) (a b c : Written) (i : ℕ) (x : X) (change : Change) → i < length entries → x ≡ get_or entries i x → change ≡ f x
+pub one_change : {X : Type 0} (laws : WritesJoin) (f : X → Change) (entries : List X) (a b c : Written) (i : ℕ) (x : X) (change : Change) → i < length entries → x ≡ get_or entries i x → change ≡ f x
     → Wrote a b (map f (take i entries)) [] → Wrote b c (change ∷ []) [] → Wrote a c (map f (take (i + 1) entries)) []
-one_change {X} f entries a b c i x change within is made before here =
+one_change {X} laws f entries a b c i x change within is made before here =
     let list : take (i + 1) entries ≡ take i entries ++ x ∷ [] = take_more entries i x within ∙ ap (λ (y : X). take i entries ++ y ∷ []) (sym is) in
     subst (λ (cs : List Change). Wrote a c cs [])
     (ap (λ (d : Change). map f (take i entries) ++ d ∷ []) made ∙ sym (map-append f (take i entries) (x ∷ [])) ∙ ap (map f) (sym list))
-    (both_changes a b c (map f (take i entries)) (change ∷ []) before here)
+    (both_changes laws a b c (map f (take i entries)) (change ∷ []) before here)
 
 length_taken : {Y : Type 0} (ys : List Y) (n : ℕ) → length (take n ys) ≤ n
 length_taken ys n = omega (arith, length-take n ys)
@@ -164,10 +164,10 @@ pub image_held : (a b c : Written) (last : Stamp) (changes : List Change) (trail
 image_held a b c last changes trail begun one two =
     subst (λ (cs : List Change). Holds c last cs trail) (append-nil changes) (two.holds last changes [] (one.holds last [] [] begun))
 
-pub one_record : (trail : List Record) (a b c : Written) (i : ℕ) (x : Record) → i < length trail → x ≡ get_or trail i x → Wrote a b [] (take i trail) → Wrote b c [] (x ∷ []) → Wrote a c [] (take (i + 1) trail)
-one_record trail a b c i x within is before here =
+pub one_record : (laws : WritesJoin) (trail : List Record) (a b c : Written) (i : ℕ) (x : Record) → i < length trail → x ≡ get_or trail i x → Wrote a b [] (take i trail) → Wrote b c [] (x ∷ []) → Wrote a c [] (take (i + 1) trail)
+one_record laws trail a b c i x within is before here =
     let list : take (i + 1) trail ≡ take i trail ++ x ∷ [] = take_more trail i x within ∙ ap (λ (y : Record). take i trail ++ y ∷ []) (sym is) in
-    subst (λ (rs : List Record). Wrote a c [] rs) (sym list) (both_wrote a b c [] [] (take i trail) (x ∷ []) before here)
+    subst (λ (rs : List Record). Wrote a c [] rs) (sym list) (laws.both a b c [] [] (take i trail) (x ∷ []) before here)
 
 pub some_records_left : (trail : List Record) (a b : Written) (i : ℕ) → i < length trail → length trail ≤ a.records → Wrote a b [] (take i trail) → 0 < b.records
 some_records_left trail a b i within few before = let taken = length_taken trail i in omega (arith, within, few, before.records_left, taken)

@@ -2,29 +2,27 @@
 use Rattle.std.specs.Prelude.{◌≡◌, ◌≤◌, ℕ, List, [], ◌∷◌, ◌++◌, length, map}
 use Rattle.std.specs.List.{AllByRecursion}
 use Rattle.au_base.specs.Limits.{LAST_MOMENT}
-use Rattle.au_base.specs.declared.cell.Cell.{Cell}
-use Rattle.au_base.specs.declared.numbers.RowNo.{RowNo}
 use Rattle.au_base.specs.declared.numbers.Stamp.{Stamp}
-use Rattle.au_base.specs.declared.table.TableName.{TableName}
 use Rattle.au_catalog.specs.declared.catalog.Catalog.{Catalog}
 use Rattle.au_entries.specs.declared.change.Change.{Change}
 use Rattle.au_entries.specs.declared.change.Change.TheVariants.{Start}
 use Rattle.au_entries.specs.declared.kept.Kept.{Kept}
+use Rattle.au_entries.specs.declared.table.Table.{Table}
 use Rattle.au_entries.specs.declared.trail_record.Record.{Record}
+use Rattle.au_entries.specs.Changing.{KeptRow}
 pub use Rattle.au_entries.specs.Imaging.{archive_changes, enablement_change, fga_change, image_changes, nothing, object_change, policy_change, role_change, role_grant_change, row_change, system_change, table_change, user_change, written_condition, written_text}
 use Rattle.au_grants.specs.Rights.{Grants}
+use Rattle.au_rows.specs.declared.table.Table.{Table as OpenTable}
+use Rattle.au_txn.specs.Desks.{Contents as Desk, open_of, replayer}
+use Rattle.au_txn.specs.Rows.{triple_of}
 use Rattle.rec_codec.specs.Changes.{IsChangeSpellable}
 use Rattle.rec_codec.specs.Images.{Written}
 use Rattle.rec_codec.specs.Records.{trail_record}
 use Rattle.rec_codec.specs.declared.frame.Frame.{Frame}
 use Rattle.rec_codec.specs.declared.frame.Frame.TheVariants.{Image}
 
--- a committed row: its table, its number and its cells
-abbrev pub Row : Type 0
-Row = TableName × RowNo × List Cell
-
 -- what is kept, from its parts
-abbrev pub kept_of : Catalog → Grants → List Row → List Record → Stamp → ℕ → Kept
+abbrev pub kept_of : Catalog → Grants → List KeptRow → List Record → Stamp → ℕ → Kept
 kept_of catalog grants rows trail last instance = record {
   users = catalog.users;
   roles = catalog.roles;
@@ -40,11 +38,28 @@ kept_of catalog grants rows trail last instance = record {
   instance = instance;
 }
 
--- what is kept can be written: the last stamp is a moment, and each change of the image and each record has a spelling
+-- a table as it is open for rows: its name, and the places of its key's columns
+abbrev pub open_table : Table → OpenTable
+open_table table = record { name = table.name; key = table.key }
+
+-- the committed rows of a desk, as what is kept lists them
+abbrev pub kept_rows : Desk → List KeptRow
+kept_rows desk = map triple_of desk.rows
+
+-- the desk has the tables of a catalogue, and no row is replayed on it
+pub record IsDeskOf (tables : List Table) (desk : Desk) : Type 0 where
+  pub tables_are : desk.tables ≡ map open_table tables
+  pub quiet : open_of desk replayer ≡ []
+
+-- all that is kept has a spelling: each entry as the change that makes it so, and each record of the trail
+pub record IsSpelled (kept : Kept) : Type 0 where
+  pub entries : AllByRecursion IsChangeSpellable (image_changes kept)
+  pub records : AllByRecursion trail_record.IsSpellable kept.trail
+
+-- what is kept can be written as an image: it has a spelling, and its last stamp is a moment
 pub record IsWritable (kept : Kept) : Type 0 where
   pub last : kept.last.0 ≤ LAST_MOMENT
-  pub changes : AllByRecursion IsChangeSpellable (image_changes kept)
-  pub records : AllByRecursion trail_record.IsSpellable kept.trail
+  pub spelled : IsSpelled kept
 
 -- the image of what is kept: all of it as changes of nothing, and its records
 abbrev pub image_of : Kept → Frame

@@ -1,9 +1,9 @@
 //! Entries of what is kept, each as the change that makes it so.
 ghost use Rattle.std.specs.Prelude.{◌≡◌, IfOk};
 ghost use Rattle.au_entries.specs.declared.change.Change.{Change as AnyChange};
-ghost use Rattle.au_image.specs.Image.{enablement_change, fga_change, object_change, policy_change, role_change, role_grant_change, row_change, system_change, table_change, user_change, written_condition, written_text};
+ghost use Rattle.au_image.specs.Image.{enablement_change, fga_change, object_change, policy_change, role_change, role_grant_change, system_change, table_change, user_change, written_condition, written_text};
 
-use au_base::{Action, Cell, List, Memory, Name, Privilege, RowNo, TableName, Text};
+use au_base::{Action, Memory, Name, Privilege, TableName, Text};
 use au_catalog::{AuditPolicy, Change, Condition, Enabled, Evaluate, FgaPolicy, Table};
 
 /// An entry of what is kept.
@@ -58,15 +58,6 @@ impl Entry for Table {
         let name = self.name.clone()?;
         let columns = self.columns.clone()?;
         Ok(Change::Table(name, columns, self.key.clone()?))
-    }
-}
-
-/// A committed row.
-impl Entry for (TableName, RowNo, List<Cell>) {
-    ghost as_change = { row_change };
-
-    fn change(&self) -> Result<Change, Memory> {
-        Ok(Change::Put(self.0.clone()?, self.1, self.2.clone()?))
     }
 }
 

@@ -1,18 +1,21 @@
 //! The image of what is kept, written entry by entry.
-ghost use Rattle.std.specs.Prelude.{◌≡◌, ◌≤◌, ◌<◌, ◌∷◌, ℕ, List, [], length, map, IfOk, OnOk};
-ghost use Rattle.au_entries.specs.declared.change.Change.TheVariants.{Start};
+ghost use Rattle.std.specs.Prelude.{◌≡◌, ◌≤◌, ◌<◌, ◌^◌, ◌∷◌, ℕ, List, [], length, map, IfOk, OnErr, OnOk};
 ghost use Rattle.std.specs.List.{AllByRecursion};
+ghost use Rattle.au_entries.specs.Changing.{KeptRow};
+ghost use Rattle.au_entries.specs.declared.change.Change.TheVariants.{Start};
 ghost use Rattle.rec_codec.specs.Changes.{IsChangeSpellable};
 ghost use Rattle.rec_codec.specs.Frames.{IsSpellable, framed};
 ghost use Rattle.rec_codec.specs.Images.{Wrote};
 ghost use Rattle.rec_codec.specs.Records.{trail_record};
-ghost use Rattle.au_image.specs.Image.{IsReady, IsWritable, Row, archive_changes, audit_changes, image_changes, image_of, kept_of, stored_changes};
+ghost use Rattle.au_image.specs.Image.{IsDeskOf, IsReady, IsWritable, archive_changes, audit_changes, image_changes, image_of, kept_of, kept_rows, stored_changes};
 
 use crate::entries::Entry;
-use au_base::{Cell, List, Memory, RowNo, Stamp, TableName};
+use crate::rows::{count_rows, write_rows};
+use au_base::{Memory, Stamp};
 use au_catalog::{Catalog, Change, Record};
 use au_grants::Grants;
-use rec_codec::ImageWriter;
+use au_txn::Desk;
+use rec_codec::{ImageWriter, writes_join};
 use std::alloc::Global;
 
 /// The framed image of this catalogue, these grants and rows and this trail, with the last stamp
@@ -22,19 +25,21 @@ pub fn image(
     alloc: Global,
     catalog: &Catalog,
     grants: &Grants,
-    rows: &[(TableName, RowNo, List<Cell>)],
+    desk: &Desk,
     trail: &[Record],
     last: Stamp,
     instance: u32,
 ) -> Result<Vec<u8>, Memory>
-    requires { IsWritable (kept_of catalog.now grants.now rows.now trail.now last instance) }
-    ensures bytes { IfOk result (λ bytes. bytes.items ≡ framed (image_of (kept_of catalog.now grants.now rows.now trail.now last instance))) }
-    ensures spellable { IfOk result (λ bytes. IsSpellable (image_of (kept_of catalog.now grants.now rows.now trail.now last instance))) }
+    requires writable { IsWritable (kept_of catalog.now grants.now (kept_rows desk.now) trail.now last instance) }
+    requires desk { IsDeskOf catalog.now.tables desk.now }
+    ensures bytes { IfOk result (λ bytes. bytes.items ≡ framed (image_of (kept_of catalog.now grants.now (kept_rows desk.now) trail.now last instance))) }
+    ensures spellable { IfOk result (λ bytes. IsSpellable (image_of (kept_of catalog.now grants.now (kept_rows desk.now) trail.now last instance))) }
 {
-    let changes = count_of(count_changes(catalog, grants, rows.len()))?;
+    let rows = count_rows(alloc, desk, catalog.tables.as_slice())?;
+    let changes = count_of(count_changes(catalog, grants, rows))?;
     let records = count_of(trail.len() as u128)?;
     let mut writer = ImageWriter::new(alloc, last, changes, records)?;
-    write_changes(&mut writer, catalog, grants, rows, instance)?;
+    write_changes(alloc, &mut writer, catalog, grants, desk, instance)?;
     write_records(&mut writer, trail)?;
     let bytes = writer.finish()?;
     Ok(bytes)
@@ -42,7 +47,8 @@ pub fn image(
 
 // An image counts its changes and its records in four bytes each.
 fn count_of(len: u128) -> Result<u32, Memory>
-    ensures { IfOk result (λ count. count ≡ len) }
+    ensures ok { IfOk result (λ count. count ≡ len) }
+    ensures err { OnErr result (2 ^ 32 ≤ len) }
 {
     if len > u32::MAX as u128 {
         return Err(Memory);
@@ -51,8 +57,8 @@ fn count_of(len: u128) -> Result<u32, Memory>
 }
 
 // How many changes the image has.
-fn count_changes(catalog: &Catalog, grants: &Grants, rows: usize) -> u128
-    ensures { (stored : List Row) → length stored ≡ rows → (instance : ℕ) → result ≡ length (image_changes (kept_of catalog.now grants.now stored [] (record { 0 = 0 }) instance)) }
+fn count_changes(catalog: &Catalog, grants: &Grants, rows: u32) -> u128
+    ensures { (stored : List KeptRow) → length stored ≡ rows → (instance : ℕ) → result ≡ length (image_changes (kept_of catalog.now grants.now stored [] (record { 0 = 0 }) instance)) }
 {
     let names = catalog.users.len() as u128 + catalog.roles.len() as u128;
     let system = grants.system_grants().len() as u128;
@@ -74,36 +80,42 @@ fn count_archive(archive: Option<Stamp>) -> u8
 }
 
 fn write_changes(
+    alloc: Global,
     writer: &mut ImageWriter,
     catalog: &Catalog,
     grants: &Grants,
-    rows: &[(TableName, RowNo, List<Cell>)],
+    desk: &Desk,
     instance: u32,
 ) -> Result<(), Memory>
-    requires { IsReady writer.old (image_changes (kept_of catalog.now grants.now rows.now [] (record { 0 = 0 }) instance)) }
-    ensures { OnOk result (Wrote writer.old writer.new (image_changes (kept_of catalog.now grants.now rows.now [] (record { 0 = 0 }) instance)) []) }
+    requires ready { IsReady writer.old (image_changes (kept_of catalog.now grants.now (kept_rows desk.now) [] (record { 0 = 0 }) instance)) }
+    requires desk { IsDeskOf catalog.now.tables desk.now }
+    ensures { OnOk result (Wrote writer.old writer.new (image_changes (kept_of catalog.now grants.now (kept_rows desk.now) [] (record { 0 = 0 }) instance)) []) }
 {
+    writes_join();
     write_group(writer, catalog.users.as_slice())?;
     write_group(writer, catalog.roles.as_slice())?;
     write_group(writer, grants.system_grants())?;
     write_group(writer, grants.role_grants())?;
-    write_stored(writer, catalog, grants, rows, instance)?;
+    write_stored(alloc, writer, catalog, grants, desk, instance)?;
     Ok(())
 }
 
 // What stands behind the grants of roles: tables, rows, object privileges, and what is behind them.
 fn write_stored(
+    alloc: Global,
     writer: &mut ImageWriter,
     catalog: &Catalog,
     grants: &Grants,
-    rows: &[(TableName, RowNo, List<Cell>)],
+    desk: &Desk,
     instance: u32,
 ) -> Result<(), Memory>
-    requires { IsReady writer.old (stored_changes (kept_of catalog.now grants.now rows.now [] (record { 0 = 0 }) instance)) }
-    ensures { OnOk result (Wrote writer.old writer.new (stored_changes (kept_of catalog.now grants.now rows.now [] (record { 0 = 0 }) instance)) []) }
+    requires ready { IsReady writer.old (stored_changes (kept_of catalog.now grants.now (kept_rows desk.now) [] (record { 0 = 0 }) instance)) }
+    requires desk { IsDeskOf catalog.now.tables desk.now }
+    ensures { OnOk result (Wrote writer.old writer.new (stored_changes (kept_of catalog.now grants.now (kept_rows desk.now) [] (record { 0 = 0 }) instance)) []) }
 {
+    writes_join();
     write_group(writer, catalog.tables.as_slice())?;
-    write_group(writer, rows)?;
+    write_rows(alloc, writer, desk, catalog.tables.as_slice())?;
     write_group(writer, grants.object_grants())?;
     write_audit(writer, catalog, instance)?;
     Ok(())
@@ -114,6 +126,7 @@ fn write_audit(writer: &mut ImageWriter, catalog: &Catalog, instance: u32) -> Re
     requires { IsReady writer.old (audit_changes catalog.now instance) }
     ensures { OnOk result (Wrote writer.old writer.new (audit_changes catalog.now instance) []) }
 {
+    writes_join();
     write_group(writer, catalog.policies.as_slice())?;
     write_group(writer, catalog.enabled.as_slice())?;
     write_group(writer, catalog.fga.as_slice())?;
@@ -122,12 +135,12 @@ fn write_audit(writer: &mut ImageWriter, catalog: &Catalog, instance: u32) -> Re
     Ok(())
 }
 
-#[tactic(auto, using(rec_codec::specs::ImageLaws::none_wrote))]
 fn write_archive(writer: &mut ImageWriter, archive: Option<Stamp>) -> Result<(), Memory>
     requires left { length (archive_changes archive) ≤ writer.old.changes }
     requires spellable { AllByRecursion IsChangeSpellable (archive_changes archive) }
     ensures { OnOk result (Wrote writer.old writer.new (archive_changes archive) []) }
 {
+    writes_join();
     match archive {
         None => Ok(()),
         Some(stamp) => writer.push_change(&Change::Archive(Some(stamp))),
@@ -148,6 +161,7 @@ fn write_group<T: Entry>(writer: &mut ImageWriter, entries: &[T]) -> Result<(), 
     requires spellable { AllByRecursion IsChangeSpellable (map T.as_change entries.now) }
     ensures { OnOk result (Wrote writer.old writer.new (map T.as_change entries.now) []) }
 {
+    writes_join();
     for entry in entries {
         write_entry(writer, entry)?;
     }
@@ -164,7 +178,7 @@ fn write_entry<T: Entry>(writer: &mut ImageWriter, entry: &T) -> Result<(), Memo
     write_change(writer, &change)
 }
 
-fn write_change(writer: &mut ImageWriter, change: &Change) -> Result<(), Memory>
+pub(crate) fn write_change(writer: &mut ImageWriter, change: &Change) -> Result<(), Memory>
     requires left { 0 < writer.old.changes }
     requires spellable { IsChangeSpellable change.now }
     ensures { OnOk result (Wrote writer.old writer.new (change.now ∷ []) []) }
@@ -178,6 +192,7 @@ fn write_records(writer: &mut ImageWriter, trail: &[Record]) -> Result<(), Memor
     requires spellable { AllByRecursion trail_record.IsSpellable trail.now }
     ensures { OnOk result (Wrote writer.old writer.new [] trail.now) }
 {
+    writes_join();
     for entry in trail {
         writer.push_record(entry)?;
     }

@@ -3,5 +3,7 @@
 
 mod entries;
 mod imaging;
+mod rows;
 
 pub use imaging::image;
+pub use rows::copy_rows;

@@ -1,6 +1,7 @@
 pub mod Created
 pub mod Ends
 pub mod Flipped
+pub mod Holding
 pub mod Leaving
 pub mod Lists
 pub mod Pieces

@@ -4,7 +4,7 @@ use Rattle.std.specs.Int.{w32, w64, to_be_bytes, from_be_bytes}
 use Rattle.std.proofs.lemmas.Nat.{from_be_bytes-to_be_bytes_4, from_be_bytes-to_be_bytes_8}
 use Rattle.std.proofs.lemmas.List.{take_at, drop_all, append-nil, drop-drop}
 use Rattle.au_journal.specs.Frames.{spelled, frame, header, IsLimit, IsShut, IsOpen, IsBroken}
-use Rattle.au_journal.specs.Walk.{IsNamed, HasNoLimit, HasFrame}
+use Rattle.au_journal.specs.Walk.{IsNamed, HasNoLimit, BeginsWithFrame}
 
 pub shut_from : (l : List ℕ) (k : ℕ) → get_or l k 0 ≢ 165 → IsShut (drop k l)
 shut_from [] zero other = tt
@@ -82,7 +82,7 @@ module _ (d room : List ℕ) (n : ℕ) (bytes : room ≡ take 9 d) (gate : get_o
   unfolding spelled
   spelled_is = ap (λ (l : List ℕ). l ++ body) (ap (λ (k : ℕ). to_be_bytes w64 k) body_size ∙ number)
 
-  pub has_frame : 0 < n → HasFrame n d
+  pub has_frame : 0 < n → BeginsWithFrame n d
   has_frame some = record {
     body = body;
     more = drop n (drop 9 d);

@@ -4,6 +4,8 @@ pub mod Frames
 pub mod Held
 pub mod Images
 pub mod Journals
+pub mod Lengths
 pub mod Seats
+pub mod Standing
 pub mod Walk
 pub mod Window

@@ -10,6 +10,7 @@ use Rattle.au_journal.specs.declared.doubt.Doubt.TheVariants.{Settled, Body, Gat
 use Rattle.au_journal.specs.declared.seat.Seat.{Seat}
 use Rattle.au_journal.specs.Frames.{front, framed_of, new_rest, IsLimit, AreSome}
 use Rattle.au_journal.specs.Images.{Closed, Doubted, TornEnd, EndsIn, In, MayStandFor, other_of, letter_of, IsSafe}
+use Rattle.au_journal.specs.Lengths.{needed_behind, new_length, used_behind}
 
 -- a body of at least one byte
 abbrev pub IsSome : List ℕ → Type 0
@@ -117,8 +118,8 @@ advanced n seat = record {
   area = seat.area;
   limit = seat.limit;
   size = seat.size;
-  used = seat.used + n;
-  reach = seat.used + n;
+  used = used_behind seat.used n;
+  reach = used_behind seat.used n;
   ended = seat.ended;
   bare = false;
   doubt = Settled;
@@ -130,8 +131,8 @@ flipped n seat = record {
   area = other_of seat.area;
   limit = seat.limit;
   size = seat.size;
-  used = 13 + n;
-  reach = 13 + n;
+  used = new_length n;
+  reach = new_length n;
   ended = seat.ended;
   bare = false;
   doubt = Settled;
@@ -173,14 +174,9 @@ pub record IsUnmoved (old new : Seat) : Type 0 where
   pub ended : new.ended ≡ old.ended
   pub gated : old.bare ≡ false → new.bare ≡ false
 
--- the bytes of gates that an append writes
-abbrev pub gate_bytes : Bool → ℕ
-gate_bytes true = 2
-gate_bytes false = 1
-
 -- the area's length with so many framed bytes more, where one of them is the next gate
 abbrev pub needed_of : Seat → ℕ → ℕ
-needed_of seat n = seat.used + n + 1
+needed_of seat n = needed_behind seat.used n
 
 -- an append of so many framed bytes isn't free, and needs more than the limit
 pub record IsFullAt (seat : Seat) (free : Bool) (n needed limit : ℕ) : Type 0 where

@@ -72,7 +72,7 @@ pub record IsMounted (m : Meaning) (seat : Seat) : Type 0 where
   pub opens : IsOpen walked.rest
 
 -- these bytes begin with a frame, whose body has that length
-pub record HasFrame (n : ℕ) (rest : List ℕ) : Type 0 where
+pub record BeginsWithFrame (n : ℕ) (rest : List ℕ) : Type 0 where
   pub body : List ℕ
   pub more : List ℕ
   pub size : length body ≡ n
@@ -82,7 +82,7 @@ pub record HasFrame (n : ℕ) (rest : List ℕ) : Type 0 where
 -- the walk is before a body of that length
 pub record IsBefore (m : Meaning) (seat : Seat) (n : ℕ) (bodies : List (List ℕ)) : Type 0 where
   pub walked : IsWalked m seat bodies
-  pub next : HasFrame n walked.rest
+  pub next : BeginsWithFrame n walked.rest
   pub reach : seat.reach ≡ seat.used + 9 + n
 
 -- what the walk says where it can't go on: only damage, at the used length

@@ -15,7 +15,7 @@ use au_io::Disk;
 pub(crate) fn add_frame<D: Disk>(disk: &mut D, seat: Seat, framed: &[u8]) -> Result<Seat, Seat>
     requires short { seat.used ≤ 2 ^ 62 }
     requires gated { seat.bare ≡ false }
-    requires stands { D.told → (bodies : List (List ℕ)) × IsSettled (D.meaning disk.old) seat bodies }
+    requires within { D.told → seat.used < length (area_of seat.area (D.meaning disk.old).reads) }
     ensures appended { D.told → (bodies : List (List ℕ)) (body : List ℕ) → IsFramed framed.now body → IsSettled (D.meaning disk.old) seat bodies
         → IfOk result (λ new. IsSettled (D.meaning disk.new) new (bodies ++ body ∷ [])) }
     ensures doubted { D.told → (bodies : List (List ℕ)) (body : List ℕ) → IsFramed framed.now body → IsSettled (D.meaning disk.old) seat bodies
@@ -59,7 +59,7 @@ pub(crate) fn add_frame<D: Disk>(disk: &mut D, seat: Seat, framed: &[u8]) -> Res
 /// doubt.
 pub(crate) fn close_end<D: Disk>(disk: &mut D, seat: Seat) -> Result<Seat, Seat>
     requires bare { seat.bare ≡ true }
-    requires stands { D.told → (bodies : List (List ℕ)) × IsSettled (D.meaning disk.old) seat bodies }
+    requires within { D.told → seat.used ≤ length (area_of seat.area (D.meaning disk.old).reads) }
     ensures closed { D.told → (bodies : List (List ℕ)) → IsSettled (D.meaning disk.old) seat bodies
         → IfOk result (λ new. IsSettled (D.meaning disk.new) new bodies) }
     ensures doubted { D.told → (bodies others : List (List ℕ)) → IsSettled (D.meaning disk.old) seat bodies
@@ -67,6 +67,7 @@ pub(crate) fn close_end<D: Disk>(disk: &mut D, seat: Seat) -> Result<Seat, Seat>
     ensures any_moment { D.told → (bodies others : List (List ℕ)) → IsSettled (D.meaning disk.old) seat bodies
         → LeavesSince (MayLeave seat bodies seat.area others) (D.meaning disk.old) (D.meaning disk.new) }
     ensures reads { D.told → OnOk result ((D.meaning disk.new).reads ≡ with_gate seat (D.meaning disk.old).reads) }
+    ensures within { D.told → OnOk result (seat.used < length (area_of seat.area (D.meaning disk.new).reads)) }
     ensures advances { IfOk result (λ new. new ≡ left_in Doubt.Settled false seat) }
     ensures in_doubt { IfErr result (λ new. AppendDoubts new.doubt) }
     ensures rests { IfErr result (λ new. new ≡ left_in Doubt.Edge true seat) }

@@ -7,6 +7,7 @@ ghost use Rattle.au_io.specs.Moments.{Leaves, LeavesSince};
 ghost use Rattle.au_journal.specs.Causes.{SeatCause};
 ghost use Rattle.au_journal.specs.Frames.{front, new_head, new_rest};
 ghost use Rattle.au_journal.specs.Images.{AnyBytes, Closed, EndsIn, In, IsSafe, other_of};
+ghost use Rattle.au_journal.specs.Lengths.{flip_cost};
 ghost use Rattle.au_journal.specs.Seats.{BothStand, FlipDoubts, IsFramed, IsDoubted, IsSettled, IsUnmoved, MayLeave, OtherWritten, flipped, with_image, with_letter};
 
 use crate::creation::head_of;
@@ -87,7 +88,7 @@ pub(crate) fn flip_seat<D: Disk>(disk: &mut D, seat: Seat, framed: &[u8]) -> Res
     ensures rests { IfErr result (IsUnmoved seat) }
     ensures short { IfOk result (λ new. (new.used ≤ 2 ^ 62) × (new.reach ≤ 2 ^ 62)) }
     ensures time { Passes (D.meaning disk.old) (D.meaning disk.new) }
-    ensures cost { (D.meaning disk.new).written ≤ (D.meaning disk.old).written + 15 + length framed.now }
+    ensures cost { (D.meaning disk.new).written ≤ (D.meaning disk.old).written + flip_cost (length framed.now) }
     ensures cause { SeatCause result (D.faults disk.old) (D.faults disk.new) }
 {
     if write_other(disk, seat, framed).is_err() {

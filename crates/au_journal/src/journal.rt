@@ -1,13 +1,15 @@
 //! A journal: frames behind gates, in the selected area of a disk.
-ghost use Rattle.std.specs.Prelude.{◌≤◌, ◌^◌};
+ghost use Rattle.std.specs.Prelude.{◌≡◌, ◌≤◌, ◌^◌, true};
 ghost use Rattle.au_io.specs.Areas.{area_of};
+ghost use Rattle.au_journal.specs.Held.{IsWalkedOrHeld};
 ghost use Rattle.au_journal.specs.Window.{Shows};
 
 use crate::Seat;
 use crate::window::Window;
 use au_io::Disk;
 
-/// A journal in the selected area of a disk. Contracts see its disk and its seat.
+/// A journal in the selected area of a disk. Contracts see its disk and its seat. It is walked, or was
+/// walked to its end: then it stands for some bodies, and where one is in doubt perhaps for others.
 #[derive(Drop)]
 pub struct Journal<D: Disk> {
     pub(crate) disk: D,
@@ -18,4 +20,6 @@ pub struct Journal<D: Disk> {
     ghost short: { seat.used ≤ 2 ^ 62 },
     ghost near: { seat.reach ≤ 2 ^ 62 },
     ghost shown: { D.told → Shows window (area_of seat.area (D.meaning disk).reads) },
+    ghost behind: { seat.ended ≡ true → seat.reach ≡ seat.used },
+    ghost stands: { ∥ (D.told → IsWalkedOrHeld (D.meaning disk) seat) ∥₁ },
 }

@@ -1,5 +1,6 @@
 //! What ends a doubt.
-ghost use Rattle.std.specs.Prelude.{◌≡◌, ◌≢◌, ◌≤◌, ◌+◌, List, ℕ, IfOk, IsErr, OnOk};
+ghost use Rattle.std.specs.Prelude.{◌≡◌, ◌≢◌, ◌≤◌, ◌+◌, List, ℕ, length, IfOk, IsErr, OnOk};
+ghost use Rattle.au_io.specs.Areas.{area_of};
 ghost use Rattle.au_io.specs.Disk.{Passes, Stays, HasCause};
 ghost use Rattle.au_io.specs.declared.disk.Area.TheVariants as area;
 ghost use Rattle.au_io.specs.Moments.{Leaves, LeavesSince};
@@ -15,7 +16,7 @@ use au_io::{Area, Disk, Failed};
 
 /// Makes the journal stand for the bodies alone.
 pub(crate) fn mend_seat<D: Disk>(disk: &mut D, seat: Seat) -> Result<Seat, Failed>
-    requires stands { D.told → (bodies others : List (List ℕ)) × IsDoubted (D.meaning disk.old) seat bodies others }
+    requires within { D.told → seat.used ≤ length (area_of seat.area (D.meaning disk.old).reads) }
     ensures mended { D.told → (bodies others : List (List ℕ)) → IsDoubted (D.meaning disk.old) seat bodies others
         → IfOk result (λ new. IsSettled (D.meaning disk.new) new bodies) }
     ensures doubted { (bodies others : List (List ℕ)) → IsDoubted (D.meaning disk.old) seat bodies others
@@ -38,7 +39,7 @@ pub(crate) fn mend_seat<D: Disk>(disk: &mut D, seat: Seat) -> Result<Seat, Faile
 
 /// The calls of the disk that end a doubt.
 fn clear_doubt<D: Disk>(disk: &mut D, seat: Seat) -> Result<(), Failed>
-    requires stands { D.told → (bodies others : List (List ℕ)) × IsDoubted (D.meaning disk.old) seat bodies others }
+    requires within { D.told → seat.used ≤ length (area_of seat.area (D.meaning disk.old).reads) }
     ensures mended { D.told → (bodies others : List (List ℕ)) → IsDoubted (D.meaning disk.old) seat bodies others
         → OnOk result (IsSettled (D.meaning disk.new) (mended seat) bodies) }
     ensures doubted { (bodies others : List (List ℕ)) → IsDoubted (D.meaning disk.old) seat bodies others

@@ -112,9 +112,9 @@ impl<D: Disk> Journal<D> {
         Ok(())
     }
 
-    /// The used length: where the next gate is. The walk has ended.
+    /// The used length: where the next gate is. During the walk it is the end of the bodies that were
+    /// walked.
     pub fn used(&self) -> u64
-        requires { (seat_of self.now).ended ≡ true }
         ensures { result ≡ (seat_of self.now).used }
     {
         self.seat.used
@@ -147,6 +147,7 @@ impl<D: Disk> Journal<D> {
 fn find_seat<D: Disk>(disk: &mut D) -> Result<Seat, MountFault>
     ensures mounted { D.told → IfOk result (IsMounted (D.meaning disk.new)) }
     ensures settled { IfOk result (λ seat. seat.doubt ≡ Doubt.Settled) }
+    ensures begins { IfOk result (λ seat. seat.reach ≡ seat.used) }
     ensures bounded { IfOk result (λ seat. (seat.size ≤ 2 ^ 62) × (seat.used ≤ 2 ^ 62) × (seat.reach ≤ 2 ^ 62)) }
     ensures why { D.told → IfErr result (MountSays (D.meaning disk.old).reads) }
     ensures stays { Stays (D.meaning disk.old) (D.meaning disk.new) }
@@ -170,6 +171,7 @@ fn first_seat<D: Disk>(
     ensures mounted { D.told → Selects area (D.meaning disk.old).reads.head → head.now ≡ take 14 (area_of area (D.meaning disk.old).reads)
         → IsStill (D.meaning disk.old) → IfOk result (IsMounted (D.meaning disk.new)) }
     ensures settled { IfOk result (λ seat. seat.doubt ≡ Doubt.Settled) }
+    ensures begins { IfOk result (λ seat. seat.reach ≡ seat.used) }
     ensures bounded { IfOk result (λ seat. (seat.size ≤ 2 ^ 62) × (seat.used ≤ 2 ^ 62) × (seat.reach ≤ 2 ^ 62)) }
     ensures why { IfErr result (IsHeadFault head.now area) }
     ensures stays { Stays (D.meaning disk.old) (D.meaning disk.new) }

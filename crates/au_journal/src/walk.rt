@@ -5,7 +5,7 @@ ghost use Rattle.au_io.specs.Areas.{area_of};
 ghost use Rattle.au_io.specs.Disk.{Stays};
 ghost use Rattle.au_journal.specs.Causes.{WalkCause};
 ghost use Rattle.au_journal.specs.Frames.{IsShut};
-ghost use Rattle.au_journal.specs.Walk.{HasFrame, WalkSays};
+ghost use Rattle.au_journal.specs.Walk.{BeginsWithFrame, WalkSays};
 ghost use Rattle.au_journal.specs.Window.{Shows};
 
 use crate::MountFault;
@@ -28,7 +28,7 @@ pub(crate) fn length_at<D: Disk>(
     requires short { used ≤ 2 ^ 62 }
     requires shown { D.told → Shows window.old (area_of area (D.meaning disk.old).reads) }
     ensures next { D.told → size ≡ length (area_of area (D.meaning disk.old).reads) → IfOk result (λ found. MatchOption found (IsShut (drop used (area_of area (D.meaning disk.old).reads)))
-        (λ n. HasFrame n (drop used (area_of area (D.meaning disk.old).reads)))) }
+        (λ n. BeginsWithFrame n (drop used (area_of area (D.meaning disk.old).reads)))) }
     ensures fits { IfOk result (λ found. MatchOption found ⊤ (λ n. used + 9 + n ≤ size)) }
     ensures why { D.told → size ≡ length (area_of area (D.meaning disk.old).reads) → IfErr result (WalkSays (drop used (area_of area (D.meaning disk.old).reads)) area used) }
     ensures never_unformatted { IfErr result (λ why. why ≢ MountFault.Unformatted) }

@@ -1,11 +1,13 @@
 //! Adding a body to a journal, changing its area, and mending what failed.
 ghost use Rattle.std.specs.Prelude.{◌≡◌, ◌↔◌, ◌<◌, ◌≤◌, ◌+◌, ◌^◌, ◌≢◌, ◌++◌, [], ◌∷◌, List, ℕ, true, false, length, IfOk, IfErr, OnOk};
 ghost use Rattle.au_io.specs.declared.disk.Area.TheVariants as area;
+ghost use Rattle.au_io.specs.Areas.{area_of};
 ghost use Rattle.au_io.specs.Disk.{Passes, Stays};
 ghost use Rattle.au_io.specs.Moments.{LeavesSince};
 ghost use Rattle.au_journal.specs.Causes.{SeatCause};
 ghost use Rattle.au_journal.specs.Images.{IsSafe};
-ghost use Rattle.au_journal.specs.Seats.{AppendDoubts, IsSettled, IsDoubted, IsFramed, IsUnmoved, MayLeave, advanced, gate_bytes, with_frame};
+ghost use Rattle.au_journal.specs.Lengths.{gate_bytes};
+ghost use Rattle.au_journal.specs.Seats.{AppendDoubts, IsSettled, IsDoubted, IsFramed, IsUnmoved, MayLeave, advanced, with_frame};
 
 use crate::appending::{add_frame, close_end};
 use crate::flipping::flip_seat;
@@ -17,7 +19,8 @@ use au_io::Disk;
 /// in doubt.
 fn append_at<D: Disk>(disk: &mut D, seat: Seat, framed: &[u8]) -> Result<Seat, Seat>
     requires short { seat.used ≤ 2 ^ 62 }
-    requires stands { D.told → (bodies : List (List ℕ)) × IsSettled (D.meaning disk.old) seat bodies }
+    requires within { D.told → seat.used ≤ length (area_of seat.area (D.meaning disk.old).reads) }
+    requires gated { D.told → seat.bare ≡ false → seat.used < length (area_of seat.area (D.meaning disk.old).reads) }
     ensures appended { D.told → (bodies : List (List ℕ)) (body : List ℕ) → IsFramed framed.now body → IsSettled (D.meaning disk.old) seat bodies
         → IfOk result (λ new. IsSettled (D.meaning disk.new) new (bodies ++ body ∷ [])) }
     ensures doubted { D.told → (bodies : List (List ℕ)) (body : List ℕ) → IsFramed framed.now body → IsSettled (D.meaning disk.old) seat bodies
@@ -48,6 +51,7 @@ impl<D: Disk> Journal<D> {
     ghost use Rattle.au_journal.specs.Journals.{disk_of, seat_of};
     ghost use Rattle.au_journal.specs.Causes.{AppendCause, MendCause};
     ghost use Rattle.au_journal.specs.Images.{other_of};
+    ghost use Rattle.au_journal.specs.Lengths.{flip_cost};
     ghost use Rattle.au_journal.specs.Seats.{FlipDoubts, IsFullAt, IsSynced, NeedsSyncAlone, flipped, mend_bytes, mended, mended_reads, there_of, with_image};
 
     /// Adds a body, given as framed bytes: its length, the body and a closed gate. Never `Full` where
@@ -56,7 +60,6 @@ impl<D: Disk> Journal<D> {
         requires ended { (seat_of self.old).ended ≡ true }
         requires settled { (seat_of self.old).doubt ≡ Doubt.Settled }
         requires framed { (body : List ℕ) × IsFramed framed.now body }
-        requires stands { D.told → (bodies : List (List ℕ)) × IsSettled (D.meaning (disk_of self.old)) (seat_of self.old) bodies }
         ensures appended { D.told → (bodies : List (List ℕ)) (body : List ℕ) → IsFramed framed.now body → IsSettled (D.meaning (disk_of self.old)) (seat_of self.old) bodies
             → result ≡ Appended.Done → IsSettled (D.meaning (disk_of self.new)) (seat_of self.new) (bodies ++ body ∷ []) }
         ensures doubted { D.told → (bodies : List (List ℕ)) (body : List ℕ) → IsFramed framed.now body → IsSettled (D.meaning (disk_of self.old)) (seat_of self.old) bodies
@@ -68,6 +71,7 @@ impl<D: Disk> Journal<D> {
         ensures full { (needed limit : ℕ) → result ≡ Appended.Full needed limit ↔ IsFullAt (seat_of self.old) free (length framed.now) needed limit }
         ensures untouched { (needed limit : ℕ) → result ≡ Appended.Full needed limit → self.new ≡ self.old }
         ensures advances { result ≡ Appended.Done → seat_of self.new ≡ advanced (length framed.now) (seat_of self.old) }
+        ensures ended { (seat_of self.new).ended ≡ true }
         ensures in_doubt { result ≡ Appended.Disk → AppendDoubts (seat_of self.new).doubt }
         ensures rests { result ≡ Appended.Disk → IsUnmoved (seat_of self.old) (seat_of self.new) }
         ensures time { Passes (D.meaning (disk_of self.old)) (D.meaning (disk_of self.new)) }
@@ -108,10 +112,11 @@ impl<D: Disk> Journal<D> {
         ensures safe { D.told → result ≡ Appended.Done → IsSafe (seat_of self.new).area (D.meaning (disk_of self.new)) × IsSafe area.Head (D.meaning (disk_of self.new)) }
         ensures never_full { (needed limit : ℕ) → result ≢ Appended.Full needed limit }
         ensures moves { result ≡ Appended.Done → seat_of self.new ≡ flipped (length framed.now) (seat_of self.old) }
+        ensures ended { (seat_of self.new).ended ≡ true }
         ensures in_doubt { result ≡ Appended.Disk → FlipDoubts (seat_of self.new).doubt }
         ensures rests { result ≡ Appended.Disk → IsUnmoved (seat_of self.old) (seat_of self.new) }
         ensures time { Passes (D.meaning (disk_of self.old)) (D.meaning (disk_of self.new)) }
-        ensures cost { (D.meaning (disk_of self.new)).written ≤ (D.meaning (disk_of self.old)).written + 15 + length framed.now }
+        ensures cost { (D.meaning (disk_of self.new)).written ≤ (D.meaning (disk_of self.old)).written + flip_cost (length framed.now) }
         ensures cause { AppendCause result (D.faults (disk_of self.old)) (D.faults (disk_of self.new)) }
     {
         self.window.clear();
@@ -130,7 +135,6 @@ impl<D: Disk> Journal<D> {
     /// After an append or a flip that failed: makes the journal stand for the bodies before it.
     pub fn mend(&mut self) -> Mended
         requires ended { (seat_of self.old).ended ≡ true }
-        requires stands { D.told → (bodies others : List (List ℕ)) × IsDoubted (D.meaning (disk_of self.old)) (seat_of self.old) bodies others }
         ensures mended { D.told → (bodies others : List (List ℕ)) → IsDoubted (D.meaning (disk_of self.old)) (seat_of self.old) bodies others
             → result ≡ Mended.Done → IsSettled (D.meaning (disk_of self.new)) (seat_of self.new) bodies }
         ensures doubted { (bodies others : List (List ℕ)) → IsDoubted (D.meaning (disk_of self.old)) (seat_of self.old) bodies others
@@ -144,6 +148,7 @@ impl<D: Disk> Journal<D> {
         ensures synced { result ≡ Mended.Done → IsSynced (seat_of self.old).doubt (seat_of self.old) (D.meaning (disk_of self.new)) }
         ensures mends { result ≡ Mended.Done → seat_of self.new ≡ mended (seat_of self.old) }
         ensures rests { result ≡ Mended.Disk → seat_of self.new ≡ seat_of self.old }
+        ensures ended { (seat_of self.new).ended ≡ true }
         ensures time { Passes (D.meaning (disk_of self.old)) (D.meaning (disk_of self.new)) }
         ensures cost { (D.meaning (disk_of self.new)).written ≤ (D.meaning (disk_of self.old)).written + mend_bytes (seat_of self.old).doubt }
         ensures cause { MendCause result (D.faults (disk_of self.old)) (D.faults (disk_of self.new)) }

@@ -8,8 +8,8 @@ use Rattle.std.proofs.lemmas.List.Elements.{All-append, All-nil}
 use Rattle.au_script.specs.Lines.{line_limit}
 use Rattle.au_main.specs.declared.line.Line.TheVariants.{Ended, Last, End, Overlong, Failed, Beyond}
 use Rattle.au_main.specs.Lines.{HasNoEnd, LF, script_limit}
-use Rattle.au_main.specs.Stretch.{Stretch, IsMoved}
-use Rattle.au_main.specs.NextLine.{NextLine}
+use Rattle.au_main.specs.descent.Stretch.{Stretch, IsMoved}
+use Rattle.au_main.specs.descent.NextLine.{NextLine}
 
 -- what was pending and what the source gave since are the line so far and what is pending now
 pub record Gathers (old new : Stretch) (left now : Option (List ℕ)) (line : List ℕ) : Type 0 where

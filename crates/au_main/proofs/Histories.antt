@@ -17,14 +17,14 @@ use Rattle.au_script.specs.declared.lines.ScriptLine.TheVariants as line
 use Rattle.au_journal.specs.declared.seat.Seat.{Seat}
 use Rattle.au_store.specs.declared.entry.Entry.{Entry}
 use Rattle.au_store.specs.declared.entry.Entry.TheVariants.{Opened, Stepped, Abandoned, Faulted, Filled}
-use Rattle.au_store.specs.History.{GoesBy, GoesOver, IsFaulted, IsStepped, IsStill, Reached, StandsFor, first_of, reached_of}
+use Rattle.au_store.specs.History.{GoesBy, GoesOver, IsFaulted, IsStepped, IsUnchanged, Reached, StandsFor, first_of, reached_of}
 use Rattle.au_store.specs.Steps.{event_at}
 use Rattle.au_store.specs.Stored.{Stored, IsKeptOn}
 use Rattle.au_main.specs.Answers.{AllTell, Answer, AreUnmended, AnswerTells, IsLegalBy, LeavesDoubt, Made, Unmended, ReadAll, UnmendedInDoubt, asks_of, line_of, readings_of, said_of, steps_of, texts}
 use Rattle.au_main.specs.Built.{IsScriptLine}
 use Rattle.au_main.specs.Means.{Means}
 use Rattle.au_main.specs.Ran.{Ran}
-use Rattle.au_main.specs.Serving.{Answers, Does, DoubtBy, Serves, StateBy}
+use Rattle.au_main.specs.descent.Serving.{Answers, Does, DoubtBy, Serves, StateBy}
 use Rattle.au_main.proofs.OnDisk.{AreUnmended-push, IsOnDisk-none, IsOnDisk-more}
 
 -- ---- lists
@@ -91,7 +91,7 @@ module _ (faults : ℕ) (p q : Reached) where
 
   one_filled : (client : ClientNo) (ask : Ask) (reading needed : ℕ) → GoesOver p (Filled client ask reading needed ∷ []) q → counted faults q ≡ counted faults p
   one_filled client ask reading needed over =
-      let still = subst (λ (x : Reached). IsStill p x) (sym over.2) over.1.1 in same_place faults p q still.state still.used still.limit
+      let still = subst (λ (x : Reached). IsUnchanged p x) (sym over.2) over.1.1 in same_place faults p q still.state still.used still.limit
 
   -- what an answer tells: a reply is one more step, and anything else is none
   steps_go : (a : Answer) (made : List Entry) → AnswerTells a made → GoesOver p made q → GoesOver (counted faults p) (steps_of a) (counted faults q)

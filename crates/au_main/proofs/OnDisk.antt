@@ -16,7 +16,7 @@ use Rattle.au_engine.specs.State.{State}
 use Rattle.au_store.specs.declared.entry.Entry.{Entry}
 use Rattle.au_store.specs.History.{GoesOver, Reached}
 use Rattle.au_store.specs.Recovery.{RecoversTo, RecoversToEither, ReplayedTo}
-use Rattle.au_store.specs.Standing.{Holds, IsInDoubt}
+use Rattle.au_journal.specs.Standing.{Holds, IsInDoubt}
 use Rattle.au_store.specs.Doubts.{HasFrame, IsAfter, IsStoodOn}
 use Rattle.au_store.specs.Steps.{StepLeaves, event_at}
 use Rattle.au_store.specs.Stored.{IsKeptOn}

@@ -3,7 +3,7 @@ use Rattle.std.proofs.Common.{◌≡◌, ℕ, ◌+◌, ◌-◌, ◌≤◌, List,
 use Rattle.std.specs.List.{slice_range}
 use Rattle.std.proofs.lemmas.List.{nil_from_length, drop-take, drop-drop}
 use Rattle.au_main.specs.Lines.{HasNoEnd, LF}
-use Rattle.au_main.specs.Stretch.{IsMoved}
+use Rattle.au_main.specs.descent.Stretch.{IsMoved}
 
 range_is : (xs : List ℕ) (front end : ℕ) → front ≤ end → slice_range xs front end ≡ drop front (take end xs)
 range_is xs front end within =

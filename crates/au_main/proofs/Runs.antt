@@ -17,13 +17,13 @@ use Rattle.au_main.specs.Built.{IsNoScriptLine}
 use Rattle.au_main.specs.Given.{AppendsBehind, AppendsFront}
 use Rattle.au_main.specs.Lines.{AreLines, BeginsWithLines, HasNoEnd, LF, TakenLines, TakenOf, ended, last_line, with_end}
 use Rattle.au_main.specs.Means.{Means}
-use Rattle.au_main.specs.NextLine.{NextLine, Takes}
+use Rattle.au_main.specs.descent.NextLine.{NextLine, Takes}
 use Rattle.au_script.specs.Lines.{IsContent, carriage_return, line_limit}
 use Rattle.au_main.specs.declared.status.Status.{Status}
 use Rattle.au_main.specs.declared.status.Status.TheVariants.{Done, Usage, ReadFault, WriteFault, DiskFault, Unformatted, Formatted, Damaged, BadLine, TooLong, LobbyFault, Memory, Worn}
-use Rattle.au_main.specs.Ran.{EndsLast, IsReadCause, Ran, RanTo, RanToBadLine, RanToFront}
-use Rattle.au_main.specs.Serving.{FoundNoMemory, Served, ServedInPart, Stays}
-use Rattle.au_main.specs.Stretch.{Stretch}
+use Rattle.au_main.specs.Ran.{IsReadCause, Ran, RanTo, RanToBadLine, RanToFront}
+use Rattle.au_main.specs.descent.Serving.{DidNothing, EndsLast, FoundNoMemory, Served, ServedInPart}
+use Rattle.au_main.specs.descent.Stretch.{Stretch}
 use Rattle.au_main.specs.declared.line.Line.TheVariants.{Ended, Last, End, Overlong, Failed, Beyond}
 use Rattle.au_main.proofs.Histories.{AllByRecursion-append, Ran-none, Ran-more}
 
@@ -283,7 +283,7 @@ module _ {D C : Type 0} (means : Means D C) where
             )
 
         -- nothing was done since
-        stayed : Stays m n h i → Ended-so Memory a c o n g i
+        stayed : DidNothing m n h i → Ended-so Memory a c o n g i
         stayed stays = rw (stays.0, stays.1) (so_far.answers, RanToFront-before c more then)
 
         no_memory : TakenLines (so_far.lines ++ line ∷ []) (so_far.got ++ more) c → FoundNoMemory means m n line h i → Ended-so Memory a c o n g i
@@ -291,7 +291,7 @@ module _ {D C : Type 0} (means : Means D C) where
         no_memory begins (inr served) = in_part begins served
 
         bad_line : (number : ℕ) (got : List ℕ) → number ≡ count + 1 → IfSome a (BeginsWithLines (so_far.lines ++ line ∷ [])) → Consumes a c (ended so_far.lines ++ got) → TakenOf line got c
-            → IsNoScriptLine line → Stays m n h i → Ended-so (BadLine number) a c o n g i
+            → IsNoScriptLine line → DidNothing m n h i → Ended-so (BadLine number) a c o n g i
         bad_line number got counted stands taken of_bad nothing stays =
             rw (stays.0, stays.1) (so_far.answers, RanToBadLine-line number counted line got whole stands taken of_bad nothing)
 
@@ -326,7 +326,7 @@ module _ {D C : Type 0} (means : Means D C) where
         pub RanToFront-no_memory : FoundNoMemory means m n v.items h i → Ended-so Memory a c o n g i
         RanToFront-no_memory found = no_memory n i v.items line.got line.next.0 line.taken (inl (q.bytes, joined_ended)) found
 
-        pub RanToBadLine-ended : (number : ℕ) → number ≡ count + 1 → IsNoScriptLine v.items → Stays m n h i → Ended-so (BadLine number) a c o n g i
+        pub RanToBadLine-ended : (number : ℕ) → number ≡ count + 1 → IsNoScriptLine v.items → DidNothing m n h i → Ended-so (BadLine number) a c o n g i
         RanToBadLine-ended number counted nothing stays =
             bad_line n i v.items line.got line.next.0 line.taken number (v.items ++ LF ∷ q.bytes) counted (begins-ended so_far.lines v.items q.bytes a c taken_ended) taken_ended (inl (q.bytes, refl)) nothing stays
 

@@ -22,7 +22,7 @@ use Rattle.au_store.specs.Stored.{Stored, IsKeptOn}
 use Rattle.au_main.specs.Answers.{AnswerTells, Made, Unmended, ReadAll, line_of, said_of}
 use Rattle.au_main.specs.Built.{IsBuilt, IsBuiltLine, IsNoScriptLine, IsScriptLine}
 use Rattle.au_main.specs.Means.{Means}
-use Rattle.au_main.specs.Serving.{AnswersBy, Served, ServedInPart, Told, ToldInPart}
+use Rattle.au_main.specs.descent.Serving.{AnswersBy, Served, ServedInPart, Told, ToldInPart}
 
 read_one : (t u : Option Ticking) (reading : ℕ) → Reads t u reading → ReadAll t u (reading ∷ [])
 read_one None u reading h = tt

@@ -6,10 +6,8 @@ pub mod Given
 pub mod Init
 pub mod Lines
 pub mod Means
-pub mod NextLine
 pub mod OnDisk
 pub mod Ran
-pub mod Serving
 pub mod Status
-pub mod Stretch
 pub mod Words
+pub mod descent

@@ -22,7 +22,6 @@ use Rattle.au_main.specs.Given.{AppendsBehind}
 use Rattle.au_main.specs.Lines.{AreLines, ended, last_line, BeginsWithLines, TakenLines, TakenOf, script_limit}
 use Rattle.au_main.specs.Means.{Means}
 use Rattle.au_main.specs.OnDisk.{IsOnDisk, RecoversAfter, RecoversAlong}
-use Rattle.au_main.specs.Serving.{FoundNoMemory, Served, ServedInPart, Stays}
 
 -- These lines were done in the store as it was opened, and it went on to what it is now. Each ask has one answer, at the
 -- clock's next reading unless an earlier step's doubt couldn't be mended. The store as it was opened and the steps that were
@@ -129,22 +128,6 @@ IsReadCause _ before now = now ≡ before
 abbrev pub IsWriteCause : Status → ℕ → ℕ → Type 0
 IsWriteCause WriteFault before now = HasRisen before now
 IsWriteCause _ before now = now ≡ before
-
--- what becomes of a last line, which has this number
-abbrev pub EndsLast : {D C : Type 0} → Means D C → ℕ → Status → (s t : Stored D C) (bytes : List ℕ) (given gave : Option (List ℕ)) → Type 0
-EndsLast means number Done s t bytes given gave = Served means s t bytes given gave
-EndsLast means number (BadLine k) s t bytes given gave = (k ≡ number) × IsNoScriptLine bytes × Stays s t given gave
-EndsLast means number WriteFault s t bytes given gave = ServedInPart means s t bytes given gave
-EndsLast means number Memory s t bytes given gave = FoundNoMemory means s t bytes given gave
-EndsLast means number ReadFault s t bytes given gave = ⊥
-EndsLast means number TooLong s t bytes given gave = ⊥
-EndsLast means number Usage s t bytes given gave = ⊥
-EndsLast means number DiskFault s t bytes given gave = ⊥
-EndsLast means number Unformatted s t bytes given gave = ⊥
-EndsLast means number Formatted s t bytes given gave = ⊥
-EndsLast means number (Damaged area at) s t bytes given gave = ⊥
-EndsLast means number LobbyFault s t bytes given gave = ⊥
-EndsLast means number Worn s t bytes given gave = ⊥
 
 -- how a run ends where no store was opened
 abbrev pub status_of : OpenFault → Status

@@ -1,7 +1,7 @@
 //! The lines of a script, one after another.
 ghost use Rattle.std.specs.Prelude.{◌≡◌, ◌≤◌, IfOk, OnErr};
 ghost use Rattle.au_main.specs.Lines.{script_limit};
-ghost use Rattle.au_main.specs.NextLine.{NextLine, IsNextCause, Takes};
+ghost use Rattle.au_main.specs.descent.NextLine.{NextLine, IsNextCause, Takes};
 
 use crate::line::Line;
 use crate::refill::Refill;

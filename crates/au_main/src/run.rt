@@ -3,7 +3,8 @@ ghost use Rattle.std.specs.Prelude.{◌≡◌, ◌⊎◌, List};
 ghost use Rattle.au_store.specs.Stored.{IsKeptOn};
 ghost use Rattle.au_main.specs.Answers.{Answer};
 ghost use Rattle.au_main.specs.Means.{means_of};
-ghost use Rattle.au_main.specs.Ran.{EndsLast, HasRun, IsReadCause, IsUnopened, IsWriteCause, RanTo, status_of};
+ghost use Rattle.au_main.specs.Ran.{HasRun, IsReadCause, IsUnopened, IsWriteCause, RanTo, status_of};
+ghost use Rattle.au_main.specs.descent.Serving.{EndsLast};
 
 use crate::line::Line;
 use crate::next_line::next_line;

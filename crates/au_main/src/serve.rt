@@ -5,7 +5,7 @@ ghost use Rattle.au_engine.specs.Step.{IsAsked};
 ghost use Rattle.au_main.specs.Answers.{line_of};
 ghost use Rattle.au_main.specs.Built.{IsNoScriptLine};
 ghost use Rattle.au_main.specs.Means.{means_of};
-ghost use Rattle.au_main.specs.Serving.{AnswersBy, FoundNoMemory, Served, ServedInPart, Stays, Told, ToldInPart};
+ghost use Rattle.au_main.specs.descent.Serving.{AnswersBy, DidNothing, FoundNoMemory, Served, ServedInPart, Told, ToldInPart};
 
 use crate::built::built_ask;
 use crate::give::give_all;
@@ -32,7 +32,7 @@ pub(crate) fn serve_line<D: Disk, C: Clock, W: Sink>(
     ensures write_fault { IsErrOf result Stop.WriteFault → ServedInPart (means_of D.told D.meaning D.faults C.ticking) store.old store.new bytes.now (W.given sink.old) (W.given sink.new) }
     ensures memory { IsErrOf result Stop.Memory → FoundNoMemory (means_of D.told D.meaning D.faults C.ticking) store.old store.new bytes.now (W.given sink.old) (W.given sink.new) }
     ensures bad { IsErrOf result Stop.BadLine → IsNoScriptLine bytes.now }
-    ensures bad_stays { IsErrOf result Stop.BadLine → Stays store.old store.new (W.given sink.old) (W.given sink.new) }
+    ensures bad_stays { IsErrOf result Stop.BadLine → DidNothing store.old store.new (W.given sink.old) (W.given sink.new) }
     ensures cause { IsErrOf result Stop.WriteFault → HasRisen (W.faults sink.old) (W.faults sink.new) }
     ensures well { (IsErrOf result Stop.WriteFault → ⊥) → W.faults sink.new ≡ W.faults sink.old }
 {

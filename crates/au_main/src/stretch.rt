@@ -26,7 +26,7 @@ pub(crate) struct Pending {
 impl Model for Pending {
     ghost use Rattle.std.specs.Prelude.{◌≤◌, ◌<◌, take, drop, vec_len};
     ghost use Rattle.au_main.specs.Lines.{script_limit};
-    ghost use Rattle.au_main.specs.Stretch.{Stretch};
+    ghost use Rattle.au_main.specs.descent.Stretch.{Stretch};
 
     ghost Value = { Stretch };
 
@@ -38,7 +38,7 @@ impl Model for Pending {
 impl Pending {
     ghost use Rattle.std.specs.Prelude.{◌≤◌};
     ghost use Rattle.au_main.specs.Lines.{script_limit};
-    ghost use Rattle.au_main.specs.Stretch.{IsMoved, IsRefilled, IsRefillCause};
+    ghost use Rattle.au_main.specs.descent.Stretch.{IsMoved, IsRefilled, IsRefillCause};
 
     /// Nothing was taken yet.
     pub(crate) fn new(alloc: Global) -> Result<Pending, Memory>

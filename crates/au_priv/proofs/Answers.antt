@@ -13,7 +13,7 @@ use Rattle.au_priv.specs.declared.allowed.Allowed.TheVariants.{Owner, Object, Sy
 use Rattle.au_grants.specs.declared.grants.Grants.{Grants}
 use Rattle.au_priv.specs.Allowing.{AllowedIs, AllowedOnTable, AllowedOnTrail, IsRefusal, HoldsSomeAnyTable, any_table_privilege}
 use Rattle.au_grants.specs.declared.right.Sought.TheVariants.{AnyTable}
-use Rattle.au_grants.specs.Holding.{HasRight, is_any_table, same_table}
+use Rattle.au_grants.specs.Holding.{Holds, is_any_table, same_table}
 use Rattle.au_grants.specs.Rights.{Name}
 use Rattle.au_priv.proofs.Tables.{same_table-is, same_table-refl}
 
@@ -33,10 +33,10 @@ any_table_of A.Delete privilege is = ap is_any_table (sym (same_Some DeleteAnyTa
 any_table_of _ privilege is = absurd (cc)
 
 -- who has one of them holds it
-pub any_table_held : (grants : Grants) (user : Name) → HasRight grants user AnyTable ↔ HoldsSomeAnyTable grants user
+pub any_table_held : (grants : Grants) (user : Name) → Holds grants user AnyTable ↔ HoldsSomeAnyTable grants user
 any_table_held grants user = (
-  λ (holder, is, (privilege, admin, any, has)). (let some = some_action privilege any in (some.0, privilege, (some.1, (holder, is, (admin, has))))),
-  λ (action, privilege, (allows, (holder, is, (admin, has)))). (holder, is, (privilege, admin, any_table_of action privilege allows, has)),
+  λ (privilege, any, holds). (let some = some_action privilege any in (some.0, privilege, (some.1, holds))),
+  λ (action, privilege, (allows, holds)). (privilege, any_table_of action privilege allows, holds),
 )
 
 -- there is one code for a missing right

@@ -8,7 +8,8 @@ use Rattle.au_grants.specs.declared.grants.Grants.{Grants}
 use Rattle.au_priv.specs.declared.walking.Progress.{Progress}
 use Rattle.au_grants.specs.Changing.{applied_all}
 use Rattle.au_priv.specs.Pairs.{Pair}
-use Rattle.au_priv.specs.Walking.{Walked, AllPass, RefusesPair, SomeRefused, made, made_all}
+use Rattle.au_priv.specs.Walking.{AllPass, RefusesPair, SomeRefused, made, made_all}
+use Rattle.au_priv.specs.descent.Progressing.{Walked}
 
 pub applied_joined : (xs ys : List GrantChange) (grants : Grants) → applied_all (xs ++ ys) grants ≡ applied_all ys (applied_all xs grants)
 applied_joined [] ys grants = refl

@@ -1,6 +1,6 @@
 -- What becomes of pairs that are taken in order, each on the grants that the one before left (SQL Language
 -- Reference, "GRANT" and "REVOKE"; the codes and the limit are this project's profile).
-use Rattle.std.specs.Prelude.{◌≡◌, ◌<◌, ◌+◌, ℕ, List, [], ◌∷◌, ◌++◌, length, Bool, true, false, not, Option, Some, None, Result, Ok, Err, ◌⊎◌}
+use Rattle.std.specs.Prelude.{◌≡◌, ◌<◌, ◌+◌, ℕ, List, [], ◌∷◌, ◌++◌, length, Bool, true, false, not, Option, Some, None, ◌⊎◌}
 use Rattle.std.specs.List.{filter, list_any, slice_get}
 use Rattle.au_base.specs.declared.code.Code.{Code}
 use Rattle.au_base.specs.Codes.{CIRCULAR_ROLE_GRANT, TOO_MANY_OBJECTS, PRIVILEGE_NOT_GRANTED, ROLE_NOT_GRANTED, OBJECT_PRIVILEGE_NOT_GRANTED}
@@ -8,7 +8,6 @@ use Rattle.au_base.specs.Limits.{GRANTS}
 use Rattle.au_grants.specs.declared.change.GrantChange.{GrantChange}
 use Rattle.au_grants.specs.declared.change.GrantChange.TheVariants.{SystemGrant, SystemRevoke, RoleGrant, RoleRevoke, ObjectGrant, ObjectRevoke}
 use Rattle.au_grants.specs.declared.grants.Grants.{Grants}
-use Rattle.au_priv.specs.declared.walking.Progress.{Progress}
 use Rattle.au_grants.specs.Changing.{Closes, applied_all, is_new}
 use Rattle.au_grants.specs.Holding.{grants_role, grants_role_as, grants_privilege, grants_privilege_as, grants_object}
 use Rattle.au_priv.specs.Pairs.{Pair}
@@ -65,9 +64,3 @@ abbrev pub SomeRefused : Grants → List Pair → Code → Type 0
 SomeRefused grants [] code = ⊥
 SomeRefused grants (pair ∷ pairs) code =
     RefusesPair grants pair code ⊎ (((other : Code) → ¬ RefusesPair grants pair other) × SomeRefused (applied_all (made grants pair) grants) pairs code)
-
--- the grants and the changes after the pairs, or the refusal of one
-abbrev pub Walked : Progress → List Pair → Result Progress Code → Type 0
-Walked start pairs (Ok end) =
-    AllPass start.after pairs × (end.changes ≡ start.changes ++ made_all start.after pairs) × (end.after ≡ applied_all (made_all start.after pairs) start.after)
-Walked start pairs (Err code) = SomeRefused start.after pairs code

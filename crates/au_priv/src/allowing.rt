@@ -1,20 +1,12 @@
 //! What a user may do with a table.
-ghost use Rattle.std.specs.Prelude.{◌≡◌, ◌≢◌, ◌≤◌, ◌↔◌, IsTrue, Some, length};
-ghost use Rattle.std.specs.Option.{option_map};
-ghost use Rattle.au_base.specs.Limits.{GRANTS};
-ghost use Rattle.au_grants.specs.declared.searching.TheConstants.{FEW_ROLES};
+ghost use Rattle.std.specs.Prelude.{◌≡◌, ◌≢◌, ◌↔◌, IsTrue, None, Some};
 ghost use Rattle.au_priv.specs.declared.allowed.Allowed.{Allowed};
-ghost use Rattle.au_priv.specs.Allowing.{AllowedIs, AllowedOnTable, AllowedOnTrail, IsRefusal, HasSomething, HoldsSomeAnyTable, ReadsTrail, any_table_privilege, dual_answer};
-ghost use Rattle.au_grants.specs.descent.Search.{IsReach};
+ghost use Rattle.au_priv.specs.Allowing.{AllowedIs, AllowedOnTable, AllowedOnTrail, IsRefusal, ReadsTrail, any_table_privilege, dual_answer};
 
 use crate::allowed::Allowed;
 use au_base::built_in::{AUDIT_ADMIN, AUDIT_VIEWER};
-use au_base::limits::GRANTS;
 use au_base::{Action, Code, Name, Privilege, TableName};
-use au_grants::{
-    FEW_ROLES, Grants, Sought, has_found, is_granted, is_grantee, reach,
-    searches_without_grants_find_none,
-};
+use au_grants::{Grants, Sought};
 
 /// What the user may do with the table, and by what.
 pub fn allowed_on(grants: &Grants, user: &Name, table: &TableName, action: Action) -> Allowed
@@ -51,120 +43,70 @@ fn on_trail(grants: &Grants, user: &Name, action: Action) -> Allowed
 fn reads_trail(grants: &Grants, user: &Name) -> bool
     ensures { IsTrue result ↔ ReadsTrail grants.now user.now }
 {
-    grants.holds_role_named(user, AUDIT_ADMIN) || grants.holds_role_named(user, AUDIT_VIEWER)
+    let readers = [Sought::Role(AUDIT_ADMIN), Sought::Role(AUDIT_VIEWER)];
+    grants.first_right(user, &readers).is_some()
 }
 
-// The search for the user's roles is made once for all that is asked, and only where the user has
-// some role and the right isn't granted directly.
 fn on_table(grants: &Grants, user: &Name, table: &TableName, action: Action) -> Allowed
     ensures { AllowedOnTable grants.now user.now table.now action result }
 {
     if *user == table.owner {
         return Allowed::Owner;
     }
-    if is_granted(grants, user, Sought::Object(&*table, action)) {
-        return Allowed::Object;
-    }
-    let roles = grants.role_grants();
-    if !is_grantee(roles, user) {
-        searches_without_grants_find_none();
-        return on_table_found(grants, user, &[], 0, table, action);
-    }
-    if roles.len() <= FEW_ROLES {
-        on_table_by_few_roles(grants, user, table, action)
-    } else {
-        on_table_by_many_roles(grants, user, table, action)
-    }
-}
-
-fn on_table_by_few_roles(grants: &Grants, user: &Name, table: &TableName, action: Action) -> Allowed
-    requires other { user.now ≢ table.now.owner }
-    requires few { length grants.now.role ≤ FEW_ROLES }
-    ensures { AllowedOnTable grants.now user.now table.now action result }
-{
-    let mut marks = [false; FEW_ROLES];
-    let mut queue = [0; FEW_ROLES];
-    let roles = grants.role_grants();
-    let count = reach(roles, user, &mut marks[..roles.len()], &mut queue);
-    on_table_found(grants, user, &queue, count, table, action)
-}
-
-fn on_table_by_many_roles(
-    grants: &Grants,
-    user: &Name,
-    table: &TableName,
-    action: Action,
-) -> Allowed
-    requires other { user.now ≢ table.now.owner }
-    requires few { length grants.now.role ≤ GRANTS }
-    ensures { AllowedOnTable grants.now user.now table.now action result }
-{
-    let mut marks = [false; GRANTS];
-    let mut queue = [0; GRANTS];
-    let roles = grants.role_grants();
-    let count = reach(roles, user, &mut marks[..roles.len()], &mut queue);
-    on_table_found(grants, user, &queue, count, table, action)
-}
-
-fn on_table_found(
-    grants: &Grants,
-    user: &Name,
-    queue: &[usize],
-    count: usize,
-    table: &TableName,
-    action: Action,
-) -> Allowed
-    requires other { user.now ≢ table.now.owner }
-    requires reach { IsReach grants.now.role user.now queue.now count }
-    ensures { AllowedOnTable grants.now user.now table.now action result }
-{
-    if has_found(grants, user, queue, count, Sought::Object(&*table, action)) {
-        return Allowed::Object;
-    }
     match any_table(action) {
-        Some(privilege) if has_found(grants, user, queue, count, Sought::Privilege(privilege)) => {
-            Allowed::System(privilege)
+        Some(privilege) => by_right(grants, user, table, action, privilege),
+        None => by_object_privilege(grants, user, table, action),
+    }
+}
+
+// What another user than the owner may do, where a system privilege allows the action on any table.
+fn by_right(
+    grants: &Grants,
+    user: &Name,
+    table: &TableName,
+    action: Action,
+    privilege: Privilege,
+) -> Allowed
+    requires other { user.now ≢ table.now.owner }
+    requires any { any_table_privilege action ≡ Some privilege }
+    ensures { AllowedOnTable grants.now user.now table.now action result }
+{
+    let rights = [
+        Sought::Object(&*table, action),
+        Sought::Privilege(privilege),
+        Sought::SomeObject(&*table),
+        Sought::AnyTable,
+    ];
+    match grants.first_right(user, &rights) {
+        Some(place) => {
+            if place == 0 {
+                return Allowed::Object;
+            }
+            if place == 1 {
+                return Allowed::System(privilege);
+            }
+            Allowed::Refused(Code::PRIVILEGE_MISSING)
         }
-        _ => Allowed::Refused(refusal_found(grants, user, queue, count, table)),
+        None => Allowed::Refused(Code::NO_SUCH_TABLE),
     }
 }
 
-fn refusal_found(
-    grants: &Grants,
-    user: &Name,
-    queue: &[usize],
-    count: usize,
-    table: &TableName,
-) -> Code
-    requires { IsReach grants.now.role user.now queue.now count }
-    ensures { IsRefusal grants.now user.now table.now result }
+// What another user than the owner may do, where no system privilege allows the action.
+fn by_object_privilege(grants: &Grants, user: &Name, table: &TableName, action: Action) -> Allowed
+    requires other { user.now ≢ table.now.owner }
+    requires none { any_table_privilege action ≡ None }
+    ensures { AllowedOnTable grants.now user.now table.now action result }
 {
-    if has_something_found(grants, user, queue, count, table) {
-        Code::PRIVILEGE_MISSING
-    } else {
-        Code::NO_SUCH_TABLE
+    let rights = [
+        Sought::Object(&*table, action),
+        Sought::SomeObject(&*table),
+        Sought::AnyTable,
+    ];
+    match grants.first_right(user, &rights) {
+        Some(0) => Allowed::Object,
+        Some(_) => Allowed::Refused(Code::PRIVILEGE_MISSING),
+        None => Allowed::Refused(Code::NO_SUCH_TABLE),
     }
-}
-
-fn has_something_found(
-    grants: &Grants,
-    user: &Name,
-    queue: &[usize],
-    count: usize,
-    table: &TableName,
-) -> bool
-    requires { IsReach grants.now.role user.now queue.now count }
-    ensures { IsTrue result ↔ HasSomething grants.now user.now table.now }
-{
-    has_found(grants, user, queue, count, Sought::SomeObject(&*table))
-        || any_table_found(grants, user, queue, count)
-}
-
-fn any_table_found(grants: &Grants, user: &Name, queue: &[usize], count: usize) -> bool
-    requires { IsReach grants.now.role user.now queue.now count }
-    ensures { IsTrue result ↔ HoldsSomeAnyTable grants.now user.now }
-{
-    has_found(grants, user, queue, count, Sought::AnyTable)
 }
 
 fn any_table(action: Action) -> Option<Privilege>
@@ -184,36 +126,9 @@ fn any_table(action: Action) -> Option<Privilege>
 pub fn refusal(grants: &Grants, user: &Name, table: &TableName) -> Code
     ensures { IsRefusal grants.now user.now table.now result }
 {
-    let roles = grants.role_grants();
-    if !is_grantee(roles, user) {
-        searches_without_grants_find_none();
-        return refusal_found(grants, user, &[], 0, table);
+    let rights = [Sought::SomeObject(&*table), Sought::AnyTable];
+    match grants.first_right(user, &rights) {
+        Some(_) => Code::PRIVILEGE_MISSING,
+        None => Code::NO_SUCH_TABLE,
     }
-    if roles.len() <= FEW_ROLES {
-        refusal_by_few_roles(grants, user, table)
-    } else {
-        refusal_by_many_roles(grants, user, table)
-    }
-}
-
-fn refusal_by_few_roles(grants: &Grants, user: &Name, table: &TableName) -> Code
-    requires { length grants.now.role ≤ FEW_ROLES }
-    ensures { IsRefusal grants.now user.now table.now result }
-{
-    let mut marks = [false; FEW_ROLES];
-    let mut queue = [0; FEW_ROLES];
-    let roles = grants.role_grants();
-    let count = reach(roles, user, &mut marks[..roles.len()], &mut queue);
-    refusal_found(grants, user, &queue, count, table)
-}
-
-fn refusal_by_many_roles(grants: &Grants, user: &Name, table: &TableName) -> Code
-    requires { length grants.now.role ≤ GRANTS }
-    ensures { IsRefusal grants.now user.now table.now result }
-{
-    let mut marks = [false; GRANTS];
-    let mut queue = [0; GRANTS];
-    let roles = grants.role_grants();
-    let count = reach(roles, user, &mut marks[..roles.len()], &mut queue);
-    refusal_found(grants, user, &queue, count, table)
 }

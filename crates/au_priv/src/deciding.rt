@@ -1,23 +1,23 @@
 //! How GRANT and REVOKE are decided.
-ghost use Rattle.std.specs.Prelude.{◌≡◌, ◌≤◌, ◌↔◌, ◌⊎◌, ◌++◌, ◌∷◌, [], IfOk, IsTrue, MatchOption, if◌then◌else◌};
+ghost use Rattle.std.specs.Prelude.{◌≡◌, ◌≢◌, ◌≤◌, ◌↔◌, ◌⊎◌, ◌++◌, ◌∷◌, [], IfOk, IsTrue, MatchOption, MatchResult, if◌then◌else◌};
 ghost use Rattle.std.specs.List.{Contains};
 ghost use Rattle.au_base.specs.declared.code.Code.{Code};
 ghost use Rattle.au_base.specs.declared.privilege.Privilege.{Privilege};
+ghost use Rattle.au_base.specs.Codes.{PRIVILEGE_MISSING};
 ghost use Rattle.au_base.specs.Limits.{GRANTS};
 ghost use Rattle.au_grants.specs.Changing.{applied_all};
-ghost use Rattle.au_priv.specs.descent.Asking.{AreAnyHeld, any_of};
-ghost use Rattle.au_priv.specs.Deciding.{Administers, Decides, DecidesOnTable, DecidesPairs, DecidesRights, FirstRefused, IsBuiltIn, IsNoRole, IsUsed, IsUsedOnTable, Needs, NoneRefused, RefusesGrantee, RefusesRight, RefusesTable, any_right};
+ghost use Rattle.au_grants.specs.Holding.{Holds};
+ghost use Rattle.au_priv.specs.descent.Asking.{AreNeeded, AreNeededHeld, AreNeededWith, IsNeededWith};
+ghost use Rattle.au_priv.specs.Deciding.{Decides, DecidesOnTable, DecidesPairs, DecidesRights, FirstRefused, IsBuiltIn, IsNoRole, IsUsedOnTable, NoneRefused, RefusesGrantee, RefusesRight, RefusesTable};
 ghost use Rattle.au_priv.specs.Pairs.{object_pair, pairs, right_pair};
 ghost use Rattle.au_grants.specs.Rights.{HasNoCircle, HoldsPrivilege, grant_count};
 
-use crate::allowing::refusal;
 use crate::decided::{Decided, Known};
 use crate::pair::Way;
 use crate::walking::{Progress, walk_object_rights, walk_rights};
 use au_base::{Code, GrantStatement, List, Memory, Name, ObjectRight, Privilege, Right, TableName};
 use au_grants::{
     Course, GrantChange, Grants, Sought, changes_add_one_grant_at_most, changes_keep_no_circle,
-    has_right,
 };
 use std::alloc::Global;
 
@@ -29,10 +29,10 @@ struct Case<'a> {
     user: &'a Name,
 }
 
-/// Whether the user holds the system privileges by which every right of a kind may be granted and
-/// revoked.
+/// Which of the system privileges by which every right of a kind may be granted and revoked a
+/// statement needs.
 #[derive(Clone, Copy)]
-struct AnyHeld {
+struct Needed {
     /// GRANT ANY PRIVILEGE.
     privilege: bool,
     /// GRANT ANY ROLE.
@@ -133,13 +133,14 @@ fn decide_rights(
 ) -> Result<Decided, Memory>
     ensures { IfOk result (DecidesRights case.entry.grants.now case.entry.known.now case.entry.user.now way rights.now grantees.now) }
 {
-    let any = any_held(case);
-    if let Some(code) = rights_refusal(case, any, rights) {
-        return Ok(refused(alloc, code));
+    match needed_for(case, rights) {
+        Ok(needed) => {
+            let used = used_of(alloc, needed)?;
+            let (code, grants) = decide_right_pairs(alloc, case, way, rights, grantees)?;
+            Ok(Decided { code, used, grants })
+        }
+        Err(code) => Ok(refused(alloc, code)),
     }
-    let used = used_for(alloc, case, rights)?;
-    let (code, grants) = decide_right_pairs(alloc, case, way, rights, grantees)?;
-    Ok(Decided { code, used, grants })
 }
 
 fn decide_right_pairs(
@@ -215,54 +216,64 @@ fn refused(alloc: Global, code: Code) -> Decided
     }
 }
 
-fn rights_refusal(case: Case<'_>, any: AnyHeld, rights: &[Right]) -> Option<Code>
-    requires { AreAnyHeld case.grants.now case.user.now any.privilege any.role }
-    ensures { let Refuses = RefusesRight case.entry.grants.now case.entry.known.now case.entry.user.now in MatchOption result (NoneRefused Refuses rights.now) (FirstRefused Refuses rights.now) }
+// The refusal of the first right that is refused, or what the rights need.
+fn needed_for(case: Case<'_>, rights: &[Right]) -> Result<Needed, Code>
+    ensures { let Refuses = RefusesRight case.entry.grants.now case.entry.known.now case.entry.user.now in MatchResult result (λ needed. NoneRefused Refuses rights.now × AreNeeded case.entry.grants.now case.entry.user.now rights.now needed.privilege needed.role) (FirstRefused Refuses rights.now) }
 {
+    let mut needed = Needed {
+        privilege: false,
+        role: false,
+    };
     for right in rights {
-        if let Some(code) = right_refusal(case, any, right) {
-            return Some(code);
-        }
+        needed = with_right(case, needed, right)?;
     }
-    None
+    Ok(needed)
 }
 
-fn right_refusal(case: Case<'_>, any: AnyHeld, right: &Right) -> Option<Code>
-    requires { AreAnyHeld case.grants.now case.user.now any.privilege any.role }
-    ensures { let Refuses = RefusesRight case.entry.grants.now case.entry.known.now case.entry.user.now right.now in MatchOption result ((code : Code) → ¬ Refuses code) Refuses }
+// What is needed with one right more, or its refusal.
+fn with_right(case: Case<'_>, needed: Needed, right: &Right) -> Result<Needed, Code>
+    requires { AreNeededHeld case.grants.now case.user.now needed.privilege needed.role }
+    ensures { let Refuses = RefusesRight case.entry.grants.now case.entry.known.now case.entry.user.now right.now in MatchResult result (λ next. ((code : Code) → ¬ Refuses code) × AreNeededWith case.entry.grants.now case.entry.user.now right.now needed.privilege needed.role next.privilege next.role) Refuses }
 {
     if is_no_role(case.known, right) {
-        return Some(Code::NO_SUCH_ROLE);
+        return Err(Code::NO_SUCH_ROLE);
     }
-    if is_any_held(any, right) || administers(case, right) {
-        return None;
-    }
-    Some(Code::PRIVILEGE_MISSING)
-}
-
-fn any_held(case: Case<'_>) -> AnyHeld
-    ensures { AreAnyHeld case.entry.grants.now case.entry.user.now result.privilege result.role }
-{
-    AnyHeld {
-        privilege: has_right(
-            case.grants,
-            case.user,
-            Sought::Privilege(Privilege::GrantAnyPrivilege),
-        ),
-        role: has_right(
-            case.grants,
-            case.user,
-            Sought::Privilege(Privilege::GrantAnyRole),
-        ),
-    }
-}
-
-fn is_any_held(any: AnyHeld, right: &Right) -> bool
-    ensures { result ≡ any_of right.now any.privilege any.role }
-{
     match right {
-        Right::Privilege(_) => any.privilege,
-        Right::Role(_) => any.role,
+        Right::Privilege(privilege) => {
+            let right = Sought::PrivilegeWithAdmin(*privilege);
+            let any = Privilege::GrantAnyPrivilege;
+            Ok(Needed {
+                privilege: is_needed(case, needed.privilege, right, any)?,
+                role: needed.role,
+            })
+        }
+        Right::Role(role) => {
+            let right = Sought::RoleWithAdmin(role.as_str());
+            let any = Privilege::GrantAnyRole;
+            Ok(Needed {
+                privilege: needed.privilege,
+                role: is_needed(case, needed.role, right, any)?,
+            })
+        }
+    }
+}
+
+// Whether the system privilege for every right of a kind is needed, for a right of the kind or
+// already, or the refusal of the right. Who needs it already isn't asked for the right.
+fn is_needed(case: Case<'_>, needed: bool, right: Sought<'_>, any: Privilege) -> Result<bool, Code>
+    requires { IsTrue needed → HoldsPrivilege case.grants.now case.user.now any }
+    ensures { MatchResult result (λ next. IsNeededWith case.entry.grants.now case.entry.user.now needed right.entry any next) (λ code. (¬ Holds case.entry.grants.now case.entry.user.now right.entry) × (¬ HoldsPrivilege case.entry.grants.now case.entry.user.now any) × (code ≡ PRIVILEGE_MISSING)) }
+{
+    if needed {
+        return Ok(true);
+    }
+    match case
+        .grants
+        .first_right(case.user, &[right, Sought::Privilege(any)])
+    {
+        Some(0) => Ok(false),
+        Some(_) => Ok(true),
+        None => Err(Code::PRIVILEGE_MISSING),
     }
 }
 
@@ -272,32 +283,6 @@ fn is_no_role(known: &Known, right: &Right) -> bool
     match right {
         Right::Privilege(_) => false,
         Right::Role(role) => !is_among(known.roles.as_slice(), role),
-    }
-}
-
-fn any_right_privilege(right: &Right) -> Privilege
-    ensures { result ≡ any_right right.now }
-{
-    match right {
-        Right::Privilege(_) => Privilege::GrantAnyPrivilege,
-        Right::Role(_) => Privilege::GrantAnyRole,
-    }
-}
-
-fn administers(case: Case<'_>, right: &Right) -> bool
-    ensures { IsTrue result ↔ Administers case.entry.grants.now case.entry.user.now right.now }
-{
-    match right {
-        Right::Privilege(privilege) => has_right(
-            case.grants,
-            case.user,
-            Sought::PrivilegeWithAdmin(*privilege),
-        ),
-        Right::Role(role) => has_right(
-            case.grants,
-            case.user,
-            Sought::RoleWithAdmin(role.as_str()),
-        ),
     }
 }
 
@@ -330,42 +315,17 @@ fn is_table_among(tables: &[TableName], table: &TableName) -> bool
     tables.contains(table)
 }
 
-fn used_for(alloc: Global, case: Case<'_>, rights: &[Right]) -> Result<List<Privilege>, Memory>
-    ensures { IfOk result (IsUsed case.entry.grants.now case.entry.user.now rights.now) }
-{
-    let privilege = needs(case, rights, Privilege::GrantAnyPrivilege);
-    let role = needs(case, rights, Privilege::GrantAnyRole);
-    used_of(alloc, privilege, role)
-}
-
-fn used_of(alloc: Global, privilege: bool, role: bool) -> Result<List<Privilege>, Memory>
-    ensures { IfOk result (λ used. used ≡ (if privilege then Privilege.GrantAnyPrivilege ∷ [] else []) ++ (if role then Privilege.GrantAnyRole ∷ [] else [])) }
+fn used_of(alloc: Global, needed: Needed) -> Result<List<Privilege>, Memory>
+    ensures { IfOk result (λ used. used ≡ (if needed.privilege then Privilege.GrantAnyPrivilege ∷ [] else []) ++ (if needed.role then Privilege.GrantAnyRole ∷ [] else [])) }
 {
     let mut used = List::new(alloc);
-    if privilege {
+    if needed.privilege {
         used.push(Privilege::GrantAnyPrivilege)?;
     }
-    if role {
+    if needed.role {
         used.push(Privilege::GrantAnyRole)?;
     }
     Ok(used)
-}
-
-fn needs(case: Case<'_>, rights: &[Right], privilege: Privilege) -> bool
-    ensures { IsTrue result ↔ Needs case.entry.grants.now case.entry.user.now rights.now privilege }
-{
-    for right in rights {
-        if is_needed_for(case, right, privilege) {
-            return true;
-        }
-    }
-    false
-}
-
-fn is_needed_for(case: Case<'_>, right: &Right, privilege: Privilege) -> bool
-    ensures { IsTrue result ↔ ((any_right right.now ≡ privilege) × (¬ Administers case.entry.grants.now case.entry.user.now right.now)) }
-{
-    any_right_privilege(right) == privilege && !administers(case, right)
 }
 
 fn table_refusal(case: Case<'_>, table: &TableName) -> Option<Code>
@@ -377,27 +337,35 @@ fn table_refusal(case: Case<'_>, table: &TableName) -> Option<Code>
     if !is_table_among(case.known.tables.as_slice(), table) {
         return Some(Code::NO_SUCH_TABLE);
     }
-    if may_grant_on(case, table) {
+    if *case.user == table.owner {
         return None;
     }
-    Some(refusal(case.grants, case.user, table))
+    privilege_refusal(case, table)
+}
+
+// The refusal on a table that is there, of a user who doesn't own it.
+fn privilege_refusal(case: Case<'_>, table: &TableName) -> Option<Code>
+    requires not_built_in { ¬ IsBuiltIn table.now }
+    requires there { Contains case.known.now.tables table.now }
+    requires other { case.user.now ≢ table.now.owner }
+    ensures { let Refuses = RefusesTable case.entry.grants.now case.entry.known.now case.entry.user.now table.now in MatchOption result ((code : Code) → ¬ Refuses code) Refuses }
+{
+    let rights = [
+        Sought::Privilege(Privilege::GrantAnyObjectPrivilege),
+        Sought::SomeObject(&*table),
+        Sought::AnyTable,
+    ];
+    match case.grants.first_right(case.user, &rights) {
+        Some(0) => None,
+        Some(_) => Some(Code::PRIVILEGE_MISSING),
+        None => Some(Code::NO_SUCH_TABLE),
+    }
 }
 
 fn is_built_in(table: &TableName) -> bool
     ensures { IsTrue result ↔ IsBuiltIn table.now }
 {
     table.is_dual() || table.is_trail()
-}
-
-fn may_grant_on(case: Case<'_>, table: &TableName) -> bool
-    ensures { IsTrue result ↔ ((case.entry.user.now ≡ table.now.owner) ⊎ HoldsPrivilege case.entry.grants.now case.entry.user.now Privilege.GrantAnyObjectPrivilege) }
-{
-    *case.user == table.owner
-        || has_right(
-            case.grants,
-            case.user,
-            Sought::Privilege(Privilege::GrantAnyObjectPrivilege),
-        )
 }
 
 fn used_on_table(alloc: Global, user: &Name, table: &TableName) -> Result<List<Privilege>, Memory>

@@ -4,7 +4,8 @@ ghost use Rattle.std.specs.List.{filter, list_any};
 ghost use Rattle.au_base.specs.declared.code.Code.{Code};
 ghost use Rattle.au_grants.specs.Changing.{Closes, applied_all, is_new};
 ghost use Rattle.au_priv.specs.Pairs.{right_pair, object_pair, pairs};
-ghost use Rattle.au_priv.specs.Walking.{Walked, RefusesPair, ClosesCircle, IsOverLimit, is_effective, missing_code, made};
+ghost use Rattle.au_priv.specs.Walking.{RefusesPair, ClosesCircle, IsOverLimit, is_effective, missing_code, made};
+ghost use Rattle.au_priv.specs.descent.Progressing.{Walked};
 
 use crate::pair::{Way, changes_of_object_right, changes_of_right};
 use au_base::limits::GRANTS;

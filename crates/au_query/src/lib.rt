@@ -15,6 +15,7 @@ mod scan;
 mod selected;
 mod size;
 mod source;
+mod tables;
 mod touching;
 
 pub use counting::count;

@@ -4,11 +4,12 @@ ghost use Rattle.std.specs.List.{list_any};
 ghost use Rattle.std.specs.Ordering.{nat_cmp};
 ghost use Rattle.std.specs.BTreeSet.{contains};
 ghost use Rattle.au_base.specs.declared.numbers.RowNo.{RowNo as Number};
-ghost use Rattle.au_query.specs.Answers.{stands_in, takes_part, touched_by};
-ghost use Rattle.au_query.specs.Combos.{lines};
+ghost use Rattle.au_query.specs.Answers.{places_of, stands_in, takes_part, touched_by};
+ghost use Rattle.au_query.specs.Combos.{lines, rows_of};
 
 use crate::Source;
 use crate::combo::Combo;
+use crate::tables::{is_first, places};
 use au_base::{Cell, List, Memory, RowNo, TableName};
 use std::alloc::Global;
 use std::collections::BTreeSet;
@@ -23,21 +24,36 @@ pub fn touched(
 {
     let mut touched = List::new(alloc);
     for (range, source) in sources.iter().enumerate() {
-        let numbers = touched_rows(alloc, combos, range, source.rows.as_slice())?;
-        touched.push((source.table.clone()?, numbers))?;
+        if is_first(sources, range, &source.table) {
+            touched.push(touched_table(alloc, combos, sources, source)?)?;
+        }
     }
     Ok(touched)
+}
+
+// The table, and the numbers of its rows that take part, at whatever places of FROM.
+fn touched_table(
+    alloc: Global,
+    combos: &[Combo<'_>],
+    sources: &[Source<'_>],
+    source: &Source<'_>,
+) -> Result<(TableName, List<RowNo>), Memory>
+    ensures { IfOk result (λ touched. touched ≡ (source.now.table, map (λ line. line.0) (filter (takes_part combos.now (places_of source.now.table sources.now)) (rows_of source.now)))) }
+{
+    let places = places(alloc, sources, &source.table)?;
+    let numbers = touched_rows(alloc, combos, &places, source.rows.as_slice())?;
+    Ok((source.table.clone()?, numbers))
 }
 
 fn touched_rows(
     alloc: Global,
     combos: &[Combo<'_>],
-    range: usize,
+    places: &[usize],
     rows: &[(RowNo, &[Cell])],
 ) -> Result<List<RowNo>, Memory>
-    ensures { IfOk result (λ numbers. numbers ≡ map (λ line. line.0) (filter (takes_part combos.now range) (lines rows.now))) }
+    ensures { IfOk result (λ numbers. numbers ≡ map (λ line. line.0) (filter (takes_part combos.now places.now) (lines rows.now))) }
 {
-    let there = numbers_at(alloc, combos, range)?;
+    let there = numbers_at(alloc, combos, places)?;
     let mut numbers = List::new(alloc);
     for (number, _) in rows {
         if there.contains(&number.0) {
@@ -47,16 +63,30 @@ fn touched_rows(
     Ok(numbers)
 }
 
-fn numbers_at(alloc: Global, combos: &[Combo<'_>], range: usize) -> Result<BTreeSet<u32>, Memory>
-    ensures { IfOk result (λ there. (number : Number) → contains nat_cmp there number.0 ≡ list_any (stands_in range number) combos.now) }
+fn numbers_at(
+    alloc: Global,
+    combos: &[Combo<'_>],
+    places: &[usize],
+) -> Result<BTreeSet<u32>, Memory>
+    ensures { IfOk result (λ there. (number : Number) → contains nat_cmp there number.0 ≡ list_any (stands_in places.now number) combos.now) }
 {
     let mut there = BTreeSet::new(alloc);
     for combo in combos {
-        if let Some((number, _)) = combo.get(range) {
-            add(&mut there, number)?;
-        }
+        add_all(&mut there, combo, places)?;
     }
     Ok(there)
+}
+
+// Adds the numbers of the combination's rows at the places.
+fn add_all(there: &mut BTreeSet<u32>, combo: &Combo<'_>, places: &[usize]) -> Result<(), Memory>
+    ensures { OnOk result ((number : Number) → contains nat_cmp there.new number.0 ≡ (stands_in places.now number combo.now || contains nat_cmp there.old number.0)) }
+{
+    for place in places {
+        if let Some((number, _)) = combo.get(*place) {
+            add(there, number)?;
+        }
+    }
+    Ok(())
 }
 
 fn add(there: &mut BTreeSet<u32>, number: RowNo) -> Result<(), Memory>

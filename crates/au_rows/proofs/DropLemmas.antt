@@ -213,12 +213,6 @@ freed-here old new table place f slot names =
     let here : place_names slot place ≡ true = grind (arith, common_steps) in
     f.freed slot (slot-named slot place.settled here)
 
-pub not-of : (table : ℕ) (place : Place) → place.table ≢ table → (slot : ℕ) → names_of table slot place ≡ true → ⊥
-not-of table place ne slot names =
-    let same : (place.table == table) ≡ true = grind (arith, common_steps) in
-    let is : place.table ≡ table = grind (arith, common_steps) in
-    ne is
-
 -- the tables of the places that are left are open
 pub gone-open : (table : ℕ) (tables : List (Option Table)) (places : List Place) → list_all (place_open tables) places ≡ true
     → list_all (place_open (set tables table None)) (filter (place_elsewhere table) places) ≡ true

@@ -1,7 +1,7 @@
 -- Tables whose names the index knows.
-use Rattle.std.proofs.Common.{◌≡◌, ◌≢◌, ◌∙◌, ℕ, zero, suc, ◌<◌, Bool, true, false, cond, is_some, ◌||◌, List, [], ◌∷◌, length, get_or, set, refl, ap, sym, subst, nat_eq, arith, Option, None, Some}
-use Rattle.std.specs.Prelude.{◌==◌, IsSome}
-use Rattle.std.specs.List.{list_any, position_or_len}
+use Rattle.std.proofs.Common.{◌≡◌, ◌≢◌, ◌∙◌, ℕ, zero, suc, Bool, true, false, cond, is_some, ◌||◌, List, [], ◌∷◌, length, get_or, set, refl, ap, sym, subst, nat_eq, arith, Option, None, Some}
+use Rattle.std.specs.Prelude.{◌==◌}
+use Rattle.std.specs.List.{list_any}
 use Rattle.std.proofs.lemmas.Grind.{common_steps}
 use Rattle.std.proofs.lemmas.List.{get_or-set_other}
 use Rattle.std.proofs.lemmas.List.Sums.{position_or_len_is}

@@ -1,5 +1,5 @@
 -- What the order of the places gives, and what keeps it.
-use Rattle.std.proofs.Common.{◌≡◌, ℕ, zero, suc, ◌<◌, ◌≤◌, Bool, true, false, List, [], ◌∷◌, length, get_or, refl, arith, Option}
+use Rattle.std.proofs.Common.{◌≡◌, ℕ, zero, suc, ◌<◌, ◌≤◌, Bool, true, false, List, [], ◌∷◌, length, get_or, refl, arith, Option, cond, ◌++◌}
 use Rattle.std.specs.List.{list_all}
 use Rattle.std.proofs.lemmas.Grind.{common_steps}
 use Rattle.au_base.specs.declared.numbers.RowNo.{RowNo}
@@ -94,3 +94,20 @@ with_place-order table number by slot places o = edited-order table number _ ref
 pub written-order : (table : ℕ) (number : RowNo) (y : Place) → y.table ≡ table → y.number.0 ≡ number.0 → (places : List Place)
     → in_order places ≡ true → in_order (edited (place_from table number) (place_at table number) places (y ∷ [])) ≡ true
 written-order table number y t n places o = edited-order table number y t n places o
+
+-- a place that is taken away leaves the order
+pub gone-order : (table : ℕ) (number : RowNo) (places : List Place) → in_order places ≡ true → in_order (edited (place_from table number) (place_at table number) places []) ≡ true
+gone-order table number [] o = refl
+gone-order table number (p ∷ ps) o = go (place_from table number p) (place_at table number p) later rest (gone-order table number ps rest)
+  where
+    later : list_all (is_before p) ps ≡ true
+    later = grind arith
+
+    rest : in_order ps ≡ true
+    rest = grind arith
+
+    go : (f a : Bool) → list_all (is_before p) ps ≡ true → in_order ps ≡ true → in_order (edited (place_from table number) (place_at table number) ps []) ≡ true
+        → in_order (cond f ([] ++ cond a ps (p ∷ ps)) (p ∷ edited (place_from table number) (place_at table number) ps [])) ≡ true
+    go true true l r e = r
+    go true false l r e = rw (l, r) refl
+    go false a l r e = rw (all_edited (is_before p) (place_from table number) (place_at table number) ps [] l refl, e) refl

@@ -1,8 +1,9 @@
 -- What a client's new content of a row, or its absence, leaves.
-use Rattle.std.proofs.Common.{◌≡◌, ◌≢◌, ◌⊎◌, inl, inr, ◌||◌, ℕ, ◌+◌, ◌≤◌, ◌<◌, Bool, true, false, is_some, List, [], ◌∷◌, ◌++◌, get_or, refl, ap, ap₂, sym, ◌∙◌, arith, Option, Some, None, map}
+use Rattle.std.proofs.Common.{◌≡◌, ◌≢◌, ◌⊎◌, inl, inr, ◌||◌, ℕ, zero, suc, length, ◌+◌, ◌≤◌, ◌<◌, Bool, true, false, is_some, List, [], ◌∷◌, ◌++◌, get_or, refl, ap, ap₂, sym, ◌∙◌, arith, Option, Some, None, map}
 use Rattle.std.specs.Prelude.{IsSome, IsNone, ◌==◌, nat_eq, nat_le}
 use Rattle.std.specs.List.{list_all, list_any, count_by}
 use Rattle.std.specs.Option.{option_map, option_and_then}
+use Rattle.std.proofs.lemmas.Bool.Decides.{nat_tests}
 use Rattle.std.proofs.lemmas.Grind.{common_steps}
 use Rattle.std.proofs.lemmas.List.{map-append}
 use Rattle.std.proofs.lemmas.List.Folds.{list_all-append, list_any-append}
@@ -327,25 +328,16 @@ open-there name tables h = named (get_or tables (number_of name tables) None) (p
     named (Some t) e = refl
 
 -- how much spare a call takes
-module _ (tables names places rows versions changes taken : ℕ) where
-  pub spare-put : (places' rows' versions' changes' taken' : ℕ)
-      → places ≤ places' → rows' ≤ rows + 1 → versions ≤ versions' + 1 → changes + taken' ≤ changes' + taken + 2
-      → spare_of tables names places rows versions changes taken ≤ spare_of tables names places' rows' versions' changes' taken' + 1
-  spare-put places' rows' versions' changes' taken' a b c d = omega arith
+module _ (tables names places versions changes taken : ℕ) where
+  pub spare-put : (tables' places' versions' changes' taken' : ℕ)
+      → tables ≤ tables' → places ≤ places' + 1 → versions ≤ versions' + 1 → changes + taken' ≤ changes' + taken + 2
+      → spare_of tables names places versions changes taken ≤ spare_of tables' names places' versions' changes' taken' + 1
+  spare-put tables' places' versions' changes' taken' t a b c = omega arith
 
-  pub spare-kept : (places' rows' versions' changes' taken' : ℕ)
-      → places ≤ places' → rows' ≤ rows → versions ≤ versions' → changes + taken' ≤ changes' + taken
-      → spare_of tables names places rows versions changes taken ≤ spare_of tables names places' rows' versions' changes' taken'
-  spare-kept places' rows' versions' changes' taken' a b c d = omega arith
-
-  pub spare-gone : (names' places' rows' versions' changes' taken' : ℕ)
-      → names ≤ names' → places ≤ places' → rows' ≤ rows → versions ≤ versions' → changes + taken' ≤ changes' + taken
-      → spare_of tables names places rows versions changes taken ≤ spare_of tables names' places' rows' versions' changes' taken'
-  spare-gone names' places' rows' versions' changes' taken' n a b c d = omega arith
-
-  pub spare-rooms : 0 < spare_of tables names places rows versions changes taken
-      → (0 < tables) × (0 < names) × (rows < places) × (0 < versions) × (taken + 2 ≤ changes)
-  spare-rooms h = (omega arith, omega arith, omega arith, omega arith, omega arith)
+  pub spare-kept : (tables' names' places' versions' changes' taken' : ℕ)
+      → tables ≤ tables' → names ≤ names' → places ≤ places' → versions ≤ versions' → changes + taken' ≤ changes' + taken
+      → spare_of tables names places versions changes taken ≤ spare_of tables' names' places' versions' changes' taken'
+  spare-kept tables' names' places' versions' changes' taken' t n a b c = omega arith
 
 pub same-contents : (tables : List (Option Table)) (held held' : List Held) (changes changes' : List Change) (spare : ℕ)
     → held' ≡ held → changes' ≡ changes
@@ -415,9 +407,19 @@ module _ (slots : List (Option Version)) (table : ℕ) (number : RowNo) (by : Cl
       let is : place_numbered found.0 ≡ true = found_passes place_numbered (place_from table number) (place_at table number) places found.0 sound.numbered found.1.0 in
       ap (nat_le 1) (sym (found-number table number places found.0 found.1.0)) ∙ is
 
+  pub mark-least : 1 ≤ number.0
+  mark-least = let is = mark_numbered in grind (arith, nat_tests)
+
   pub mark-changes : map (change_of slots) (changes ++ (record { by = by; table = table; number = number; slot = None }) ∷ [])
       ≡ map (change_of slots) changes ++ (record { by = by; table = table; number = number; content = None }) ∷ []
   mark-changes = map-append (change_of slots) changes ((record { by = by; table = table; number = number; slot = None }) ∷ [])
 
   pub mark-sound : Sound (with_place table number by None places) slots (changes ++ (record { by = by; table = table; number = number; slot = None }) ∷ [])
   mark-sound = sound-own slots slots table number by None places changes sound (λ t n s k. k) refl (whole-mark slots table number by places sound.whole) mark_numbered free_here (λ s some. inl some)
+
+-- a table that is there has its place among all
+pub open-within : (tables : List (Option Table)) (t : ℕ) → is_some (get_or tables t None) ≡ true → t < length tables
+open-within [] zero h = absurd (cc)
+open-within [] (suc t) h = absurd (cc)
+open-within (x ∷ xs) zero h = omega arith
+open-within (x ∷ xs) (suc t) h = let rest = open-within xs t h in omega arith

@@ -1,21 +1,22 @@
 -- What is left when the places of rows of which nothing is left are taken away.
-use Rattle.std.proofs.Common.{◌≡◌, ◌∙◌, inl, inr, ℕ, Bool, true, false, cond, is_some, ◌||◌, List, [], ◌∷◌, filter, refl, ap, sym, subst, arith, Option, Some, None, map}
-use Rattle.std.specs.List.{list_all, list_any}
-use Rattle.std.specs.Option.{option_and_then}
+use Rattle.std.proofs.Common.{◌≡◌, ◌∙◌, inl, inr, ℕ, Bool, true, false, cond, is_some, ◌||◌, ◌⊎◌, List, [], ◌∷◌, ◌++◌, filter, refl, ap, arith, Option, Some, None, map}
+use Rattle.std.specs.List.{list_all}
 use Rattle.std.proofs.lemmas.Grind.{common_steps}
 use Rattle.au_base.specs.declared.numbers.RowNo.{RowNo}
 use Rattle.au_base.specs.declared.numbers.ClientNo.{ClientNo}
 use Rattle.au_rows.specs.declared.ending.Ending.{Ending}
 use Rattle.au_rows.specs.declared.place.Place.{Place}
-use Rattle.au_rows.specs.declared.unsettled.Unsettled.{Unsettled}
 use Rattle.au_rows.specs.declared.version.Version.{Version}
 use Rattle.au_rows.specs.Chains.{is_slot}
-use Rattle.au_rows.specs.Ends.{EndedBefore, KeptOrEnded, is_bare, is_used_still}
+use Rattle.au_rows.specs.Ends.{RowEnded, is_bare}
 use Rattle.au_rows.specs.Held.{all_ended, is_by, is_left, row_ended}
-use Rattle.au_rows.specs.Kept.{change_names, held_of, is_whole, owner_in, place_at, place_from, place_in, place_left, place_names, place_numbered, place_open, place_owner, place_shown, unsettled_others}
+use Rattle.au_rows.specs.Kept.{held_of, is_whole, owner_in, place_at, place_from, place_in, place_left, place_names, place_numbered, place_open, place_shown}
 use Rattle.au_rows.specs.Order.{in_order, is_before}
 use Rattle.au_rows.proofs.DropLemmas.{all-filter, count-filter, order-filter}
+use Rattle.au_rows.specs.Edits.{edited}
+use Rattle.au_rows.proofs.EditLemmas.{all_edited}
 use Rattle.au_rows.proofs.EndLemmas.{found_passes}
+use Rattle.std.proofs.lemmas.Bool.{and_parts}
 use Rattle.au_rows.proofs.FoundLemmas.{none-after}
 use Rattle.au_rows.proofs.UsedLemmas.{any-filter}
 
@@ -30,6 +31,27 @@ all-kept q (x ∷ xs) = step (q x) refl (all-kept q xs)
 pub none-goes : {X : Type 0} (q : X → Bool) (xs : List X) → list_all q xs ≡ true → filter q xs ≡ xs
 none-goes q [] h = refl
 none-goes q (x ∷ xs) h = grind (arith, common_steps, none-goes q xs)
+
+-- where all pass, an edit by an element that passes leaves all of them passing
+pub edited-left : {X : Type 0} (q from at : X → Bool) (xs : List X) (y : X) → q y ≡ true → list_all q xs ≡ true → filter q (edited from at xs (y ∷ [])) ≡ edited from at xs (y ∷ [])
+edited-left q from at xs y passes all = none-goes q (edited from at xs (y ∷ [])) (all_edited q from at xs (y ∷ []) all (rw passes refl))
+
+-- and one by an element that fails takes it away
+pub edited-gone : {X : Type 0} (q from at : X → Bool) (xs : List X) (y : X) → q y ≡ false → list_all q xs ≡ true → filter q (edited from at xs (y ∷ [])) ≡ edited from at xs []
+edited-gone q from at [] y fails all = rw fails refl
+edited-gone {X = X} q from at (x ∷ xs) y fails all = go (from x) (at x) (edited-gone q from at xs y fails (and_parts (q x) (list_all q xs) all).1)
+  where
+    here : q x ≡ true
+    here = (and_parts (q x) (list_all q xs) all).0
+
+    rest : filter q xs ≡ xs
+    rest = none-goes q xs (and_parts (q x) (list_all q xs) all).1
+
+    go : (f a : Bool) → filter q (edited from at xs (y ∷ [])) ≡ edited from at xs []
+        → filter q (cond f ((y ∷ []) ++ cond a xs (x ∷ xs)) (x ∷ edited from at xs (y ∷ []))) ≡ cond f ([] ++ cond a xs (x ∷ xs)) (x ∷ edited from at xs [])
+    go true true later = rw fails rest
+    go true false later = rw (fails, here) (ap (λ (zs : List X). x ∷ zs) rest)
+    go false a later = rw here (ap (λ (zs : List X). x ∷ zs) later)
 
 abbrev if_so : Bool → Place → Option Place
 if_so true place = Some place
@@ -71,14 +93,6 @@ bare-left (Some p) h = step (place_left p) refl
     step true l = rw l h
     step false l = rw l refl
 
-owner-left : (by : ClientNo) (o : Option Place) → is_by by (option_and_then place_owner (if_left o)) ≡ true → is_by by (option_and_then place_owner o) ≡ true
-owner-left by None h = h
-owner-left by (Some p) h = step (place_left p) refl
-  where
-    step : (b : Bool) → place_left p ≡ b → is_by by p.owner ≡ true
-    step true l = rw l at h
-    step false l = let none : false ≡ true = rw l at h in cc
-
 module _ (e : Ending) (by : ClientNo) (slots : List (Option Version)) where
   bare-row : (p : Place) (s : Option ℕ) (w : Option ClientNo) → p.settled ≡ s → p.owner ≡ w → (is_some s || is_some w) ≡ false → is_left (row_ended e by (held_of slots p)) ≡ false
   bare-row p None None es ew l = rw (ew, es) refl
@@ -102,32 +116,21 @@ names-left slot p h = step p.settled refl h
     step None es n = let none : false ≡ true = rw es at n in cc
     step (Some s) es n = rw es refl
 
-module _ (e : Ending) (by : ClientNo) (rest changes : List Unsettled) (old new : List Place) (before after : List (Option Version))
-    (left : list_all place_left old ≡ true) (done : EndedBefore e by rest changes old before new after) where
+module _ (e : Ending) (table : ℕ) (number : RowNo) (by : ClientNo) (old new : List Place) (before after : List (Option Version))
+    (left : list_all place_left old ≡ true) (done : RowEnded e table number by old before new after) where
   was-left : (t : ℕ) (n : RowNo) (p : Place) → place_in t n old ≡ Some p → place_left p ≡ true
   was-left t n p is = found_passes place_left (place_from t n) (place_at t n) old p left is
 
-  others : (t : ℕ) (n : RowNo) (b : Bool) → KeptOrEnded b (place_in t n old) (place_in t n new) → KeptOrEnded b (place_in t n old) (if_left (place_in t n new))
-  others t n true (inl same) = inl (ap if_left same ∙ stays-left (place_in t n old) (was-left t n))
-  others t n true (inr bare) = inr (bare-left (place_in t n new) bare)
-  others t n false same = ap if_left same ∙ stays-left (place_in t n old) (was-left t n)
+  same-left : (t : ℕ) (n : RowNo) → place_in t n new ≡ place_in t n old → place_in t n (filter place_left new) ≡ place_in t n old
+  same-left t n same = found-left t n new done.order ∙ (ap if_left same ∙ stays-left (place_in t n old) (was-left t n))
 
-  used : (slot : ℕ) → is_used_still by rest changes new slot ≡ true → is_used_still by rest changes (filter place_left new) slot ≡ true
-  used slot h = step (list_any (place_names slot) new) refl h
-    where
-      step : (b : Bool) → list_any (place_names slot) new ≡ b
-          → ((b || list_any (change_names slot) rest) || list_any (change_names slot) (filter (unsettled_others by) changes)) ≡ true
-          → is_used_still by rest changes (filter place_left new) slot ≡ true
-      step true n u = rw (any-filter (place_names slot) place_left new n (names-left slot)) refl
-      step false n u = keep (list_any (place_names slot) (filter place_left new)) u
-        where
-          keep : (b : Bool) → (list_any (change_names slot) rest || list_any (change_names slot) (filter (unsettled_others by) changes)) ≡ true
-              → ((b || list_any (change_names slot) rest) || list_any (change_names slot) (filter (unsettled_others by) changes)) ≡ true
-          keep true w = refl
-          keep false w = w
+  here : (is_bare (place_in table number new) ≡ true) ⊎ ((is_by by (owner_in table number old) ≡ false) × (place_in table number new ≡ place_in table number old))
+      → (is_bare (place_in table number (filter place_left new)) ≡ true) ⊎ ((is_by by (owner_in table number old) ≡ false) × (place_in table number (filter place_left new) ≡ place_in table number old))
+  here (inl bare) = inl (ap is_bare (found-left table number new done.order) ∙ bare-left (place_in table number new) bare)
+  here (inr kept) = inr (kept.0, same-left table number kept.1)
 
-  -- the changes have ended also when the places of which nothing is left are taken away
-  pub swept : EndedBefore e by rest changes old before (filter place_left new) after
+  -- a row's changes have ended also where its place is taken away if nothing is left of it
+  pub swept : RowEnded e table number by old before (filter place_left new) after
   swept = record {
     order = order-filter place_left new done.order;
     whole = all-filter (is_whole after) place_left new done.whole;
@@ -136,9 +139,8 @@ module _ (e : Ending) (by : ClientNo) (rest changes : List Unsettled) (old new :
     rows = swept-rows e by after new ∙ done.rows;
     elsewhere = done.elsewhere;
     frees = done.frees;
-    others = λ t n. subst (λ (o : Option Place). KeptOrEnded (is_by by (owner_in t n old)) (place_in t n old) o) (sym (found-left t n new done.order)) (others t n (is_by by (owner_in t n old)) (done.others t n));
-    ahead = λ t n is. done.ahead t n (owner-left by (place_in t n new) (ap (λ (o : Option Place). is_by by (option_and_then place_owner o)) (sym (found-left t n new done.order)) ∙ is));
+    others = λ t n ne. same-left t n (done.others t n ne);
+    here = here done.here;
     shown = let fewer = count-filter place_shown place_left new in let shown = done.shown in omega arith;
-    within = done.within;
-    used = λ all slot some. used slot (done.used all slot some);
+    keeps = λ slot some names. any-filter (place_names slot) place_left new (done.keeps slot some names) (names-left slot);
   }

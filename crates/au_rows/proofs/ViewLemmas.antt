@@ -1,19 +1,17 @@
 -- What is seen of a table is seen of its places alone.
-use Rattle.std.proofs.Common.{◌≡◌, ◌∙◌, ◌+◌, ◌-◌, sym, subst, take, length-drop, ℕ, zero, suc, ◌<◌, Bool, true, false, ◌&&◌, List, [], ◌∷◌, drop, length, get_or, refl, ap, one-add, arith, Option, None, map}
+use Rattle.std.proofs.Common.{◌≡◌, ◌∙◌, sym, ℕ, zero, suc, Bool, true, false, ◌&&◌, List, [], ◌∷◌, ◌++◌, drop, refl, ap, one-add, arith, Option, None, map}
 use Rattle.std.specs.Prelude.{◌==◌, nat_lt}
 use Rattle.std.specs.List.{list_all, position_or_len}
+use Rattle.std.proofs.lemmas.Bool.{and_from, and_parts}
 use Rattle.std.proofs.lemmas.Grind.{common_steps}
-use Rattle.std.proofs.lemmas.List.{get_or-drop, drop-drop}
-use Rattle.std.proofs.lemmas.List.Sums.{passes_at_first}
-use Rattle.std.proofs.lemmas.List.{take_rest}
+use Rattle.au_base.specs.declared.cell.Cell.{Cell}
 use Rattle.au_base.specs.declared.numbers.RowNo.{RowNo}
 use Rattle.au_base.specs.declared.numbers.ClientNo.{ClientNo}
 use Rattle.au_rows.specs.declared.place.Place.{Place}
 use Rattle.au_rows.specs.declared.version.Version.{Version}
-use Rattle.au_rows.specs.Held.{next_of, shown_after, shown_to, view_of}
+use Rattle.au_rows.specs.Held.{entry, next_of, or_else, seen_by, shown_after, shown_to, view_of}
 use Rattle.au_rows.specs.Kept.{held_of, place_from}
 use Rattle.au_rows.specs.Order.{is_before, in_order}
-use Rattle.au_rows.proofs.OrderLemmas.{from_on}
 
 hidden : (slots : List (Option Version)) (table : ℕ) (after : RowNo) (by : ClientNo) (place : Place)
     → place_from table after place ≡ false → shown_after table after by (held_of slots place) ≡ None
@@ -98,44 +96,59 @@ past-on table number p ps from other later =
         behind : (x : Place) → is_before p x ≡ true → is_past table x ≡ true
         behind x b = grind (arith, common_steps)
 
--- a place that isn't before the row, and is of another table, is past the table
-pub past-from : (table : ℕ) (number : RowNo) (places : List Place) (j : ℕ) (d : Place) → in_order places ≡ true → j < length places
-    → place_from table number (get_or places j d) ≡ true → ((get_or places j d).table == table) ≡ false
-    → list_all (is_past table) (drop j places) ≡ true
-past-from table number [] j d o lt from other = absurd (omega arith)
-past-from table number (p ∷ ps) zero d o lt from other =
-    let later : list_all (is_before p) ps ≡ true = grind arith in
-    past-on table number p ps from other later
-past-from table number (p ∷ ps) (suc j) d o lt from other =
-    let rest : in_order ps ≡ true = grind arith in
-    let within : j < length ps = omega arith in
-    past-from table number ps j d rest within from other
-
-pub past-later : (table : ℕ) (number : RowNo) (places : List Place) (k : ℕ) (d : Place) → in_order places ≡ true
-    → k < length (drop (position_or_len (place_from table number) places) places)
-    → ((get_or (drop (position_or_len (place_from table number) places) places) k d).table == table) ≡ false
-    → list_all (is_past table) (drop k (drop (position_or_len (place_from table number) places) places)) ≡ true
-past-later table number places k d o lt other =
-    let i = position_or_len (place_from table number) places in
-    let within : i + k < length places = omega (arith, length-drop i places) in
-    let first : i < length places = omega arith in
-    let at : get_or (drop i places) k d ≡ get_or places (i + k) d = get_or-drop i places k d in
-    let from : place_from table number (get_or places (i + k) d) ≡ true = from_on table number places i (i + k) d o (omega arith) within (passes_at_first (place_from table number) places d first) in
-    let elsewhere : ((get_or places (i + k) d).table == table) ≡ false = ap (λ (p : Place). p.table == table) (sym at) ∙ other in
-    ap (list_all (is_past table)) (drop-drop k i places) ∙ past-from table number places (i + k) d o within from elsewhere
-
--- the same of the slice that the code takes
-pub past-rest : (table : ℕ) (number : RowNo) (places : List Place) (i k : ℕ) (d : Place) → in_order places ≡ true → i ≡ position_or_len (place_from table number) places
-    → k < length (take (length places - i) (drop i places))
-    → ((get_or (take (length places - i) (drop i places)) k d).table ≡ table → ⊥)
-    → list_all (is_past table) (drop k (take (length places - i) (drop i places))) ≡ true
-past-rest table number places i k d o at lt other =
-    let P : List Place → Type 0 = λ later. k < length later → ((get_or later k d).table ≡ table → ⊥) → list_all (is_past table) (drop k later) ≡ true in
-    subst P (sym (take_rest places i)) (λ l ne. by_row l ne) lt other
+all-later : (table : ℕ) (number : RowNo) (p : Place) (ps : List Place) → place_from table number p ≡ true → list_all (is_before p) ps ≡ true → list_all (place_from table number) ps ≡ true
+all-later table number p [] from later = refl
+all-later table number p (q ∷ qs) from later =
+    let parts = and_parts (is_before p q) (list_all (is_before p) qs) later in
+    and_from (place_from table number q) (list_all (place_from table number) qs) (one parts.0) (all-later table number p qs from parts.1)
   where
-    by_row : k < length (drop i places) → ((get_or (drop i places) k d).table ≡ table → ⊥) → list_all (is_past table) (drop k (drop i places)) ≡ true
-    by_row = subst (λ (x : ℕ). k < length (drop x places) → ((get_or (drop x places) k d).table ≡ table → ⊥) → list_all (is_past table) (drop k (drop x places)) ≡ true) (sym at)
-        (λ l ne. past-later table number places k d o l (differs (get_or (drop (position_or_len (place_from table number) places) places) k d) ne))
-      where
-        differs : (p : Place) → (p.table ≡ table → ⊥) → (p.table == table) ≡ false
-        differs p ne = grind (arith, common_steps)
+    one : is_before p q ≡ true → place_from table number q ≡ true
+    one b = grind (arith, common_steps)
+
+-- the places from a row on are of this row or later ones
+pub later-from : (table : ℕ) (number : RowNo) (places : List Place) → in_order places ≡ true
+    → list_all (place_from table number) (drop (position_or_len (place_from table number) places) places) ≡ true
+later-from table number [] o = refl
+later-from table number (p ∷ ps) o = go (place_from table number p) refl (later-from table number ps parts.1)
+  where
+    parts : (list_all (is_before p) ps ≡ true) × (in_order ps ≡ true)
+    parts = and_parts (list_all (is_before p) ps) (in_order ps) o
+
+    go : (b : Bool) → place_from table number p ≡ b → list_all (place_from table number) (drop (position_or_len (place_from table number) ps) ps) ≡ true
+        → list_all (place_from table number) (drop (position_or_len (place_from table number) (p ∷ ps)) (p ∷ ps)) ≡ true
+    go true e rest = rw e (and_from (place_from table number p) (list_all (place_from table number) ps) e (all-later table number p ps e parts.0))
+    go false e rest = rw (e, one-add) rest
+
+-- a step of a walk from a row on
+module _ (table : ℕ) (number : RowNo) (walk rest : List Place) (p : Place) (is : walk ≡ p ∷ rest)
+    (order : in_order walk ≡ true) (from : list_all (place_from table number) walk ≡ true) where
+  order_parts : (list_all (is_before p) rest ≡ true) × (in_order rest ≡ true)
+  order_parts = and_parts (list_all (is_before p) rest) (in_order rest) (ap in_order (sym is) ∙ order)
+
+  from_parts : (place_from table number p ≡ true) × (list_all (place_from table number) rest ≡ true)
+  from_parts = and_parts (place_from table number p) (list_all (place_from table number) rest) (ap (list_all (place_from table number)) (sym is) ∙ from)
+
+  pub step-order : in_order rest ≡ true
+  step-order = order_parts.1
+
+  pub step-from : list_all (place_from table number) rest ≡ true
+  step-from = from_parts.1
+
+  -- behind the table's places come those of later tables
+  pub step-past : (p.table ≡ table → ⊥) → list_all (is_past table) walk ≡ true
+  step-past other = ap (list_all (is_past table)) is ∙ past-on table number p rest from_parts.0 (differs other) order_parts.0
+    where
+      differs : (p.table ≡ table → ⊥) → (p.table == table) ≡ false
+      differs ne = grind (arith, common_steps)
+
+module _ (slots : List (Option Version)) (table : ℕ) (by : ClientNo) (walk rest : List Place) (p : Place) (is : walk ≡ p ∷ rest) where
+  pub next-on : (after : RowNo) (found : Option (RowNo × List Cell)) → shown_after table after by (held_of slots p) ≡ found
+      → next_of table after by (map (held_of slots) walk) ≡ or_else found (next_of table after by (map (held_of slots) rest))
+  next-on after found e =
+      ap (λ (ps : List Place). next_of table after by (map (held_of slots) ps)) is
+      ∙ ap (λ (o : Option (RowNo × List Cell)). or_else o (next_of table after by (map (held_of slots) rest))) e
+
+  pub view-on : p.table ≡ table → view_of table by (map (held_of slots) walk) ≡ entry p.number (seen_by by (held_of slots p)) ++ view_of table by (map (held_of slots) rest)
+  view-on same =
+      let here : (p.table == table) ≡ true = grind (arith, common_steps) in
+      ap (λ (ps : List Place). view_of table by (map (held_of slots) ps)) is ∙ rw here refl

@@ -9,8 +9,7 @@ ghost use Rattle.au_rows.specs.Order.{in_order};
 ghost use Rattle.au_rows.specs.Sought.{IsIndexedBy};
 
 use crate::entry::Entry;
-use crate::place::Place;
-use crate::places::find_settled;
+use crate::places::Places;
 use crate::sought::Sought;
 use crate::unsettled::Unsettled;
 use crate::versions::Versions;
@@ -82,21 +81,21 @@ fn has_key_in(versions: &Versions, slot: Option<usize>, places: &[u32], key: &[C
 
 /// Whether the committed content of the change's row has the key.
 fn has_committed_key(
-    places: &[Place],
+    places: &Places,
     versions: &Versions,
     change: &Unsettled,
     asked: &Asked<'_>,
 ) -> bool
-    requires { in_order places.now ≡ true }
-    ensures { IsTrue result ↔ HasKey asked.now.places.now asked.now.key.now (settled_of change.now.table change.now.number (map (held_of versions.now.slots) places.now)) }
+    requires { in_order places.now.listed ≡ true }
+    ensures { IsTrue result ↔ HasKey asked.now.places.now asked.now.key.now (settled_of change.now.table change.now.number (map (held_of versions.now.slots) places.now.listed)) }
 {
-    let slot = find_settled(places, change.table, change.number);
+    let slot = places.settled(change.table, change.number);
     has_key_in(versions, slot, asked.places, asked.key)
 }
 
-fn is_locking(places: &[Place], versions: &Versions, change: &Unsettled, asked: &Asked<'_>) -> bool
-    requires { in_order places.now ≡ true }
-    ensures { IsTrue result ↔ IsLocking asked.now.places.now (map (held_of versions.now.slots) places.now) asked.now.table asked.now.key.now asked.now.by (change_of versions.now.slots change.now) }
+fn is_locking(places: &Places, versions: &Versions, change: &Unsettled, asked: &Asked<'_>) -> bool
+    requires { in_order places.now.listed ≡ true }
+    ensures { IsTrue result ↔ IsLocking asked.now.places.now (map (held_of versions.now.slots) places.now.listed) asked.now.table asked.now.key.now asked.now.by (change_of versions.now.slots change.now) }
 {
     if change.by.0 == asked.by.0 {
         return false;
@@ -111,13 +110,13 @@ fn is_locking(places: &[Place], versions: &Versions, change: &Unsettled, asked: 
 }
 
 fn is_locking_entry(
-    places: &[Place],
+    places: &Places,
     versions: &Versions,
     entry: &Option<Entry>,
     asked: &Asked<'_>,
 ) -> bool
-    requires { in_order places.now ≡ true }
-    ensures { IsTrue result ↔ SomeLocks asked.now.places.now (map (held_of versions.now.slots) places.now) asked.now.table asked.now.key.now asked.now.by (map (change_of versions.now.slots) (live (entry.now ∷ []))) }
+    requires { in_order places.now.listed ≡ true }
+    ensures { IsTrue result ↔ SomeLocks asked.now.places.now (map (held_of versions.now.slots) places.now.listed) asked.now.table asked.now.key.now asked.now.by (map (change_of versions.now.slots) (live (entry.now ∷ []))) }
 {
     match entry {
         Some(entry) => is_locking(places, versions, &entry.change, asked),
@@ -128,13 +127,13 @@ fn is_locking_entry(
 /// Whether an unsettled change of another client has the key as its old or new key, by a walk over
 /// the changes.
 fn locked_walk(
-    places: &[Place],
+    places: &Places,
     versions: &Versions,
     entries: &[Option<Entry>],
     asked: &Asked<'_>,
 ) -> bool
-    requires { in_order places.now ≡ true }
-    ensures { IsTrue result ↔ SomeLocks asked.now.places.now (map (held_of versions.now.slots) places.now) asked.now.table asked.now.key.now asked.now.by (map (change_of versions.now.slots) (live entries.now)) }
+    requires { in_order places.now.listed ≡ true }
+    ensures { IsTrue result ↔ SomeLocks asked.now.places.now (map (held_of versions.now.slots) places.now.listed) asked.now.table asked.now.key.now asked.now.by (map (change_of versions.now.slots) (live entries.now)) }
 {
     for entry in entries {
         if is_locking_entry(places, versions, entry, asked) {
@@ -147,15 +146,15 @@ fn locked_walk(
 /// Whether an unsettled change of another client has the key as its old or new key, by the index of
 /// keys.
 fn locked_index(
-    places: &[Place],
+    places: &Places,
     versions: &Versions,
     entries: &[Option<Entry>],
     asked: &Asked<'_>,
 ) -> bool
-    requires sound { Sound places.now versions.now.slots (live entries.now) }
+    requires sound { Sound places.now.listed versions.now.slots (live entries.now) }
     requires indexed { IsIndexedBy asked.now.table asked.now.places.now versions.now.slots }
     requires keyed { asked.now.places.now ≢ [] }
-    ensures { IsTrue result ↔ SomeLocks asked.now.places.now (map (held_of versions.now.slots) places.now) asked.now.table asked.now.key.now asked.now.by (map (change_of versions.now.slots) (live entries.now)) }
+    ensures { IsTrue result ↔ SomeLocks asked.now.places.now (map (held_of versions.now.slots) places.now.listed) asked.now.table asked.now.key.now asked.now.by (map (change_of versions.now.slots) (live entries.now)) }
 {
     versions.find(places, asked, Sought::Locked).is_some()
 }
@@ -163,14 +162,14 @@ fn locked_index(
 /// Whether an unsettled change of another client has the key as its old or new key. The index knows
 /// no rows of a table without a key.
 pub(crate) fn is_locked(
-    places: &[Place],
+    places: &Places,
     versions: &Versions,
     entries: &[Option<Entry>],
     asked: &Asked<'_>,
 ) -> bool
-    requires sound { Sound places.now versions.now.slots (live entries.now) }
+    requires sound { Sound places.now.listed versions.now.slots (live entries.now) }
     requires indexed { IsIndexedBy asked.now.table asked.now.places.now versions.now.slots }
-    ensures { IsTrue result ↔ SomeLocks asked.now.places.now (map (held_of versions.now.slots) places.now) asked.now.table asked.now.key.now asked.now.by (map (change_of versions.now.slots) (live entries.now)) }
+    ensures { IsTrue result ↔ SomeLocks asked.now.places.now (map (held_of versions.now.slots) places.now.listed) asked.now.table asked.now.key.now asked.now.by (map (change_of versions.now.slots) (live entries.now)) }
 {
     if asked.places.is_empty() {
         locked_walk(places, versions, entries, asked)

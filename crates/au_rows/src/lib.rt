@@ -1,9 +1,12 @@
 //! The rows of one store: what is committed of each, and what open transactions have made of them.
 #![tactic(auto)]
 
+mod block;
+mod blocks;
 mod chains;
 mod changes;
 mod closing;
+mod counts;
 mod dropping;
 mod ending;
 mod ends;
@@ -13,7 +16,7 @@ mod hash;
 mod keys;
 mod links;
 mod node;
-mod numbers;
+mod ordered;
 mod place;
 mod places;
 mod reading;
@@ -25,5 +28,6 @@ mod tables;
 mod unsettled;
 mod version;
 mod versions;
+mod walk;
 
 pub use rows::Rows;

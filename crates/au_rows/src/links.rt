@@ -426,7 +426,7 @@ fn grow(
 {
     compact(entries, tops);
     let places = wanted(entries.len(), more)?;
-    entries.reserve(places)?;
+    entries.reserve_exact(places)?;
     Ok(())
 }
 

@@ -1,6 +1,7 @@
 //! Where a row's versions lie.
 ghost use Rattle.std.specs.Prelude.{◌≡◌};
 ghost use Rattle.au_rows.specs.Held.{is_by};
+ghost use Rattle.au_rows.specs.Blocks.{place_past};
 ghost use Rattle.au_rows.specs.Kept.{place_from, place_at};
 
 use au_base::{ClientNo, RowNo};
@@ -32,6 +33,13 @@ impl Place {
         ensures { result ≡ place_from table number self.now }
     {
         table < self.table || self.table == table && number.0 <= self.number.0
+    }
+
+    /// Whether it is the place of a row behind this one.
+    pub(crate) fn is_past(&self, table: usize, number: RowNo) -> bool
+        ensures { result ≡ place_past table number self.now }
+    {
+        table < self.table || self.table == table && number.0 < self.number.0
     }
 
     /// Whether the client has unsettled changes of the row.

@@ -1,128 +1,244 @@
-//! The places of all rows, in order of table and number.
-ghost use Rattle.std.specs.Prelude.{◌≡◌, IsNone, IsSome, [], ◌∷◌, ◌+◌, ◌<◌, ◌≤◌, false, true, length, slice_get, vec_len, vec_capacity};
-ghost use Rattle.std.specs.List.{position_or_len};
-ghost use Rattle.std.specs.Option.{option_and_then, option_map_or};
+//! The places of all rows.
+ghost use Rattle.std.specs.Prelude.{◌≡◌, [], ◌∷◌, ◌+◌, ◌<◌, ◌≤◌, ◌^◌, IfOk, IsNone, IsSome, OnOk, Some, drop, filter, length, true};
+ghost use Rattle.std.specs.List.{count_by, position_or_len};
 ghost use Rattle.au_rows.specs.Edits.{edited};
+ghost use Rattle.au_rows.specs.Kept.{largest_in, owner_in, place_at, place_elsewhere, place_from, place_in, place_of, settled_slot, with_place};
 ghost use Rattle.au_rows.specs.Order.{in_order};
-ghost use Rattle.au_rows.specs.Kept.{place_from, place_if, place_in, place_at, owner_in, settled_slot, with_place};
 
+use crate::block::{Block, SIZE};
+use crate::blocks::{
+    blocks_for, find_in, keep_elsewhere, largest_in, prepare, put_new, put_over, take_from,
+};
+use crate::counts::{count_less, count_more, count_none, count_of, count_to};
 use crate::place::Place;
-use au_base::{ClientNo, RowNo};
+use crate::walk::{Walk, walk_from};
+use au_base::{ClientNo, Memory, RowNo};
+use std::alloc::Global;
+use std::marker::Model;
 
-/// The index of the first place of this row or of a later one, or the number of places.
-pub(crate) fn index_of(places: &[Place], table: usize, number: RowNo) -> usize
-    requires { in_order places.now ≡ true }
-    ensures index { result ≡ position_or_len (place_from table number) places.now }
-    ensures within { result ≤ length places.now }
-{
-    let mut low = 0;
-    let mut high = places.len();
-    while low < high {
-        let mid = low + (high - low) / 2;
-        if places[mid].is_from(table, number) {
-            high = mid;
+/// How many places there are at most, with those for which there is room: fewer than this.
+const MOST: usize = 1 << 32;
+
+/// The places of all rows, in order of table and number. Contracts see the list of them, of how many
+/// new rows it takes places without memory, and of how many tables it counts the places.
+#[derive(Drop)]
+pub struct Places {
+    /// The places, in blocks one behind the other.
+    blocks: Vec<Block>,
+    /// Blocks without places, for those that are split.
+    fresh: Vec<Block>,
+    len: usize,
+    room: usize,
+    /// How many places each table has.
+    counts: Vec<u32>,
+}
+
+impl Model for Places {
+    ghost use Rattle.au_rows.specs.Blocks.{Counted};
+
+    ghost Value = { Counted };
+
+    ghost use Rattle.std.specs.Prelude.{◌≤◌, ◌+◌, length, vec_len, vec_capacity};
+    ghost use Rattle.au_rows.specs.Blocks.{Housed, joined};
+
+    ghost view = { λ p. record { listed = joined p.blocks.items; room = p.room; tables = length p.counts.items } };
+
+    ghost invariant = { λ p. Housed p.blocks.items p.fresh.items p.len p.room p.counts.items × (vec_len p.blocks + vec_len p.fresh ≤ vec_capacity p.blocks) };
+}
+
+impl Places {
+    /// No place, and no room.
+    pub(crate) fn new(alloc: Global) -> Result<Self, Memory>
+        ensures listed { IfOk result (λ places. places.listed ≡ []) }
+        ensures room { IfOk result (λ places. places.room ≡ 0) }
+        ensures tables { IfOk result (λ places. places.tables ≡ 0) }
+    {
+        let mut blocks = Vec::new(alloc);
+        blocks.push(Block::new(alloc)?)?;
+        Ok(Places {
+            blocks,
+            fresh: Vec::new(alloc),
+            len: 0,
+            room: 0,
+            counts: Vec::new(alloc),
+        })
+    }
+
+    /// Makes room for the places of so many more rows.
+    pub(crate) fn reserve(&mut self, more: usize) -> Result<(), Memory>
+        ensures ok { OnOk result (more ≤ self.new.room) }
+        ensures listed { self.new.listed ≡ self.old.listed }
+        ensures room { self.old.room ≤ self.new.room }
+        ensures tables { self.new.tables ≡ self.old.tables }
+    {
+        if more <= self.room {
+            return Ok(());
+        }
+        // a little more than is needed, so that the blocks are seldom passed over
+        let room = more.max(SIZE);
+        if MOST - self.len <= room {
+            return Err(Memory);
+        }
+        let count = blocks_for(&self.blocks, room)?;
+        prepare(&mut self.blocks, &mut self.fresh, count)?;
+        self.room = room;
+        Ok(())
+    }
+
+    /// Counts the places of so many tables.
+    pub(crate) fn count_tables(&mut self, tables: usize) -> Result<(), Memory>
+        ensures ok { OnOk result (tables ≤ self.new.tables) }
+        ensures listed { self.new.listed ≡ self.old.listed }
+        ensures room { self.new.room ≡ self.old.room }
+        ensures tables { self.old.tables ≤ self.new.tables }
+    {
+        count_to(&mut self.counts, tables)
+    }
+
+    /// How many places there are.
+    pub(crate) fn len(&self) -> usize
+        ensures { result ≡ length self.now.listed }
+    {
+        self.len
+    }
+
+    /// The place of the row.
+    pub(crate) fn find(&self, table: usize, number: RowNo) -> Option<Place>
+        ensures { result ≡ place_in table number self.now.listed }
+    {
+        find_in(&self.blocks, table, number)
+    }
+
+    /// The client with unsettled changes of the row.
+    pub(crate) fn owner(&self, table: usize, number: RowNo) -> Option<ClientNo>
+        ensures { result ≡ owner_in table number self.now.listed }
+    {
+        match self.find(table, number) {
+            Some(place) => place.owner,
+            None => None,
+        }
+    }
+
+    /// The slot of the row's committed content.
+    pub(crate) fn settled(&self, table: usize, number: RowNo) -> Option<usize>
+        ensures { result ≡ settled_slot table number self.now.listed }
+    {
+        match self.find(table, number) {
+            Some(place) => place.settled,
+            None => None,
+        }
+    }
+
+    /// The places from that of a row on, or from where it would stand.
+    pub(crate) fn from(&self, table: usize, number: RowNo) -> Walk<'_>
+        ensures { result ≡ drop (position_or_len (place_from table number) self.now.listed) self.now.listed }
+    {
+        walk_from(&self.blocks, table, number)
+    }
+
+    /// How many places the table has, and the largest of their row numbers, 0 where it has none.
+    pub(crate) fn numbers(&self, table: usize) -> (u32, u32)
+        requires { table + 1 < 2 ^ 64 }
+        ensures count { result.0 ≡ count_by (place_of table) self.now.listed }
+        ensures largest { result.1 ≡ largest_in table self.now.listed }
+    {
+        let count = count_of(&self.counts, table);
+        if count == 0 {
+            (0, 0)
         } else {
-            low = mid + 1;
+            (count, largest_in(&self.blocks, table))
         }
     }
-    low
-}
 
-fn is_there(places: &[Place], at: usize, table: usize, number: RowNo) -> bool
-    ensures { result ≡ option_map_or (place_at table number) (slice_get places.now at) false }
-{
-    match places.get(at) {
-        Some(place) => place.is_this(table, number),
-        None => false,
+    /// Puts a place over the one of the same row.
+    pub(crate) fn put_over(&mut self, place: Place)
+        requires { IsSome (place_in place.table place.number self.old.listed) }
+        ensures listed { self.new.listed ≡ edited (place_from place.table place.number) (place_at place.table place.number) self.old.listed (place ∷ []) }
+        ensures room { self.new.room ≡ self.old.room }
+        ensures tables { self.new.tables ≡ self.old.tables }
+    {
+        put_over(&mut self.blocks, place);
     }
-}
 
-fn place_at_index(places: &[Place], at: usize, table: usize, number: RowNo) -> Option<Place>
-    ensures { result ≡ option_and_then (place_if table number) (slice_get places.now at) }
-{
-    match places.get(at) {
-        Some(place) => {
-            if place.is_this(table, number) {
-                Some(*place)
-            } else {
-                None
-            }
+    /// Puts a new row's place where it belongs. It takes no memory.
+    fn put_new(&mut self, place: Place)
+        requires new { IsNone (place_in place.table place.number self.old.listed) }
+        requires numbered { 1 ≤ place.number.0 }
+        requires counted { place.table < self.old.tables }
+        requires room { 0 < self.old.room }
+        ensures listed { self.new.listed ≡ edited (place_from place.table place.number) (place_at place.table place.number) self.old.listed (place ∷ []) }
+        ensures room { self.old.room ≤ self.new.room + 1 }
+        ensures tables { self.new.tables ≡ self.old.tables }
+    {
+        put_new(&mut self.blocks, &mut self.fresh, place);
+        count_more(&mut self.counts, place.table);
+        self.len += 1;
+        self.room -= 1;
+    }
+
+    /// Lets a client name a slot at a row. It takes no memory; a row that is new needs room.
+    pub(crate) fn own(&mut self, table: usize, number: RowNo, by: ClientNo, slot: Option<usize>)
+        requires numbered { 1 ≤ number.0 }
+        requires counted { table < self.old.tables }
+        requires room { IsNone (place_in table number self.old.listed) → 0 < self.old.room }
+        ensures listed { self.new.listed ≡ with_place table number by slot self.old.listed }
+        ensures room { self.old.room ≤ self.new.room + 1 }
+        ensures in_place { IsSome (place_in table number self.old.listed) → self.new.room ≡ self.old.room }
+        ensures tables { self.new.tables ≡ self.old.tables }
+    {
+        match self.find(table, number) {
+            Some(place) => self.put_over(owned(table, number, place.settled, by, slot)),
+            None => self.put_new(owned(table, number, None, by, slot)),
         }
-        None => None,
+    }
+
+    /// Takes the place of the row away. It takes no memory.
+    pub(crate) fn take_out(&mut self, table: usize, number: RowNo)
+        requires { IsSome (place_in table number self.old.listed) }
+        ensures listed { self.new.listed ≡ edited (place_from table number) (place_at table number) self.old.listed [] }
+        ensures room { self.new.room ≡ self.old.room }
+        ensures tables { self.new.tables ≡ self.old.tables }
+    {
+        take_from(&mut self.blocks, table, number);
+        count_less(&mut self.counts, table);
+        self.len -= 1;
+    }
+
+    /// Takes the places of the table's rows away.
+    pub(crate) fn keep_elsewhere(&mut self, table: usize)
+        requires { table + 1 < 2 ^ 64 }
+        ensures listed { self.new.listed ≡ filter (place_elsewhere table) self.old.listed }
+        ensures room { self.new.room ≡ self.old.room }
+        ensures tables { self.new.tables ≡ self.old.tables }
+    {
+        keep_elsewhere(&mut self.blocks, table);
+        self.len -= count_of(&self.counts, table) as usize;
+        count_none(&mut self.counts, table);
+    }
+
+    /// The places are in order.
+    pub(crate) fn order(&self)
+        ensures { in_order self.now.listed ≡ true }
+    {
+        let _blocks = &self.blocks;
     }
 }
 
-/// The place of the row.
-#[tactic(auto, using(crate::proofs::EditLemmas::found_steps))]
-pub(crate) fn find(places: &[Place], table: usize, number: RowNo) -> Option<Place>
-    requires { in_order places.now ≡ true }
-    ensures { result ≡ place_in table number places.now }
-{
-    place_at_index(places, index_of(places, table, number), table, number)
-}
-
-/// The client with unsettled changes of the row.
-pub(crate) fn find_owner(places: &[Place], table: usize, number: RowNo) -> Option<ClientNo>
-    requires { in_order places.now ≡ true }
-    ensures { result ≡ owner_in table number places.now }
-{
-    match find(places, table, number) {
-        Some(place) => place.owner,
-        None => None,
-    }
-}
-
-/// The slot of the row's committed content.
-pub(crate) fn find_settled(places: &[Place], table: usize, number: RowNo) -> Option<usize>
-    requires { in_order places.now ≡ true }
-    ensures { result ≡ settled_slot table number places.now }
-{
-    match find(places, table, number) {
-        Some(place) => place.settled,
-        None => None,
-    }
-}
-
-/// Puts a place where it belongs, over the one of the same row. A row that is new needs room.
-#[tactic(auto, using(crate::proofs::EditLemmas::found_steps))]
-pub(crate) fn write(places: &mut Vec<Place>, place: Place)
-    requires order { in_order places.old.items ≡ true }
-    requires room { IsNone (place_in place.table place.number places.old.items) → vec_len places.old < vec_capacity places.old }
-    ensures items { places.new.items ≡ edited (place_from place.table place.number) (place_at place.table place.number) places.old.items (place ∷ []) }
-    ensures len { vec_len places.new ≤ vec_len places.old + 1 }
-    ensures in_place { IsSome (place_in place.table place.number places.old.items) → vec_len places.new ≡ vec_len places.old }
-    ensures capacity { vec_capacity places.old ≤ vec_capacity places.new }
-{
-    let at = index_of(places, place.table, place.number);
-    if is_there(places, at, place.table, place.number) {
-        places[at] = place;
-    } else if places.insert(at, place).is_err() {
-        unreachable!();
-    }
-}
-
-/// Lets a client name a slot at a row. A row that is new needs room.
-#[tactic(auto, unfolding(crate::specs::Kept::with_place))]
-pub(crate) fn own(
-    places: &mut Vec<Place>,
+/// The place of a row at which a client names a slot.
+fn owned(
     table: usize,
     number: RowNo,
+    settled: Option<usize>,
     by: ClientNo,
     slot: Option<usize>,
-)
-    requires order { in_order places.old.items ≡ true }
-    requires room { IsNone (place_in table number places.old.items) → vec_len places.old < vec_capacity places.old }
-    ensures items { places.new.items ≡ with_place table number by slot places.old.items }
-    ensures len { vec_len places.new ≤ vec_len places.old + 1 }
-    ensures in_place { IsSome (place_in table number places.old.items) → vec_len places.new ≡ vec_len places.old }
-    ensures capacity { vec_capacity places.old ≤ vec_capacity places.new }
+) -> Place
+    ensures { result ≡ record { table = table; number = number; settled = settled; owner = Some by; newest = slot } }
 {
-    let place = Place {
+    Place {
         table,
         number,
-        settled: find_settled(places, table, number),
+        settled,
         owner: Some(by),
         newest: slot,
-    };
-    write(places, place);
+    }
 }

@@ -14,9 +14,7 @@ use crate::ending::Ending;
 use crate::guesses::Guesses;
 use crate::hash::{name_hash, version_hash};
 use crate::keys::{Asked, is_locked, is_settled_in};
-use crate::numbers::numbers_in;
-use crate::place::Place;
-use crate::places::{find_owner, own};
+use crate::places::Places;
 use crate::reading::{is_seen_in, next_in, other_in, under_in, view_in};
 use crate::table::Table;
 use crate::tables::{add_table, forget_name, key_of, number_of};
@@ -35,7 +33,7 @@ use std::marker::Model;
 pub struct Rows {
     tables: Vec<Option<Table>>,
     guesses: Guesses,
-    places: Vec<Place>,
+    places: Places,
     unsettled: Changes,
     versions: Versions,
 }
@@ -45,15 +43,15 @@ impl Model for Rows {
 
     ghost Value = { Contents };
 
-    ghost use Rattle.std.specs.Prelude.{◌≡◌, ◌≤◌, ◌-◌, true, map, nat_eq, vec_len, vec_capacity};
+    ghost use Rattle.std.specs.Prelude.{◌≡◌, ◌≤◌, ◌-◌, true, map, min, nat_eq, vec_len, vec_capacity};
     ghost use Rattle.std.specs.List.{count_by, list_all};
     ghost use Rattle.indexmap.specs.IndexMap.{get, spare};
     ghost use Rattle.au_rows.specs.Kept.{AreApart, AreKnown, IsIndexed, Sound, change_of, held_of, place_open, place_shown};
     ghost use Rattle.au_rows.specs.Spare.{spare_of};
 
-    ghost view = { λ r. record { tables = r.tables.items; held = map (held_of r.versions.slots) r.places.items; changes = map (change_of r.versions.slots) r.unsettled.listed; spare = spare_of (vec_capacity r.tables - vec_len r.tables) (spare r.guesses.numbers) (vec_capacity r.places) (vec_len r.places) r.versions.room r.unsettled.room (count_by place_shown r.places.items) } };
+    ghost view = { λ r. record { tables = r.tables.items; held = map (held_of r.versions.slots) r.places.listed; changes = map (change_of r.versions.slots) r.unsettled.listed; spare = spare_of (min (vec_capacity r.tables) r.places.tables - vec_len r.tables) (spare r.guesses.numbers) r.places.room r.versions.room r.unsettled.room (count_by place_shown r.places.listed) } };
 
-    ghost invariant = { λ r. Sound r.places.items r.versions.slots r.unsettled.listed × (list_all (place_open r.tables.items) r.places.items ≡ true) × (count_by place_shown r.places.items ≤ r.unsettled.room) × IsIndexed r.tables.items r.versions.slots × AreApart r.tables.items × AreKnown r.tables.items (λ hash. get nat_eq r.guesses.numbers hash) };
+    ghost invariant = { λ r. Sound r.places.listed r.versions.slots r.unsettled.listed × (list_all (place_open r.tables.items) r.places.listed ≡ true) × (count_by place_shown r.places.listed ≤ r.unsettled.room) × IsIndexed r.tables.items r.versions.slots × AreApart r.tables.items × AreKnown r.tables.items (λ hash. get nat_eq r.guesses.numbers hash) × (vec_len r.tables ≤ r.places.tables) };
 }
 
 impl Rows {
@@ -64,7 +62,7 @@ impl Rows {
         Ok(Rows {
             tables: Vec::new(alloc),
             guesses: Guesses::new(alloc),
-            places: Vec::new(alloc),
+            places: Places::new(alloc)?,
             unsettled: Changes::new(alloc)?,
             versions: Versions::new(alloc),
         })
@@ -83,9 +81,13 @@ impl Rows {
         let Some(changes) = twice.checked_add(self.places.len()) else {
             return Err(Memory);
         };
+        let Some(all_tables) = self.tables.len().checked_add(more) else {
+            return Err(Memory);
+        };
         self.tables.reserve(more)?;
         self.guesses.reserve(more)?;
         self.places.reserve(more)?;
+        self.places.count_tables(all_tables)?;
         self.versions.reserve(more)?;
         self.unsettled.reserve(changes)?;
         Ok(())
@@ -135,7 +137,7 @@ impl Rows {
             cells: List::from_vec(cells),
             hash,
         });
-        own(&mut self.places, table, row, by, Some(slot));
+        self.places.own(table, row, by, Some(slot));
         self.unsettled.push(Unsettled {
             by,
             table,
@@ -152,7 +154,7 @@ impl Rows {
         ensures spare { self.old.spare ≤ self.new.spare }
     {
         let table = number_of(&self.tables, &self.guesses, table);
-        own(&mut self.places, table, row, by, None);
+        self.places.own(table, row, by, None);
         self.unsettled.push(Unsettled {
             by,
             table,
@@ -189,7 +191,7 @@ impl Rows {
         ensures largest { result.1 ≡ largest_of (number_of table.now self.now.tables) self.now.held }
     {
         let table = number_of(&self.tables, &self.guesses, table);
-        numbers_in(&self.places, table)
+        self.places.numbers(table)
     }
 
     /// Whether an unsettled change of another client has the key as its old or new key.
@@ -216,11 +218,8 @@ impl Rows {
     pub fn owner(&self, table: &TableName, row: RowNo) -> Option<ClientNo>
         ensures { result ≡ owner_of (number_of table.now self.now.tables) row self.now.held }
     {
-        find_owner(
-            &self.places,
-            number_of(&self.tables, &self.guesses, table),
-            row,
-        )
+        let table = number_of(&self.tables, &self.guesses, table);
+        self.places.owner(table, row)
     }
 
     /// Whether no other client has an unsettled change of the row.

@@ -12,7 +12,7 @@ use crate::hash::key_hash;
 use crate::keys::{Asked, has_key};
 use crate::node::Node;
 use crate::place::Place;
-use crate::places::find;
+use crate::places::Places;
 use crate::sought::Sought;
 use crate::version::Version;
 use au_base::ClientNo;
@@ -45,14 +45,14 @@ fn is_sought(place: Option<Place>, slot: usize, by: ClientNo, sought: Sought) ->
 
 /// Whether the version of the slot is one that is sought.
 fn is_match(
-    places: &[Place],
+    places: &Places,
     slot: usize,
     version: &Version,
     asked: &Asked<'_>,
     sought: Sought,
 ) -> bool
-    requires { in_order places.now ≡ true }
-    ensures { IsTrue result ↔ IsMatch sought places.now asked.now.table asked.now.places.now asked.now.key.now asked.now.by slot version.now }
+    requires { in_order places.now.listed ≡ true }
+    ensures { IsTrue result ↔ IsMatch sought places.now.listed asked.now.table asked.now.places.now asked.now.key.now asked.now.by slot version.now }
 {
     if version.table != asked.table {
         return false;
@@ -60,7 +60,7 @@ fn is_match(
     if !has_key(asked.places, asked.key, version.cells.as_slice()) {
         return false;
     }
-    let place = find(places, version.table, version.number);
+    let place = places.find(version.table, version.number);
     is_sought(place, slot, asked.by, sought)
 }
 
@@ -68,14 +68,14 @@ fn is_match(
 pub(crate) fn first_match(
     nodes: &Slab<Node>,
     heads: &IndexMap<u64, usize>,
-    places: &[Place],
+    places: &Places,
     asked: &Asked<'_>,
     sought: Sought,
 ) -> Option<usize>
     requires chained { Chained nodes.now.slots (λ hash. get nat_eq heads.now hash) }
-    requires order { in_order places.now ≡ true }
-    ensures some { IfSome result (λ slot. (version : Content) × (slice_index_or (versions_of nodes.now.slots) slot None ≡ Some version) × IsMatch sought places.now asked.now.table asked.now.places.now asked.now.key.now asked.now.by slot version) }
-    ensures none { IfNone result ((slot : ℕ) (version : Content) → slice_index_or (versions_of nodes.now.slots) slot None ≡ Some version → version.hash ≡ key_hash asked.now.table asked.now.key.now → IsMatch sought places.now asked.now.table asked.now.places.now asked.now.key.now asked.now.by slot version → ⊥) }
+    requires order { in_order places.now.listed ≡ true }
+    ensures some { IfSome result (λ slot. (version : Content) × (slice_index_or (versions_of nodes.now.slots) slot None ≡ Some version) × IsMatch sought places.now.listed asked.now.table asked.now.places.now asked.now.key.now asked.now.by slot version) }
+    ensures none { IfNone result ((slot : ℕ) (version : Content) → slice_index_or (versions_of nodes.now.slots) slot None ≡ Some version → version.hash ≡ key_hash asked.now.table asked.now.key.now → IsMatch sought places.now.listed asked.now.table asked.now.places.now asked.now.key.now asked.now.by slot version → ⊥) }
 {
     let hash = key_hash(asked.table, asked.key);
     let mut at = head_of(heads, hash);

@@ -10,7 +10,7 @@ ghost use Rattle.au_rows.specs.Stored.{Frees, Puts};
 use crate::chains::{link, unlink};
 use crate::keys::Asked;
 use crate::node::Node;
-use crate::place::Place;
+use crate::places::Places;
 use crate::seeking::first_match;
 use crate::sought::Sought;
 use crate::version::Version;
@@ -97,10 +97,10 @@ impl Versions {
     }
 
     /// The slot of a version that is sought under a key.
-    pub(crate) fn find(&self, places: &[Place], asked: &Asked<'_>, sought: Sought) -> Option<usize>
-        requires { in_order places.now ≡ true }
-        ensures some { IfSome result (λ slot. (version : Content) × (slice_index_or self.now.slots slot None ≡ Some version) × IsMatch sought places.now asked.now.table asked.now.places.now asked.now.key.now asked.now.by slot version) }
-        ensures none { IfNone result ((slot : ℕ) (version : Content) → slice_index_or self.now.slots slot None ≡ Some version → version.hash ≡ key_hash asked.now.table asked.now.key.now → IsMatch sought places.now asked.now.table asked.now.places.now asked.now.key.now asked.now.by slot version → ⊥) }
+    pub(crate) fn find(&self, places: &Places, asked: &Asked<'_>, sought: Sought) -> Option<usize>
+        requires { in_order places.now.listed ≡ true }
+        ensures some { IfSome result (λ slot. (version : Content) × (slice_index_or self.now.slots slot None ≡ Some version) × IsMatch sought places.now.listed asked.now.table asked.now.places.now asked.now.key.now asked.now.by slot version) }
+        ensures none { IfNone result ((slot : ℕ) (version : Content) → slice_index_or self.now.slots slot None ≡ Some version → version.hash ≡ key_hash asked.now.table asked.now.key.now → IsMatch sought places.now.listed asked.now.table asked.now.places.now asked.now.key.now asked.now.by slot version → ⊥) }
     {
         first_match(&self.nodes, &self.heads, places, asked, sought)
     }

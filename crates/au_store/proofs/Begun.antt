@@ -1,5 +1,5 @@
 -- From what a replayed frame makes of a state to what is said of a body, and of an instance that begins over it.
-use Rattle.std.proofs.Common.{◌≡◌, ◌↔◌, inl, ℕ, ◌+◌, ◌≤◌, Bool, true, false, if◌then◌else◌, IsTrue, MatchBool, List, ◌++◌, length, Option, Some, None, Result, Ok, Err, IfOk, OnErr, MatchOption, MatchResult, take, drop, refl, sym, ◌∙◌, ap, subst, arith}
+use Rattle.std.proofs.Common.{◌≡◌, ◌↔◌, inl, ℕ, ◌+◌, ◌≤◌, Bool, true, false, if◌then◌else◌, IsTrue, MatchBool, List, ◌++◌, length, Some, Result, Ok, Err, IfOk, OnErr, MatchResult, take, drop, refl, sym, ◌∙◌, ap, subst, arith}
 use Rattle.std.proofs.Math.ListN.{drop_of_length-le}
 use Rattle.std.proofs.Math.Seq.{take-length}
 use Rattle.std.proofs.lemmas.List.{append-nil}
@@ -10,6 +10,7 @@ use Rattle.au_io.specs.Disk.{Meaning, Passes}
 use Rattle.au_io.specs.Moments.{CountsNow, LeavesSince, OnlyNow, no_call}
 use Rattle.au_journal.specs.Causes.{FaultCause}
 use Rattle.au_journal.specs.declared.mount_fault.MountFault.{MountFault}
+use Rattle.au_journal.specs.Lengths.{gate_bytes}
 use Rattle.au_journal.specs.declared.seat.Seat.{Seat}
 use Rattle.rec_codec.specs.declared.frame.Frame.{Frame}
 use Rattle.rec_codec.specs.Frames.{IsFrame, IsSpellable, framed}
@@ -18,9 +19,11 @@ use Rattle.au_engine.specs.Replaying.{EndsWell, IsReplayable, after_frame, IsIma
 use Rattle.au_engine.specs.Returning.{LeadsTo, start_frame}
 use Rattle.au_engine.specs.State.{State, resting, start}
 use Rattle.au_store.specs.Recovery.{BeginsBy, GoesOnBy, RecoversToEither, ReplayedTo}
-use Rattle.au_store.specs.Starting.{IsRead, OpenCause, OpenCosts, OpenSays, WalkMeets, fault_of}
-use Rattle.au_store.specs.Steps.{CarriesTo}
-use Rattle.au_store.specs.declared.open_fault.OpenFault.{OpenFault}
+use Rattle.au_store.specs.Looking.{LookCause, LookMeets, LookSays, look_fault_of}
+use Rattle.au_store.specs.Starting.{OpenCosts}
+use Rattle.au_store.specs.declared.look_fault.LookFault.{LookFault}
+use Rattle.au_store.specs.descent.Making.{CarriesTo}
+use Rattle.au_store.specs.descent.Opening.{IsRead}
 use Rattle.au_store.proofs.Keeping.{settled_kept}
 use Rattle.au_store.proofs.Reading.{OneFront, frame_ends, mount_cause, stays_same, wrong_beginning, wrong_going_on}
 
@@ -127,27 +130,22 @@ no_time m counts only = (stays_same m counts only).time
 pub no_cost : (kept : Kept) (reading before now : ℕ) → now ≡ before → OpenCosts before now
 no_cost kept reading before now is = (kept, reading, omega arith)
 
-pub start_cost : (kept : Kept) (reading before now : ℕ) (bytes : List ℕ) → bytes ≡ framed (start_frame kept reading) → now ≤ before + length bytes + 2 → OpenCosts before now
-start_cost kept reading before now bytes is cost = (kept, reading, subst (λ (b : List ℕ). now ≤ before + length b + 2) is cost)
+pub start_cost : (kept : Kept) (reading before now : ℕ) (bytes : List ℕ) → bytes ≡ framed (start_frame kept reading) → now ≤ before + length bytes + gate_bytes true → OpenCosts before now
+start_cost kept reading before now bytes is cost = (kept, reading, subst (λ (b : List ℕ). now ≤ before + length b + gate_bytes true) is cost)
 
 -- the count of faults over two parts of a walk
-pub meets_after : {T : Type 0} (r : Result T OpenFault) (before mid now : ℕ) → mid ≡ before → WalkMeets r mid now → WalkMeets r before now
-meets_after r before mid now is meets = subst (λ (k : ℕ). WalkMeets r k now) is meets
+pub meets_after : {T : Type 0} (r : Result T LookFault) (before mid now : ℕ) → mid ≡ before → LookMeets r mid now → LookMeets r before now
+meets_after r before mid now is meets = subst (λ (k : ℕ). LookMeets r k now) is meets
 
-pub fault_after : (why : MountFault) (before mid now : ℕ) → mid ≡ before → FaultCause why mid now → OpenCause (fault_of why) before now
-fault_after why before mid now is cause = subst (λ (k : ℕ). OpenCause (fault_of why) k now) is (mount_cause why mid now cause)
+pub fault_after : (why : MountFault) (before mid now : ℕ) → mid ≡ before → FaultCause why mid now → LookCause (look_fault_of why) before now
+fault_after why before mid now is cause = subst (λ (k : ℕ). LookCause (look_fault_of why) k now) is (mount_cause why mid now cause)
 
-pub cause_after : (why : OpenFault) (before mid now : ℕ) → mid ≡ before → OpenCause why mid now → OpenCause why before now
-cause_after why before mid now is cause = subst (λ (k : ℕ). OpenCause why k now) is cause
+pub cause_after : (why : LookFault) (before mid now : ℕ) → mid ≡ before → LookCause why mid now → LookCause why before now
+cause_after why before mid now is cause = subst (λ (k : ℕ). LookCause why k now) is cause
 
 -- what is said of areas that read as they did
-pub says_of : (why : OpenFault) (old mid : Areas) → mid ≡ old → OpenSays mid why → OpenSays old why
-says_of why old mid is says = subst (λ (all : Areas). OpenSays all why) is says
-
--- where nothing was found
-pub none_of : {X : Type 0} (o : Option X) (P : Type 0) (Q : X → Type 0) → ((x : X) → o ≡ Some x → ⊥) → MatchOption o P Q → P
-none_of None P Q never found = found
-none_of (Some x) P Q never found = absurd (never x refl)
+pub says_of : (why : LookFault) (old mid : Areas) → mid ≡ old → LookSays mid why → LookSays old why
+says_of why old mid is says = subst (λ (all : Areas). LookSays all why) is says
 
 -- bytes that were all written over
 pub refilled : (n : ℕ) (room items : List ℕ) → length room ≡ n → length items ≡ n → take n (room ++ drop (length room) items) ≡ room

@@ -13,7 +13,8 @@ use Rattle.au_engine.specs.State.{State, stamp_of}
 use Rattle.au_engine.specs.Step.{Event as Asked, is_idle}
 use Rattle.au_store.specs.Doubts.{EventWrites}
 use Rattle.au_store.specs.Kinds.{GoesOnSeat, IsFree, area_after, cost_by, cost_of, used_after}
-use Rattle.au_store.specs.Steps.{FitsUnder, IsMovedTo, IsWithin, append_cost, growth}
+use Rattle.au_store.specs.Steps.{FitsUnder, IsMovedTo}
+use Rattle.au_store.specs.descent.Making.{IsWithin, growth, written_by}
 
 event_charged : (stamp : ℕ) (idle : Bool) (changes : List Change) (records : List Record) (f : Frame)
     → Some f ≡ (if idle then None else Some (Event (record { 0 = stamp }) changes records)) → IsFree f → ⊥
@@ -60,6 +61,6 @@ goes_on_seat m event n (Some f) old new writes moved =
     }
 
 -- and so much is written
-pub cost_frame : (m : State) (event : Asked) (n : State) (frame : Option Frame) → EventWrites m event n frame → append_cost (framed_option frame) ≡ cost_by n.kept frame
+pub cost_frame : (m : State) (event : Asked) (n : State) (frame : Option Frame) → EventWrites m event n frame → written_by (framed_option frame) ≡ cost_by n.kept frame
 cost_frame m event n None writes = refl
 cost_frame m event n (Some f) writes = sym (charged_cost n.kept f (writes_charged m event n f writes))

@@ -17,7 +17,7 @@ use Rattle.au_engine.specs.Returning.{LeadsTo}
 use Rattle.au_engine.specs.State.{State}
 use Rattle.au_engine.specs.Step.{is_idle}
 use Rattle.au_store.specs.Recovery.{GoesOnBy, GoesOnTo, Replayed}
-use Rattle.au_store.specs.Steps.{AreFramed, Carries, CarriesTo, IsWithin}
+use Rattle.au_store.specs.descent.Making.{AreFramed, Carries, CarriesTo, IsWithin}
 
 -- framed bytes are those of the journal
 pub framed_is : (f : Frame) → framed f ≡ journal.framed_of (spelled f)

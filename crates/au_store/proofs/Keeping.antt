@@ -10,7 +10,7 @@ use Rattle.au_journal.specs.declared.seat.Seat.{Seat}
 use Rattle.au_journal.specs.Frames.{front, IsLimit, AreSome}
 use Rattle.au_journal.specs.Images.{Closed, EndsIn, In, MayStandFor, StandsGated}
 use Rattle.au_journal.specs.Seats.{AppendDoubts, IsIn, IsSettled, IsDoubted, MayLeave, advanced, bare_after, mended, there_of}
-use Rattle.au_store.specs.Standing.{Holds, HoldsEither, IsKept, IsInDoubt, StandsOn}
+use Rattle.au_journal.specs.Standing.{Holds, HoldsEither, IsSettledOn, IsInDoubt, StandsOn}
 
 -- a closed gate behind the bodies
 closed_stands : (limit : ℕ) (bodies : List (List ℕ)) → IsLimit limit → AreSome bodies → (area : List ℕ) → Closed (front limit bodies) area → StandsGated limit bodies area
@@ -20,7 +20,7 @@ closed_stands limit bodies in_range some area closed = record {
 }
 
 -- each image of a settled journal holds its bodies
-pub settled_kept : (P : List (List ℕ) → Type 0) (m : Meaning) (seat : Seat) (bodies : List (List ℕ)) → seat.bare ≡ false → IsSettled m seat bodies → P bodies → IsKept P m seat
+pub settled_kept : (P : List (List ℕ) → Type 0) (m : Meaning) (seat : Seat) (bodies : List (List ℕ)) → seat.bare ≡ false → IsSettled m seat bodies → P bodies → IsSettledOn P m seat
 settled_kept P m seat bodies gated settled so = record {
   bodies = bodies;
   settled = settled;
@@ -68,7 +68,7 @@ left_in_doubt P Q old new seat bodies others counts time doubted so so_then unse
 pub doubted_of : (P Q : List (List ℕ) → Type 0) (m : Meaning) (seat : Seat) → StandsOn P Q m seat → (bodies others : List (List ℕ)) × IsDoubted m seat bodies others
 doubted_of P Q m seat stands =
     ⊎_elim
-    (λ (kept : (seat.doubt ≡ Settled) × IsKept P m seat). (kept.1.bodies, [], subst (λ (d : Doubt). IsIn d m seat kept.1.bodies []) (sym kept.0) kept.1.settled))
+    (λ (kept : (seat.doubt ≡ Settled) × IsSettledOn P m seat). (kept.1.bodies, [], subst (λ (d : Doubt). IsIn d m seat kept.1.bodies []) (sym kept.0) kept.1.settled))
     (λ (doubt : IsInDoubt P Q m seat). (doubt.bodies, doubt.others, doubt.doubted))
     stands
 
@@ -83,20 +83,20 @@ gated_after Head bare is = is
 
 module _ (P Q : List (List ℕ) → Type 0) (old new : Seat) (gated : old.bare ≡ false) where
   -- where no body is in doubt
-  pub settled_stands : (m : Meaning) → old.doubt ≡ Settled → StandsOn P Q m old → IsKept P m old
+  pub settled_stands : (m : Meaning) → old.doubt ≡ Settled → StandsOn P Q m old → IsSettledOn P m old
   settled_stands m is stands =
       ⊎_elim
-      (λ (kept : (old.doubt ≡ Settled) × IsKept P m old). kept.1)
+      (λ (kept : (old.doubt ≡ Settled) × IsSettledOn P m old). kept.1)
       (λ (doubt : IsInDoubt P Q m old). settled_kept P m old doubt.bodies gated (subst (λ (d : Doubt). IsIn d m old doubt.bodies doubt.others) is doubt.doubted) doubt.so)
       stands
 
   -- after a mend that succeeded
   pub mended_kept : (m n : Meaning) → new ≡ mended old → StandsOn P Q m old
-      → ((bodies others : List (List ℕ)) → IsDoubted m old bodies others → IsSettled n new bodies) → IsKept P n new
+      → ((bodies others : List (List ℕ)) → IsDoubted m old bodies others → IsSettled n new bodies) → IsSettledOn P n new
   mended_kept m n is stands settles =
       let here : new.bare ≡ false = ap (λ (s : Seat). s.bare) is ∙ gated_after old.doubt old.bare gated in
       ⊎_elim
-      (λ (kept : (old.doubt ≡ Settled) × IsKept P m old). settled_kept P n new kept.1.bodies here (settles kept.1.bodies [] (subst (λ (d : Doubt). IsIn d m old kept.1.bodies []) (sym kept.0) kept.1.settled)) kept.1.so)
+      (λ (kept : (old.doubt ≡ Settled) × IsSettledOn P m old). settled_kept P n new kept.1.bodies here (settles kept.1.bodies [] (subst (λ (d : Doubt). IsIn d m old kept.1.bodies []) (sym kept.0) kept.1.settled)) kept.1.so)
       (λ (doubt : IsInDoubt P Q m old). settled_kept P n new doubt.bodies here (settles doubt.bodies doubt.others doubt.doubted) doubt.so)
       stands
 
@@ -108,7 +108,7 @@ module _ (P Q : List (List ℕ) → Type 0) (old new : Seat) (gated : old.bare �
         → LeavesSince (HoldsEither P Q) (meaning before) (meaning after)
     mending_since only stands leaves =
         ⊎_elim
-        (λ (kept : (old.doubt ≡ Settled) × IsKept P (meaning before) old).
+        (λ (kept : (old.doubt ≡ Settled) × IsSettledOn P (meaning before) old).
         subst (λ (d : D). LeavesSince (HoldsEither P Q) (meaning before) (meaning d)) (sym (still kept.0))
         (no_call (HoldsEither P Q) (meaning before) only (weaker (Holds P) (HoldsEither P Q) (meaning before) (λ c held. inl held) kept.1.leaves)))
         (λ (doubt : IsInDoubt P Q (meaning before) old).
@@ -122,7 +122,7 @@ module _ (P Q : List (List ℕ) → Type 0) (old new : Seat) (gated : old.bare �
         → LeavesSince (HoldsEither P Q) (meaning before) (meaning after) → StandsOn P Q (meaning after) new
     still_stands counts time is stands doubted leaves =
         ⊎_elim
-        (λ (kept : (old.doubt ≡ Settled) × IsKept P (meaning before) old).
+        (λ (kept : (old.doubt ≡ Settled) × IsSettledOn P (meaning before) old).
         subst (λ (s : Seat). StandsOn P Q (meaning after) s) (sym is)
         (subst (λ (d : D). StandsOn P Q (meaning d) old) (sym (still kept.0)) (inl kept)))
         (λ (doubt : IsInDoubt P Q (meaning before) old).
@@ -135,5 +135,5 @@ append_unsettled doubt doubts is = subst AppendDoubts is doubts
 
 -- after an append that is done
 pub appended_kept : (P : List (List ℕ) → Type 0) (n : Meaning) (seat : Seat) (bodies : List (List ℕ)) (body : List ℕ) (size : ℕ) (old : Seat)
-    → seat ≡ advanced size old → IsSettled n seat (bodies ++ body ∷ []) → P (bodies ++ body ∷ []) → IsKept P n seat
+    → seat ≡ advanced size old → IsSettled n seat (bodies ++ body ∷ []) → P (bodies ++ body ∷ []) → IsSettledOn P n seat
 appended_kept P n seat bodies body size old is settled so = settled_kept P n seat (bodies ++ body ∷ []) (ap (λ (s : Seat). s.bare) is) settled so

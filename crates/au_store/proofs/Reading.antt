@@ -1,16 +1,17 @@
 -- From what a walk reads to what is said of a store that is opened, over plain variables.
-use Rattle.std.proofs.Common.{◌≡◌, inl, inr, ℕ, ◌+◌, ◌≤◌, ◌<◌, ◌^◌, Bool, true, false, List, [], ◌∷◌, ◌++◌, length, Option, refl, sym, ◌∙◌, ap, subst, arith, append_assoc, length-append}
+use Rattle.std.proofs.Common.{◌≡◌, inl, inr, ℕ, ◌+◌, ◌≤◌, ◌<◌, Bool, true, false, List, [], ◌∷◌, ◌++◌, length, Option, refl, sym, ◌∙◌, ap, subst, arith, append_assoc}
 use Rattle.std.proofs.lemmas.List.{append-nil, append_cancel_left}
 use Rattle.au_entries.specs.declared.kept.Kept.{Kept}
 use Rattle.au_io.specs.declared.disk.Area.{Area}
-use Rattle.au_io.specs.Areas.{Areas, area_of, IsBounded}
+use Rattle.au_io.specs.Areas.{Areas, area_of}
 use Rattle.au_io.specs.Disk.{Meaning, Passes, Stays}
 use Rattle.au_io.specs.Moments.{CountsNow, LeavesSince, OnlyNow, both_calls, weaker_since}
 use Rattle.au_io.specs.Time.{Ticking}
 use Rattle.au_journal.specs.declared.seat.Seat.{Seat}
-use Rattle.au_journal.specs.Frames.{frame, front, header, spelled, IsLimit, IsOpen, IsShut, AreSome, Stands}
+use Rattle.au_journal.specs.Frames.{frame, front, spelled, IsLimit, IsOpen, IsShut, AreSome, Stands}
 use Rattle.au_journal.specs.Images.{In, EndsIn}
-use Rattle.au_journal.specs.Seats.{IsSettled, gate_bytes}
+use Rattle.au_journal.specs.Lengths.{gate_bytes}
+use Rattle.au_journal.specs.Seats.{IsSettled}
 use Rattle.au_journal.specs.Walk.{IsMounted, IsWalked, MountSays, WalkSays}
 use Rattle.au_journal.specs.Causes.{FaultCause}
 use Rattle.au_journal.specs.declared.mount_fault.MountFault.{MountFault}
@@ -29,15 +30,15 @@ use Rattle.au_store.specs.Recovery.{BeginsBy, GoesOnBy, GoesOnTo, ReadsAs, Recov
 use Rattle.rec_codec.specs.Frames.{framed}
 use Rattle.au_engine.specs.Returning.{start_frame}
 use Rattle.au_store.specs.Steps.{IsMovedTo}
-use Rattle.au_store.specs.Starting.{BeginsInVain, IsOpened, IsRead, IsSeated, NoneIsBare, OpenCause, OpenLeaves, OpenSays, OpensInVain, StartSays, fault_of}
+use Rattle.au_store.specs.Looking.{LookCause, LookSays, look_fault_of, opening_fault}
+use Rattle.au_store.specs.Starting.{IsOpened, IsSeated, NoneIsBare, OpenCause, OpenLeaves, OpenSays, OpensInVain}
+use Rattle.au_store.specs.declared.look_fault.LookFault.{LookFault}
+use Rattle.au_store.specs.declared.look_fault.LookFault.TheVariants as look
+use Rattle.au_store.specs.descent.Opening.{BeginsInVain, IsRead, StartSays}
 
 -- frames stand one behind another
 abbrev pub Pushed : Type 0
 Pushed = (limit : ℕ) (bodies : List (List ℕ)) (body : List ℕ) → front limit (bodies ++ body ∷ []) ≡ front limit bodies ++ frame body
-
--- a spelled body has its length before it
-abbrev pub Sized : Type 0
-Sized = (body : List ℕ) → length (spelled body) ≡ 8 + length body
 
 -- no body begins another
 abbrev pub OneFront : Type 0
@@ -97,7 +98,7 @@ cannot_follow one_front (first ∷ bodies) kept body so never = λ other next th
     never next (subst (λ (k : Kept). GoesOnBy k body next) (replayed_once one_front (first ∷ bodies) other kept there so) by)
 
 -- the area, where one more body was walked
-module _ (pushed : Pushed) (sized : Sized) (old new : Meaning) (s t : Seat) (bodies : List (List ℕ)) (body : List ℕ) (reads : new.reads ≡ old.reads) (area : t.area ≡ s.area) (limit : t.limit ≡ s.limit)
+module _ (pushed : Pushed) (old new : Meaning) (s t : Seat) (bodies : List (List ℕ)) (body : List ℕ) (reads : new.reads ≡ old.reads) (area : t.area ≡ s.area) (limit : t.limit ≡ s.limit)
     (walked : IsWalked old s bodies) (then : IsWalked new t (bodies ++ body ∷ [])) where
   more_split : area_of s.area old.reads ≡ front s.limit bodies ++ (frame body ++ then.rest)
   more_split =
@@ -122,13 +123,6 @@ module _ (pushed : Pushed) (sized : Sized) (old new : Meaning) (s t : Seat) (bod
     },
     inr (body, then.rest, refl, never),
   )
-
-  pub next_place : (at next : ℕ) → at ≡ s.used → IsBounded new.reads → (at + 9 + length body ≤ 2 ^ 62 → next ≡ at + 9 + length body) → next ≡ t.used
-  next_place at next place bounded is =
-      let sizes = ap length (pushed t.limit bodies body) ∙ length-append (front t.limit bodies) (frame body) in
-      let there : at + 9 + length body ≡ t.used = omega (arith, place, walked.placed.place, ap (λ (l : ℕ). length (front l bodies)) limit, then.placed.place, sizes, sized body) in
-      let fits : t.used ≤ 2 ^ 62 = omega (arith, then.placed.place, ap length then.split, length-append (front t.limit (bodies ++ body ∷ [])) then.rest, bounded.each t.area) in
-      is (omega (arith, there, fits)) ∙ there
 
 -- the area holds the bodies that a settled journal stands for
 ends_stands : (bare : Bool) (limit : ℕ) (bodies : List (List ℕ)) (area : List ℕ) → IsLimit limit → AreSome bodies → EndsIn bare (front limit bodies) area → Stands limit bodies area
@@ -179,14 +173,6 @@ never_empty old new s t reads area limit mounted settled image =
     let same = append_cancel_left (front s.limit []) mounted.walked.rest stands.rest split in
     open_or_shut stands.rest (subst IsOpen same mounted.opens) stands.shut
 
-front_nil : (limit : ℕ) → length (front limit []) ≡ 13
-unfolding front
-front_nil limit = refl
-
-pub first_place : (m : Meaning) (seat : Seat) → IsWalked m seat [] → 13 ≡ seat.used
-first_place m seat walked =
-    sym (walked.placed.place ∙ front_nil seat.limit)
-
 -- at any moment of the walk, and of the append behind it
 pub open_leaves : (old mid new : Meaning) (kept : Kept) (reading : ℕ) → Stays old mid → Passes mid new → ReadsAs kept old.reads
     → LeavesSince (RecoversToEither kept (start kept reading).kept) mid new → LeavesSince (OpenLeaves old reading) old new
@@ -231,23 +217,23 @@ stays_same m counts only = record {
 }
 
 -- an append writes at most two gates
-pub two_gates : (bare : Bool) → gate_bytes bare ≤ 2
+pub two_gates : (bare : Bool) → gate_bytes bare ≤ gate_bytes true
 two_gates true = omega arith
 two_gates false = omega arith
 
 -- what is said of a mount or a walk that failed
-pub mount_says : (all : Areas) (why : MountFault) → MountSays all why → OpenSays all (fault_of why)
+pub mount_says : (all : Areas) (why : MountFault) → MountSays all why → LookSays all (look_fault_of why)
 mount_says all mount.Disk says = tt
 mount_says all mount.Unformatted says = says
 mount_says all (mount.Damaged area at) says = inl says
 
-pub mount_cause : (why : MountFault) (before now : ℕ) → FaultCause why before now → OpenCause (fault_of why) before now
+pub mount_cause : (why : MountFault) (before now : ℕ) → FaultCause why before now → LookCause (look_fault_of why) before now
 mount_cause mount.Disk before now cause = cause
 mount_cause mount.Unformatted before now cause = cause
 mount_cause (mount.Damaged area at) before now cause = cause
 
 pub walk_says : (m : Meaning) (seat : Seat) (bodies : List (List ℕ)) (walked : IsWalked m seat bodies) (why : MountFault) → AreReplayable bodies → WalkSays walked.rest seat.area seat.used why
-    → OpenSays m.reads (fault_of why)
+    → LookSays m.reads (look_fault_of why)
 walk_says m seat bodies walked mount.Disk before says = tt
 walk_says m seat bodies walked mount.Unformatted before says = absurd says
 walk_says m seat bodies walked (mount.Damaged area at) before says =
@@ -264,6 +250,13 @@ walk_says m seat bodies walked (mount.Damaged area at) before says =
       },
       inl says.2,
     ))
+
+-- a store that can't be looked at can't be opened
+pub opening_cause : (why : LookFault) (before now : ℕ) → LookCause why before now → OpenCause (opening_fault why) before now
+opening_cause look.Disk before now cause = cause
+opening_cause look.Unformatted before now cause = cause
+opening_cause (look.Damaged area at) before now cause = cause
+opening_cause look.Memory before now cause = cause
 
 pub start_says : (kept : Kept) (all : Areas) (why : OpenFault) → ReadsAs kept all → StartSays kept why → OpenSays all why
 start_says kept all fault.Disk recovers says = tt

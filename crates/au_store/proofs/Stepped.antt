@@ -21,7 +21,8 @@ use Rattle.au_store.specs.Recovery.{RecoversTo, RecoversToEither}
 use Rattle.au_store.specs.Doubts.{EventWrites, HasFrame, IsAfter}
 use Rattle.au_store.specs.Stored.{IsKeptOn}
 use Rattle.au_store.specs.Kinds.{GoesOnSeat}
-use Rattle.au_store.specs.Steps.{Exceeds, EventCosts, FitsUnder, HasFrameWithin, IsLeftOut, IsMoved, IsMovedTo, IsWithin, MakesBy, StepCosts, StepLeaves, StepMoves, StepsBy, append_cost, growth}
+use Rattle.au_store.specs.Steps.{Exceeds, EventCosts, FitsUnder, HasFrameWithin, IsLeftOut, IsMovedTo, StepCosts, StepLeaves, StepMoves, StepsBy}
+use Rattle.au_store.specs.descent.Making.{IsMoved, IsWithin, MakesBy, growth, written_by}
 use Rattle.au_store.proofs.EventFrames.{cost_frame, fits_frame, goes_on_seat, writes_charged}
 
 -- the state and the reply
@@ -80,10 +81,10 @@ module _ (m : State) (event : Event) (prepared : Prepared) (w : Writes m event.c
   step_moves n said.Memory old new made within moved = absurd made
 
   -- what was written
-  pub event_costs : (mend before now : ℕ) → now ≤ before + mend + append_cost prepared.framed → EventCosts m event mend before now
-  event_costs mend before now cost = (after prepared m, w.frame, w.of_step, omega (arith, cost, cost_frame m event (after prepared m) w.frame w.of_step, ap append_cost w.bytes_are))
+  pub event_costs : (mend before now : ℕ) → now ≤ before + mend + written_by prepared.framed → EventCosts m event mend before now
+  event_costs mend before now cost = (after prepared m, w.frame, w.of_step, omega (arith, cost, cost_frame m event (after prepared m) w.frame w.of_step, ap written_by w.bytes_are))
 
-  pub step_costs : (mend : ℕ) (n : State) (answer : Said) (before now : ℕ) → MakesBy prepared m answer n → now ≤ before + mend + append_cost prepared.framed
+  pub step_costs : (mend : ℕ) (n : State) (answer : Said) (before now : ℕ) → MakesBy prepared m answer n → now ≤ before + mend + written_by prepared.framed
       → ((needed limit : ℕ) → answer ≡ said.Full needed limit → now ≤ before + mend) → StepCosts m event mend answer before now
   step_costs mend n (said.Replied reply) before now made cost full = event_costs mend before now cost
   step_costs mend n said.Disk before now made cost full = inr (event_costs mend before now cost)

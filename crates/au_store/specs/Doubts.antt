@@ -12,7 +12,7 @@ use Rattle.au_engine.specs.Framing.{IsFrameOf}
 use Rattle.au_engine.specs.State.{State, stamp_of}
 use Rattle.au_engine.specs.Step.{Event, Step}
 use Rattle.au_store.specs.Recovery.{ReplayedTo}
-use Rattle.au_store.specs.Standing.{StandsOn}
+use Rattle.au_journal.specs.Standing.{StandsOn}
 
 -- the event writes this frame, or none, and the state is this one after it
 abbrev pub EventWrites : State → Event → State → Option Frame → Type 0

@@ -60,7 +60,7 @@ pub record IsFaulted (p : Reached) (count : ℕ) (q : Reached) : Type 0 where
   pub faults : q.faults ≡ count
 
 -- all is as it was
-pub record IsStill (p q : Reached) : Type 0 where
+pub record IsUnchanged (p q : Reached) : Type 0 where
   pub state : q.state ≡ p.state
   pub used : q.used ≡ p.used
   pub limit : q.limit ≡ p.limit
@@ -81,7 +81,7 @@ GoesBy p (Opened m used limit faults) q = ⊥
 GoesBy p (Stepped client ask reading reply) q = IsStepped p (event_at client ask reading) reply q
 GoesBy p (Abandoned client) q = IsEnded p client q
 GoesBy p (Faulted client count) q = IsFaulted p count q
-GoesBy p (Filled client ask reading needed) q = IsFilled p (event_at client ask reading) needed × IsStill p q
+GoesBy p (Filled client ask reading needed) q = IsFilled p (event_at client ask reading) needed × IsUnchanged p q
 
 -- the entries, one after another, take p to q
 abbrev pub GoesOver : Reached → List Entry → Reached → Type 0

@@ -5,7 +5,7 @@ pub mod Kinds
 pub mod Looking
 pub mod Opened
 pub mod Recovery
-pub mod Standing
 pub mod Starting
 pub mod Steps
 pub mod Stored
+pub mod descent

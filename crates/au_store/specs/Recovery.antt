@@ -9,7 +9,7 @@ use Rattle.rec_codec.specs.declared.frame.Frame.{Frame}
 use Rattle.rec_codec.specs.Frames.{IsFrame}
 use Rattle.au_engine.specs.Image.{nothing}
 use Rattle.au_engine.specs.Replaying.{IsReplayable, after_frame, IsImage}
-use Rattle.au_store.specs.Standing.{Holds, HoldsEither}
+use Rattle.au_journal.specs.Standing.{Holds, HoldsEither}
 
 -- the bytes are the body of a frame that is no image and goes on from what is kept, and that is kept after it
 pub record GoesOnBy (kept : Kept) (body : List ℕ) (after : Kept) : Type 0 where

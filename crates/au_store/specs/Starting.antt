@@ -1,5 +1,5 @@
 -- What opening a store does, by what it answers.
-use Rattle.std.specs.Prelude.{◌≡◌, ◌⊎◌, ◌≤◌, ◌<◌, ⊤, ℕ, ◌+◌, List, length, Option, Result, Ok, Err}
+use Rattle.std.specs.Prelude.{◌≡◌, ◌⊎◌, ◌≤◌, ◌<◌, ⊤, ℕ, ◌+◌, true, List, length, Option}
 use Rattle.au_base.specs.Limits.{INSTANCES}
 use Rattle.au_entries.specs.declared.kept.Kept.{Kept}
 use Rattle.au_io.specs.Areas.{Areas}
@@ -7,13 +7,11 @@ use Rattle.au_io.specs.Disk.{Meaning, Stays}
 use Rattle.au_io.specs.Faults.{HasRisen}
 use Rattle.au_io.specs.Moments.{LeavesSince}
 use Rattle.au_io.specs.Time.{Reads, Ticking}
-use Rattle.au_journal.specs.declared.mount_fault.MountFault.{MountFault}
-use Rattle.au_journal.specs.declared.mount_fault.MountFault.TheVariants as mount
 use Rattle.au_journal.specs.declared.seat.Seat.{Seat}
 use Rattle.au_journal.specs.Frames.{Stands, front}
 use Rattle.au_journal.specs.Images.{In}
-use Rattle.au_journal.specs.Seats.{IsSettled}
-use Rattle.au_journal.specs.Walk.{IsDamaged, IsUnformatted, IsWalked}
+use Rattle.au_journal.specs.Lengths.{gate_bytes}
+use Rattle.au_journal.specs.Walk.{IsDamaged, IsUnformatted}
 use Rattle.rec_codec.specs.Frames.{framed}
 use Rattle.au_engine.specs.Returning.{start_frame}
 use Rattle.au_engine.specs.State.{State, start}
@@ -21,25 +19,6 @@ use Rattle.au_store.specs.declared.open_fault.OpenFault.{OpenFault}
 use Rattle.au_store.specs.declared.open_fault.OpenFault.TheVariants as fault
 use Rattle.au_store.specs.Opened.{IsBare, IsFrameDamage}
 use Rattle.au_store.specs.Recovery.{ReadsAs, RecoversToEither, Replayed}
-
--- the walk is behind bodies that are replayed to what is kept, and end at that place
-pub record IsTaken (m : Meaning) (seat : Seat) (kept : Kept) (at : ℕ) : Type 0 where
-  pub bodies : List (List ℕ)
-  pub walked : IsWalked m seat bodies
-  pub so : Replayed bodies kept
-  pub place : at ≡ seat.used
-
--- the walk has ended, and the journal stands for bodies that are replayed to what is kept
-pub record IsRead (m : Meaning) (seat : Seat) (kept : Kept) : Type 0 where
-  pub bodies : List (List ℕ)
-  pub settled : IsSettled m seat bodies
-  pub so : Replayed bodies kept
-
--- a journal that can't be mounted or walked can't be opened, for the same reason
-abbrev pub fault_of : MountFault → OpenFault
-fault_of mount.Disk = fault.Disk
-fault_of mount.Unformatted = fault.Unformatted
-fault_of (mount.Damaged area at) = fault.Damaged area at
 
 -- what is said of the areas that couldn't be opened
 abbrev pub OpenSays : Areas → OpenFault → Type 0
@@ -56,11 +35,6 @@ OpenCause fault.Unformatted before now = now ≡ before
 OpenCause (fault.Damaged area at) before now = now ≡ before
 OpenCause fault.Worn before now = now ≡ before
 OpenCause fault.Memory before now = now ≡ before
-
--- the same of a walk, at which no fault is an answer too
-abbrev pub WalkMeets : {T : Type 0} → Result T OpenFault → ℕ → ℕ → Type 0
-WalkMeets (Ok value) before now = now ≡ before
-WalkMeets (Err why) before now = OpenCause why before now
 
 -- no image ends where its bodies end
 abbrev pub NoneIsBare : Meaning → Type 0
@@ -87,19 +61,9 @@ OpensInVain told meaning ticking disk last clock clocked fault.Disk =
     ⊎ ((reading : ℕ) × Reads (ticking clock) (ticking clocked) reading
     × (told → NoneIsBare (meaning disk) → LeavesSince (OpenLeaves (meaning disk) reading) (meaning disk) (meaning last)))
 
--- the same of an instance that can't begin over what was replayed, where a gate stands behind that
-abbrev pub BeginsInVain : {D C : Type 0} (told : Type 0) (meaning : D → Meaning) (ticking : C → Option Ticking) (kept : Kept) (gated : Type 0) (disk last : D) (clock clocked : C) → OpenFault → Type 0
-BeginsInVain told meaning ticking kept gated disk last clock clocked fault.Unformatted = (clocked ≡ clock) × (last ≡ disk)
-BeginsInVain told meaning ticking kept gated disk last clock clocked (fault.Damaged area at) = (clocked ≡ clock) × (last ≡ disk)
-BeginsInVain told meaning ticking kept gated disk last clock clocked fault.Worn = (clocked ≡ clock) × (last ≡ disk)
-BeginsInVain told meaning ticking kept gated disk last clock clocked fault.Memory = IsReadOnceAtMost ticking clock clocked × (last ≡ disk)
-BeginsInVain told meaning ticking kept gated disk last clock clocked fault.Disk =
-    (reading : ℕ) × Reads (ticking clock) (ticking clocked) reading
-    × (told → gated → LeavesSince (RecoversToEither kept (start kept reading).kept) (meaning disk) (meaning last))
-
 -- at most the frame with which an instance begins is written, and two gates
 abbrev pub OpenCosts : ℕ → ℕ → Type 0
-OpenCosts before now = (kept : Kept) × (reading : ℕ) × (now ≤ before + length (framed (start_frame kept reading)) + 2)
+OpenCosts before now = (kept : Kept) × (reading : ℕ) × (now ≤ before + length (framed (start_frame kept reading)) + gate_bytes true)
 
 -- the state is that of the next instance, at this reading, over what the areas read as
 pub record IsOpened (all : Areas) (reading : ℕ) (m : State) : Type 0 where
@@ -116,14 +80,6 @@ pub record IsSeated (all : Areas) (reading : ℕ) (seat : Seat) : Type 0 where
   pub held : In seat.area (Stands seat.limit bodies) all
   pub so : Replayed bodies kept
   pub used : seat.used ≡ length (front seat.limit bodies) + length (framed (start_frame kept reading))
-
--- an instance that can't begin over what is kept, for want of a number where that is said
-abbrev pub StartSays : Kept → OpenFault → Type 0
-StartSays kept fault.Disk = ⊤
-StartSays kept fault.Unformatted = ⊥
-StartSays kept (fault.Damaged area at) = ⊥
-StartSays kept fault.Worn = kept.instance ≡ INSTANCES
-StartSays kept fault.Memory = ⊤
 
 -- the bytes alone are why
 abbrev pub IsOfBytes : OpenFault → Type 0

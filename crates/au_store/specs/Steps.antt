@@ -1,5 +1,5 @@
 -- What a step of a store does, by what it answers.
-use Rattle.std.specs.Prelude.{◌≡◌, ◌≢◌, ◌⊎◌, ◌≤◌, ◌<◌, ⊤, ℕ, ◌+◌, List, length, Option, Some, None}
+use Rattle.std.specs.Prelude.{◌≡◌, ◌≢◌, ◌⊎◌, ◌≤◌, ◌<◌, ⊤, ℕ, ◌+◌, Option, Some}
 use Rattle.au_base.specs.declared.ask.Ask.{Ask}
 use Rattle.au_base.specs.declared.numbers.ClientNo.{ClientNo}
 use Rattle.au_base.specs.declared.reply.Reply.{Reply}
@@ -10,12 +10,8 @@ use Rattle.au_io.specs.Areas.{Areas}
 use Rattle.au_io.specs.Disk.{Meaning}
 use Rattle.au_io.specs.Faults.{HasRisen}
 use Rattle.au_journal.specs.declared.seat.Seat.{Seat}
-use Rattle.au_journal.specs.Seats.{IsFramed, mend_bytes, needed_of}
+use Rattle.au_journal.specs.Seats.{mend_bytes}
 use Rattle.rec_codec.specs.declared.frame.Frame.{Frame}
-use Rattle.rec_codec.specs.Frames.{IsSpellable, framed}
-use Rattle.au_engine.specs.Replaying.{IsReplayable, after_frame, IsImage}
-use Rattle.au_engine.specs.declared.prepared.Prepared.{Prepared}
-use Rattle.au_engine.specs.Prepared.{after}
 use Rattle.au_engine.specs.State.{State}
 use Rattle.au_engine.specs.Step.{Event, Step}
 use Rattle.au_io.specs.Moments.{LeavesSince}
@@ -25,18 +21,6 @@ use Rattle.au_store.specs.Recovery.{RecoversTo, RecoversToEither}
 use Rattle.au_store.specs.Doubts.{EventWrites, IsAfter, IsStoodOn}
 use Rattle.au_store.specs.Kinds.{FitsWithin, GoesOnSeat, IsFree, cost_by, needed_by}
 use Rattle.au_store.specs.Stored.{Stored}
-
--- the frame goes on from what is kept, and that is kept after it
-pub record Carries (kept : Kept) (frame : Frame) (after : Kept) : Type 0 where
-  pub spellable : IsSpellable frame
-  pub no_image : IsImage frame → ⊥
-  pub replayable : IsReplayable kept frame
-  pub makes : after ≡ after_frame kept frame
-
--- what a step writes carries what is kept to what is kept after it; where it writes nothing, that stays
-abbrev pub CarriesTo : Kept → Option (List ℕ) → Kept → Type 0
-CarriesTo kept None after = after ≡ kept
-CarriesTo kept (Some bytes) after = (frame : Frame) × (bytes ≡ framed frame) × Carries kept frame after
 
 -- at a reply the state is that after the event; at any other answer it stays
 abbrev pub StepsBy : State → Event → Said → State → Type 0
@@ -140,37 +124,3 @@ StepMoves m event n said.Memory old new = IsMovedTo 0 old new
 -- the client asks this at that reading
 abbrev pub event_at : ClientNo → Ask → ℕ → Event
 event_at client ask reading = record { client = client; ask = ask; reading = reading }
-
--- the state by the prepared step, which takes no memory: at a reply it is the one after it; at any other answer it stays
-abbrev pub MakesBy : Prepared → State → Said → State → Type 0
-MakesBy prepared m (said.Replied reply) n = (reply ≡ prepared.reply) × (n ≡ after prepared m)
-MakesBy prepared m said.Disk n = n ≡ m
-MakesBy prepared m (said.Full needed limit) n = n ≡ m
-MakesBy prepared m said.Memory n = ⊥
-
--- how long the area grows by framed bytes, where there are some
-abbrev pub growth : Option (List ℕ) → ℕ
-growth None = 0
-growth (Some bytes) = length bytes
-
--- the bytes that an append of them writes
-abbrev pub append_cost : Option (List ℕ) → ℕ
-append_cost None = 0
-append_cost (Some bytes) = length bytes + 1
-
--- the area with the framed bytes and one gate behind them is within the limit
-abbrev pub IsWithin : Seat → Option (List ℕ) → Type 0
-IsWithin seat None = ⊤
-IsWithin seat (Some bytes) = needed_of seat (length bytes) ≤ seat.limit
-
--- there are none, or they are the framed bytes of a body
-abbrev pub AreFramed : Option (List ℕ) → Type 0
-AreFramed None = ⊤
-AreFramed (Some bytes) = (body : List ℕ) × IsFramed bytes body
-
--- the used length grows by n at a reply, and stays at any other answer
-abbrev pub IsMoved : Said → ℕ → Seat → Seat → Type 0
-IsMoved (said.Replied reply) n old new = IsMovedTo n old new
-IsMoved said.Disk n old new = IsMovedTo 0 old new
-IsMoved (said.Full needed limit) n old new = IsMovedTo 0 old new
-IsMoved said.Memory n old new = IsMovedTo 0 old new

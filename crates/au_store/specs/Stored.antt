@@ -7,7 +7,7 @@ use Rattle.au_engine.specs.Replaying.{EndsWell}
 use Rattle.au_engine.specs.State.{State, Reserved}
 use Rattle.au_store.specs.Recovery.{ReplayedTo}
 use Rattle.au_store.specs.Doubts.{IsAtRest}
-use Rattle.au_store.specs.Standing.{IsKept}
+use Rattle.au_journal.specs.Standing.{IsSettledOn}
 
 -- the state, for how many more records there is room, the disk and where the journal stands on it, the clock, and the
 -- last reading that it gave
@@ -25,7 +25,7 @@ reserved_of store = record { state = store.state; room = store.room }
 
 -- no step is in doubt: all that a crash may leave recovers to what is kept
 abbrev pub IsKeptOn : Kept → Meaning → Seat → Type 0
-IsKeptOn kept m seat = IsKept (ReplayedTo kept) m seat
+IsKeptOn kept m seat = IsSettledOn (ReplayedTo kept) m seat
 
 -- The journal was walked to its end, and a gate stands there. Where the disk tells what it holds, it stands for what is
 -- kept, and perhaps for what is kept after the one step that is in doubt. SYS is a user, and there is no more of anything than there may be.

@@ -2,11 +2,10 @@
 ghost use Rattle.std.specs.Prelude.{◌≡◌, IfOk, IfErr, OnOk};
 ghost use Rattle.au_io.specs.Disk.{Stays};
 ghost use Rattle.au_journal.specs.Walk.{IsStill};
-ghost use Rattle.au_store.specs.Looking.{LookMeets, ReadsUpTo, look_fault_of, opening_fault};
-ghost use Rattle.au_store.specs.Starting.{OpenSays};
+ghost use Rattle.au_store.specs.Looking.{LookMeets, LookSays, ReadsUpTo};
 
 use crate::replaying::recover;
-use crate::{LookFault, OpenFault, Store};
+use crate::{LookFault, Store};
 use au_catalog::Kept;
 use au_io::{Clock, Disk};
 use au_journal::Journal;
@@ -17,33 +16,21 @@ impl<D: Disk, C: Clock> Store<D, C> {
     /// areas first, and writes nothing. The disk comes back.
     pub fn look(alloc: Global, disk: D) -> (D, Result<(Kept, u64), LookFault>)
         ensures found { D.told → IfOk result.1 (λ found. ReadsUpTo found.0 found.1 (D.meaning disk).reads) }
-        ensures why { D.told → IfErr result.1 (λ why. OpenSays (D.meaning disk).reads (opening_fault why)) }
+        ensures why { D.told → IfErr result.1 (LookSays (D.meaning disk).reads) }
         ensures synced { D.told → OnOk result.1 (IsStill (D.meaning result.0)) }
         ensures stays { Stays (D.meaning disk) (D.meaning result.0) }
         ensures cause { LookMeets result.1 (D.faults disk) (D.faults result.0) }
     {
         let mut journal = match Journal::mount(disk) {
             Ok(journal) => journal,
-            Err((disk, why)) => return (disk, Err(look_fault_of(OpenFault::from(why)))),
+            Err((disk, why)) => return (disk, Err(LookFault::from(why))),
         };
         match recover(alloc, &mut journal) {
             Ok(engine) => {
                 let used = journal.used();
                 (journal.shut(), Ok((engine.into_kept(), used)))
             }
-            Err(why) => (journal.shut(), Err(look_fault_of(why))),
+            Err(why) => (journal.shut(), Err(why)),
         }
-    }
-}
-
-// The same fault of a look. A walk finds no instance numbers spent, since it begins no instance.
-fn look_fault_of(why: OpenFault) -> LookFault
-    ensures { result ≡ look_fault_of why }
-{
-    match why {
-        OpenFault::Disk => LookFault::Disk,
-        OpenFault::Unformatted => LookFault::Unformatted,
-        OpenFault::Damaged { area, at } => LookFault::Damaged { area, at },
-        OpenFault::Worn | OpenFault::Memory => LookFault::Memory,
     }
 }

@@ -1,4 +1,7 @@
 //! Why a store couldn't be opened.
+ghost use Rattle.std.specs.Prelude.{◌≡◌};
+
+use crate::LookFault;
 use au_io::Area;
 
 /// Why a store couldn't be opened.
@@ -14,4 +17,19 @@ pub enum OpenFault {
     Worn,
     /// There was no memory.
     Memory,
+}
+
+impl From<LookFault> for OpenFault {
+    ghost use Rattle.au_store.specs.Looking.{opening_fault};
+
+    ghost from_gives = { λ why fault. fault ≡ opening_fault why };
+
+    fn from(why: LookFault) -> OpenFault {
+        match why {
+            LookFault::Disk => OpenFault::Disk,
+            LookFault::Unformatted => OpenFault::Unformatted,
+            LookFault::Damaged { area, at } => OpenFault::Damaged { area, at },
+            LookFault::Memory => OpenFault::Memory,
+        }
+    }
 }

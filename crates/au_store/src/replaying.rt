@@ -1,5 +1,5 @@
 //! Replaying what stands in a journal.
-ghost use Rattle.std.specs.Prelude.{◌≡◌, ◌↔◌, ◌≤◌, ◌+◌, ◌^◌, IsTrue, ◌++◌, ◌∷◌, [], ⊤, ℕ, List, length, true, IfOk, IfErr, MatchBool, MatchOption};
+ghost use Rattle.std.specs.Prelude.{◌≡◌, ◌↔◌, IsTrue, ◌++◌, ◌∷◌, [], ⊤, ℕ, List, length, true, false, IfOk, IfErr, OnOk, MatchBool, MatchOption};
 ghost use Rattle.au_entries.specs.declared.kept.Kept.{Kept};
 ghost use Rattle.au_io.specs.Disk.{Stays};
 ghost use Rattle.au_journal.specs.Journals.{disk_of, seat_of};
@@ -7,179 +7,139 @@ ghost use Rattle.au_journal.specs.Seats.{IsSettled};
 ghost use Rattle.au_journal.specs.Walk.{IsMounted, IsWalked};
 ghost use Rattle.au_engine.specs.Replaying.{EndsWell, IsImage};
 ghost use Rattle.au_engine.specs.State.{resting};
+ghost use Rattle.au_store.specs.Looking.{LookMeets, LookSays};
 ghost use Rattle.au_store.specs.Opened.{AreReplayable};
 ghost use Rattle.au_store.specs.Recovery.{BeginsBy, GoesOnBy};
-ghost use Rattle.au_store.specs.Starting.{IsRead, IsTaken, OpenSays, WalkMeets};
+ghost use Rattle.au_store.specs.descent.Opening.{IsRead, IsTaken};
 
-use crate::OpenFault;
+use crate::LookFault;
 use au_base::Memory;
 use au_engine::Engine;
-use au_io::{Area, Disk};
-use au_journal::{Journal, MountFault, frames_stand_in_a_row};
+use au_io::Disk;
+use au_journal::{Journal, frames_stand_in_a_row};
 use rec_codec::{Frame, one_front, read};
 use std::alloc::Global;
 
-// Where the first frame stands: behind the gate, the name of the format and the limit.
-const FIRST_FRAME: u64 = 13;
-
-impl From<MountFault> for OpenFault {
-    ghost use Rattle.au_store.specs.Starting.{fault_of};
-
-    ghost from_gives = { λ why fault. fault ≡ fault_of why };
-
-    fn from(why: MountFault) -> OpenFault {
-        match why {
-            MountFault::Disk => OpenFault::Disk,
-            MountFault::Unformatted => OpenFault::Unformatted,
-            MountFault::Damaged { area, at } => OpenFault::Damaged { area, at },
-        }
-    }
-}
-
-impl From<Memory> for OpenFault {
-    ghost use Rattle.au_store.specs.declared.open_fault.OpenFault.TheVariants as fault;
-
-    ghost from_gives = { λ _ why. why ≡ fault.Memory };
-
-    fn from(_memory: Memory) -> OpenFault {
-        OpenFault::Memory
-    }
-}
-
 /// What the bodies of the journal are replayed to. The walk begins.
-pub(crate) fn recover<D: Disk>(alloc: Global, journal: &mut Journal<D>) -> Result<Engine, OpenFault>
+pub(crate) fn recover<D: Disk>(alloc: Global, journal: &mut Journal<D>) -> Result<Engine, LookFault>
     ensures read { D.told → IsMounted (D.meaning (disk_of journal.old)) (seat_of journal.old)
         → IfOk result (λ engine. IsRead (D.meaning (disk_of journal.new)) (seat_of journal.new) engine.state.kept) }
     ensures resting { IfOk result (λ engine. engine.state ≡ resting engine.state.kept) }
     ensures ends { IfOk result (λ engine. EndsWell engine.state.kept) }
     ensures ended { IfOk result (λ _. (seat_of journal.new).ended ≡ true) }
-    ensures why { D.told → IsMounted (D.meaning (disk_of journal.old)) (seat_of journal.old) → IfErr result (OpenSays (D.meaning (disk_of journal.old)).reads) }
+    ensures why { D.told → IsMounted (D.meaning (disk_of journal.old)) (seat_of journal.old) → IfErr result (LookSays (D.meaning (disk_of journal.old)).reads) }
     ensures settled { (seat_of journal.new).doubt ≡ (seat_of journal.old).doubt }
     ensures stays { Stays (D.meaning (disk_of journal.old)) (D.meaning (disk_of journal.new)) }
-    ensures cause { WalkMeets result (D.faults (disk_of journal.old)) (D.faults (disk_of journal.new)) }
+    ensures cause { LookMeets result (D.faults (disk_of journal.old)) (D.faults (disk_of journal.new)) }
 {
     frames_stand_in_a_row();
     let area = journal.area();
-    let Some(body) = next_body(alloc, journal)? else {
+    let at = journal.used();
+    let mut room = Vec::new(alloc);
+    if !next_body(journal, &mut room)? {
         // The area became shorter since it was mounted.
-        return Err(OpenFault::Damaged {
-            area,
-            at: FIRST_FRAME,
-        });
-    };
-    match begin_by(alloc, &body)? {
-        None => Err(OpenFault::Damaged {
-            area,
-            at: FIRST_FRAME,
-        }),
-        Some(engine) => go_on(alloc, journal, engine, behind(FIRST_FRAME, &body)),
+        return Err(LookFault::Damaged { area, at });
+    }
+    match begin_by(alloc, &room)? {
+        None => Err(LookFault::Damaged { area, at }),
+        Some(engine) => go_on(alloc, journal, engine, &mut room),
     }
 }
 
-// Replays the bodies that come behind the first. The walk is at that place.
+// Replays the bodies that come behind the first, each read into the room. The walk is at that place.
 fn go_on<D: Disk>(
     alloc: Global,
     journal: &mut Journal<D>,
     first: Engine,
-    from: u64,
-) -> Result<Engine, OpenFault>
+    room: &mut Vec<u8>,
+) -> Result<Engine, LookFault>
     requires resting { first.state ≡ resting first.state.kept }
     requires ends { EndsWell first.state.kept }
-    ensures read { D.told → IsTaken (D.meaning (disk_of journal.old)) (seat_of journal.old) first.state.kept from
+    ensures read { D.told → IsTaken (D.meaning (disk_of journal.old)) (seat_of journal.old) first.state.kept
         → IfOk result (λ engine. IsRead (D.meaning (disk_of journal.new)) (seat_of journal.new) engine.state.kept) }
     ensures resting { IfOk result (λ engine. engine.state ≡ resting engine.state.kept) }
     ensures ends { IfOk result (λ engine. EndsWell engine.state.kept) }
     ensures ended { IfOk result (λ _. (seat_of journal.new).ended ≡ true) }
-    ensures why { D.told → IsTaken (D.meaning (disk_of journal.old)) (seat_of journal.old) first.state.kept from
-        → IfErr result (OpenSays (D.meaning (disk_of journal.old)).reads) }
+    ensures why { D.told → IsTaken (D.meaning (disk_of journal.old)) (seat_of journal.old) first.state.kept
+        → IfErr result (LookSays (D.meaning (disk_of journal.old)).reads) }
     ensures settled { (seat_of journal.new).doubt ≡ (seat_of journal.old).doubt }
     ensures stays { Stays (D.meaning (disk_of journal.old)) (D.meaning (disk_of journal.new)) }
-    ensures cause { WalkMeets result (D.faults (disk_of journal.old)) (D.faults (disk_of journal.new)) }
+    ensures cause { LookMeets result (D.faults (disk_of journal.old)) (D.faults (disk_of journal.new)) }
 {
     let mut engine = first;
-    let mut at = from;
     for _turn in 0..u64::MAX {
-        match take_frame(alloc, journal, &mut engine, at)? {
-            None => return Ok(engine),
-            Some(next) => at = next,
+        if !take_frame(alloc, journal, &mut engine, room)? {
+            return Ok(engine);
         }
     }
     // Each frame has ten bytes and more, and no area so many.
-    Err(OpenFault::Memory)
+    Err(LookFault::Memory)
 }
 
-// Replays the body that comes next, and gives the place behind it. None at the end of the walk.
+// Replays the body that comes next, which is read into the room. `false` at the end of the walk.
 fn take_frame<D: Disk>(
     alloc: Global,
     journal: &mut Journal<D>,
     engine: &mut Engine,
-    at: u64,
-) -> Result<Option<u64>, OpenFault>
+    room: &mut Vec<u8>,
+) -> Result<bool, LookFault>
     requires resting { engine.old.state ≡ resting engine.old.state.kept }
     requires ends { EndsWell engine.old.state.kept }
-    ensures taken { D.told → IsTaken (D.meaning (disk_of journal.old)) (seat_of journal.old) engine.old.state.kept at
-        → IfOk result (λ found. MatchOption found (IsRead (D.meaning (disk_of journal.new)) (seat_of journal.new) engine.new.state.kept)
-        (λ next. IsTaken (D.meaning (disk_of journal.new)) (seat_of journal.new) engine.new.state.kept next)) }
+    ensures taken { D.told → IsTaken (D.meaning (disk_of journal.old)) (seat_of journal.old) engine.old.state.kept
+        → IfOk result (λ found. MatchBool found (IsTaken (D.meaning (disk_of journal.new)) (seat_of journal.new) engine.new.state.kept)
+        (IsRead (D.meaning (disk_of journal.new)) (seat_of journal.new) engine.new.state.kept)) }
     ensures resting { engine.new.state ≡ resting engine.new.state.kept }
     ensures ends { EndsWell engine.new.state.kept }
-    ensures ended { IfOk result (λ found. MatchOption found ((seat_of journal.new).ended ≡ true) (λ _. ⊤)) }
-    ensures why { D.told → IsTaken (D.meaning (disk_of journal.old)) (seat_of journal.old) engine.old.state.kept at
-        → IfErr result (OpenSays (D.meaning (disk_of journal.old)).reads) }
+    ensures ended { IfOk result (λ found. found ≡ false → (seat_of journal.new).ended ≡ true) }
+    ensures why { D.told → IsTaken (D.meaning (disk_of journal.old)) (seat_of journal.old) engine.old.state.kept
+        → IfErr result (LookSays (D.meaning (disk_of journal.old)).reads) }
     ensures settled { (seat_of journal.new).doubt ≡ (seat_of journal.old).doubt }
     ensures stays { Stays (D.meaning (disk_of journal.old)) (D.meaning (disk_of journal.new)) }
-    ensures cause { WalkMeets result (D.faults (disk_of journal.old)) (D.faults (disk_of journal.new)) }
+    ensures cause { LookMeets result (D.faults (disk_of journal.old)) (D.faults (disk_of journal.new)) }
 {
     one_front();
     frames_stand_in_a_row();
     let area = journal.area();
-    match next_body(alloc, journal)? {
-        None => Ok(None),
-        Some(body) => {
-            if go_on_by(alloc, engine, &body)? {
-                Ok(Some(behind(at, &body)))
-            } else {
-                Err(OpenFault::Damaged { area, at })
-            }
-        }
+    let at = journal.used();
+    if !next_body(journal, room)? {
+        return Ok(false);
+    }
+    if go_on_by(alloc, engine, room)? {
+        Ok(true)
+    } else {
+        Err(LookFault::Damaged { area, at })
     }
 }
 
-// The place behind the frame of that body, which stands at that place.
-fn behind(at: u64, body: &[u8]) -> u64
-    ensures { at + 9 + length body.now ≤ 2 ^ 62 → result ≡ at + 9 + length body.now }
-{
-    at.saturating_add(9).saturating_add(body.len() as u64)
-}
-
-// The body that comes next. None at the end of the walk.
-fn next_body<D: Disk>(alloc: Global, journal: &mut Journal<D>) -> Result<Option<Vec<u8>>, OpenFault>
+// Reads the body that comes next into the room, which is then as long. `false` at the end of the walk.
+fn next_body<D: Disk>(journal: &mut Journal<D>, room: &mut Vec<u8>) -> Result<bool, LookFault>
     ensures next { D.told → (bodies : List (List ℕ)) → IsWalked (D.meaning (disk_of journal.old)) (seat_of journal.old) bodies
-        → IfOk result (λ found. MatchOption found (IsSettled (D.meaning (disk_of journal.new)) (seat_of journal.new) bodies)
-        (λ body. IsWalked (D.meaning (disk_of journal.new)) (seat_of journal.new) (bodies ++ body.items ∷ []))) }
+        → IfOk result (λ found. MatchBool found (IsWalked (D.meaning (disk_of journal.new)) (seat_of journal.new) (bodies ++ room.new.items ∷ []))
+        (IsSettled (D.meaning (disk_of journal.new)) (seat_of journal.new) bodies)) }
     ensures why { D.told → (bodies : List (List ℕ)) → IsWalked (D.meaning (disk_of journal.old)) (seat_of journal.old) bodies → AreReplayable bodies
-        → IfErr result (OpenSays (D.meaning (disk_of journal.old)).reads) }
-    ensures ended { IfOk result (λ found. MatchOption found ((seat_of journal.new).ended ≡ true) (λ _. ⊤)) }
+        → IfErr result (LookSays (D.meaning (disk_of journal.old)).reads) }
+    ensures ended { IfOk result (λ found. found ≡ false → (seat_of journal.new).ended ≡ true) }
     ensures same { ((seat_of journal.new).area ≡ (seat_of journal.old).area) × ((seat_of journal.new).limit ≡ (seat_of journal.old).limit)
         × ((seat_of journal.new).doubt ≡ (seat_of journal.old).doubt) }
     ensures stays { Stays (D.meaning (disk_of journal.old)) (D.meaning (disk_of journal.new)) }
-    ensures cause { WalkMeets result (D.faults (disk_of journal.old)) (D.faults (disk_of journal.new)) }
+    ensures cause { LookMeets result (D.faults (disk_of journal.old)) (D.faults (disk_of journal.new)) }
 {
     match journal.next_length()? {
-        None => Ok(None),
+        None => Ok(false),
         Some(n) => {
-            let mut body = zeros(alloc, n)?;
-            journal.next_frame(&mut body)?;
-            Ok(Some(body))
+            resize(room, n)?;
+            journal.next_frame(room)?;
+            Ok(true)
         }
     }
 }
 
-// So many bytes of zero.
-fn zeros(alloc: Global, n: u64) -> Result<Vec<u8>, Memory>
-    ensures { IfOk result (λ bytes. length bytes.items ≡ n) }
+// Makes the room so long. It takes memory only where the room never was.
+fn resize(room: &mut Vec<u8>, n: u64) -> Result<(), Memory>
+    ensures { OnOk result (length room.new.items ≡ n) }
 {
-    let bytes = vec![in alloc; 0u8; n as usize]?;
-    Ok(bytes)
+    room.resize(n as usize, 0)?;
+    Ok(())
 }
 
 // The state that the body is replayed to from nothing. None where it isn't the body of an image that

@@ -6,27 +6,31 @@ ghost use Rattle.au_io.specs.Disk.{HasCause, Passes};
 ghost use Rattle.au_io.specs.Moments.{LeavesSince};
 ghost use Rattle.au_io.specs.Time.{Reads};
 ghost use Rattle.au_journal.specs.Journals.{disk_of, seat_of};
+ghost use Rattle.au_journal.specs.Lengths.{gate_bytes};
 ghost use Rattle.rec_codec.specs.Frames.{framed};
 ghost use Rattle.au_engine.specs.Replaying.{EndsWell};
 ghost use Rattle.au_engine.specs.Returning.{start_frame};
 ghost use Rattle.au_engine.specs.State.{resting, start};
+ghost use Rattle.au_store.specs.Looking.{look_fault_of, opening_fault};
 ghost use Rattle.au_store.specs.Recovery.{RecoversToEither};
-ghost use Rattle.au_store.specs.Starting.{IsRead};
-ghost use Rattle.au_store.specs.Steps.{CarriesTo, IsMovedTo};
+ghost use Rattle.au_store.specs.Steps.{IsMovedTo};
 ghost use Rattle.au_store.specs.Stored.{IsKeptOn};
+ghost use Rattle.au_store.specs.descent.Making.{CarriesTo};
+ghost use Rattle.au_store.specs.descent.Opening.{IsRead};
 
 use crate::replaying::recover;
-use crate::{OpenFault, Store};
+use crate::{LookFault, OpenFault, Store};
 use au_base::Memory;
 use au_base::limits::INSTANCES;
 use au_engine::{Engine, starts_lead_on};
 use au_io::{Clock, Disk, Failed};
-use au_journal::{Appended, Doubt, Journal};
+use au_journal::{Appended, Doubt, Journal, MountFault};
 use rec_codec::write_framed;
 use std::alloc::Global;
 
 impl<D: Disk, C: Clock> Store<D, C> {
-    ghost use Rattle.au_store.specs.Starting.{BeginsInVain, IsOpened, IsSeated, NoneIsBare, OpenCause, OpenCosts, OpenLeaves, OpenSays, OpensInVain, StartSays};
+    ghost use Rattle.au_store.specs.Starting.{IsOpened, IsSeated, NoneIsBare, OpenCause, OpenCosts, OpenLeaves, OpenSays, OpensInVain};
+    ghost use Rattle.au_store.specs.descent.Opening.{BeginsInVain, StartSays};
 
     /// Opens the store that the disk recovers to: syncs the three areas, replays what stands in the
     /// selected one, reads the clock once, and appends the event with which the next instance begins,
@@ -47,11 +51,11 @@ impl<D: Disk, C: Clock> Store<D, C> {
     {
         let mut journal = match Journal::mount(disk) {
             Ok(journal) => journal,
-            Err((disk, why)) => return Err((disk, clock, OpenFault::from(why))),
+            Err((disk, why)) => return Err((disk, clock, open_fault_of(why))),
         };
         match recover(alloc, &mut journal) {
             Ok(engine) => Store::begin(alloc, engine, journal, clock),
-            Err(why) => Err((journal.shut(), clock, why)),
+            Err(why) => Err((journal.shut(), clock, OpenFault::from(why))),
         }
     }
 
@@ -103,6 +107,13 @@ impl<D: Disk, C: Clock> Store<D, C> {
     }
 }
 
+// A journal that can't be mounted can't be opened, for the same reason.
+fn open_fault_of(why: MountFault) -> OpenFault
+    ensures { result ≡ opening_fault (look_fault_of why) }
+{
+    OpenFault::from(LookFault::from(why))
+}
+
 // Makes the state that of the next instance, which begins at that reading, and gives the framed bytes
 // of its event.
 fn next_instance(alloc: Global, engine: &mut Engine, reading: u64) -> Result<Vec<u8>, Memory>
@@ -124,7 +135,6 @@ fn next_instance(alloc: Global, engine: &mut Engine, reading: u64) -> Result<Vec
 fn write_start<D: Disk>(journal: &mut Journal<D>, framed: &[u8]) -> Result<(), Failed>
     requires ended { (seat_of journal.old).ended ≡ true }
     requires settled { (seat_of journal.old).doubt ≡ Doubt.Settled }
-    requires read { D.told → (kept : Kept) × IsRead (D.meaning (disk_of journal.old)) (seat_of journal.old) kept }
     requires carries { (kept : Kept) × (next : Kept) × CarriesTo kept (Some framed.now) next }
     ensures kept { D.told → (kept next : Kept) → IsRead (D.meaning (disk_of journal.old)) (seat_of journal.old) kept → CarriesTo kept (Some framed.now) next
         → OnOk result (IsKeptOn next (D.meaning (disk_of journal.new)) (seat_of journal.new)) }
@@ -135,7 +145,7 @@ fn write_start<D: Disk>(journal: &mut Journal<D>, framed: &[u8]) -> Result<(), F
     ensures gated { OnOk result ((seat_of journal.new).bare ≡ false) }
     ensures settled { OnOk result ((seat_of journal.new).doubt ≡ Doubt.Settled) }
     ensures time { Passes (D.meaning (disk_of journal.old)) (D.meaning (disk_of journal.new)) }
-    ensures cost { (D.meaning (disk_of journal.new)).written ≤ (D.meaning (disk_of journal.old)).written + length framed.now + 2 }
+    ensures cost { (D.meaning (disk_of journal.new)).written ≤ (D.meaning (disk_of journal.old)).written + length framed.now + gate_bytes true }
     ensures cause { HasCause (D.faults (disk_of journal.old)) (D.faults (disk_of journal.new)) result }
 {
     match journal.append(framed, true) {

@@ -26,7 +26,8 @@ use std::sync::ledger::Ledger;
 impl<D: Disk, C: Clock> Store<D, C> {
     ghost use Rattle.au_store.specs.History.{HistoryGoesOn};
     ghost use Rattle.au_store.specs.Recovery.{RecoversToEither};
-    ghost use Rattle.au_store.specs.Steps.{CarriesTo, Exceeds, IsLeftOut, IsMoved, IsTried, IsUnmended, IsWithin, MakesBy, StepCause, StepCosts, StepLeaves, StepMoves, StepsBy, append_cost, event_at, growth};
+    ghost use Rattle.au_store.specs.Steps.{Exceeds, IsLeftOut, IsTried, IsUnmended, StepCause, StepCosts, StepLeaves, StepMoves, StepsBy, event_at};
+    ghost use Rattle.au_store.specs.descent.Making.{CarriesTo, IsMoved, IsWithin, MakesBy, growth, written_by};
     ghost use Rattle.au_store.specs.Doubts.{IsLeftBy, IsStoodOn};
     ghost use Rattle.au_store.specs.Stored.{IsKeptOn, reserved_of};
 
@@ -135,7 +136,7 @@ impl<D: Disk, C: Clock> Store<D, C> {
         ensures any_moment { D.told → LeavesSince (RecoversToEither self.old.state.kept (after prepared self.old.state).kept) (D.meaning self.old.disk) (D.meaning self.new.disk) }
         ensures same { (self.new.clock ≡ self.old.clock) × (self.new.reading ≡ self.old.reading) }
         ensures time { Passes (D.meaning self.old.disk) (D.meaning self.new.disk) }
-        ensures cost { (D.meaning self.new.disk).written ≤ (D.meaning self.old.disk).written + append_cost prepared.framed }
+        ensures cost { (D.meaning self.new.disk).written ≤ (D.meaning self.old.disk).written + written_by prepared.framed }
         ensures cause { StepCause result (D.faults self.old.disk) (D.faults self.new.disk) }
     {
         match write(&mut self.journal, &prepared) {

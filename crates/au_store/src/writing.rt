@@ -7,9 +7,10 @@ ghost use Rattle.au_journal.specs.Causes.{AppendCause};
 ghost use Rattle.au_journal.specs.Journals.{disk_of, seat_of};
 ghost use Rattle.au_journal.specs.Seats.{IsFullAt};
 ghost use Rattle.au_store.specs.Recovery.{RecoversToEither};
-ghost use Rattle.au_store.specs.Steps.{AreFramed, CarriesTo, IsMovedTo, IsWithin, append_cost, growth};
+ghost use Rattle.au_store.specs.Steps.{IsMovedTo};
 ghost use Rattle.au_store.specs.Doubts.{IsStoodOn};
 ghost use Rattle.au_store.specs.Stored.{IsKeptOn};
+ghost use Rattle.au_store.specs.descent.Making.{AreFramed, CarriesTo, IsWithin, growth, written_by};
 
 use au_engine::Prepared;
 use au_io::Disk;
@@ -22,7 +23,6 @@ pub(crate) fn write<D: Disk>(journal: &mut Journal<D>, prepared: &Prepared) -> A
     requires gated { (seat_of journal.old).bare ≡ false }
     requires settled { (seat_of journal.old).doubt ≡ Doubt.Settled }
     requires framed { AreFramed prepared.now.framed }
-    requires stands { D.told → (kept : Kept) × IsKeptOn kept (D.meaning (disk_of journal.old)) (seat_of journal.old) }
     ensures kept { D.told → (kept next : Kept) → IsKeptOn kept (D.meaning (disk_of journal.old)) (seat_of journal.old) → CarriesTo kept prepared.now.framed next
         → result ≡ Appended.Done → IsKeptOn next (D.meaning (disk_of journal.new)) (seat_of journal.new) }
     ensures doubted { D.told → (kept next : Kept) → IsKeptOn kept (D.meaning (disk_of journal.old)) (seat_of journal.old) → CarriesTo kept prepared.now.framed next
@@ -42,7 +42,7 @@ pub(crate) fn write<D: Disk>(journal: &mut Journal<D>, prepared: &Prepared) -> A
     ensures in_doubt { result ≡ Appended.Disk → (seat_of journal.new).doubt ≢ Doubt.Settled }
     ensures settled { result ≡ Appended.Done → (seat_of journal.new).doubt ≡ Doubt.Settled }
     ensures time { Passes (D.meaning (disk_of journal.old)) (D.meaning (disk_of journal.new)) }
-    ensures cost { (D.meaning (disk_of journal.new)).written ≤ (D.meaning (disk_of journal.old)).written + append_cost prepared.now.framed }
+    ensures cost { (D.meaning (disk_of journal.new)).written ≤ (D.meaning (disk_of journal.old)).written + written_by prepared.now.framed }
     ensures cause { AppendCause result (D.faults (disk_of journal.old)) (D.faults (disk_of journal.new)) }
 {
     match prepared.framed() {

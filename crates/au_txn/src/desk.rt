@@ -191,8 +191,10 @@ impl Desk {
         ensures rows { self.new.rows ≡ self.old.rows }
         ensures changes { (q : Client) → open_of self.new q ≡ open_of self.old q }
         ensures laid { self.new.laid ≡ self.old.laid }
+        ensures lists { (q : Client) → changes_of q self.new.logs ≡ changes_of q self.old.logs }
         ensures spare { (q : Client) → spare_of q self.old ≤ spare_of q self.new }
         ensures room { self.old.spare ≤ self.new.spare }
+        ensures rooms { (q : Client) → room_of q self.old.logs ≤ room_of q self.new.logs }
     {
         self.rows.reserve(more)?;
         reserve_for(alloc, &mut self.logs, client, more)
@@ -342,6 +344,7 @@ impl Desk {
         requires new { is_open table self.old.tables ≡ false }
         ensures tables { self.new.tables ≡ placed table_before (record { name = table; key = key.items }) self.old.tables }
         ensures rows { self.new.rows ≡ self.old.rows }
+        ensures lists { self.new.logs ≡ self.old.logs }
         ensures changes { (q : Client) → open_of self.new q ≡ open_of self.old q }
         ensures laid { self.new.laid ≡ self.old.laid }
         ensures spare { (q : Client) → spare_of q self.old ≤ spare_of q self.new + 1 }
@@ -356,6 +359,7 @@ impl Desk {
         requires settled { (client : Client) → names_table table.now (open_of self.old client) ≡ false }
         ensures tables { self.new.tables ≡ filter (λ other. not (has_name table.now other)) self.old.tables }
         ensures rows { self.new.rows ≡ filter (λ row. not (is_in table.now row)) self.old.rows }
+        ensures lists { self.new.logs ≡ self.old.logs }
         ensures changes { (q : Client) → open_of self.new q ≡ open_of self.old q }
         ensures laid { self.new.laid ≡ self.old.laid }
         ensures spare { (q : Client) → spare_of q self.old ≤ spare_of q self.new }

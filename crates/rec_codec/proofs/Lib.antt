@@ -1,11 +1,4 @@
-mod CodeLaws
-mod Counting
-mod Elements
-mod Exact
-mod Loops
-mod Names
-mod PartLemmas
+mod ImageLaws
 mod Pieces
 mod Table
-mod TableRows
 mod Whole

@@ -1,5 +1,5 @@
 -- Bytes of an image that are written piece by piece.
-use Rattle.std.proofs.Common.{◌≡◌, ℕ, zero, suc, ◌+◌, ◌-◌, ◌<◌, ◌≤◌, ◌^◌, List, [], ◌∷◌, ◌++◌, length, take, drop, refl, sym, ap, subst, ◌∙◌, append_assoc, arith}
+use Rattle.std.proofs.Common.{◌≡◌, ℕ, suc, ◌+◌, ◌-◌, ◌<◌, ◌≤◌, ◌^◌, List, [], ◌∷◌, ◌++◌, length, take, drop, refl, sym, ap, subst, ◌∙◌, append_assoc, arith}
 use Rattle.std.specs.Int.{w32, w64, to_be_bytes}
 use Rattle.std.specs.List.{flat_map, AllByRecursion}
 use Rattle.std.proofs.lemmas.Bool.{le-leb}
@@ -8,7 +8,7 @@ use Rattle.au_base.specs.declared.numbers.Stamp.{Stamp}
 use Rattle.au_entries.specs.declared.change.Change.{Change}
 use Rattle.au_entries.specs.declared.trail_record.Record.{Record}
 use Rattle.rec_codec.specs.declared.frame.Frame.TheVariants.{Image}
-use Rattle.rec_codec.specs.Parts.{stamp}
+use Rattle.rec_parts.specs.Parts.{stamp}
 use Rattle.rec_codec.specs.Changes.{change, IsChangeSpellable}
 use Rattle.rec_codec.specs.Records.{trail_record}
 use Rattle.rec_codec.specs.Frames.{IsSpellable, body, framed, spelled}

@@ -1,13 +1,11 @@
 -- How changes are spelled: a tag, and behind it the parts of the change.
-use Rattle.std.specs.Prelude.{ℕ, List, [], ◌∷◌, map, length, nat_le, nat_lt, ◌&&◌, Bool, ⊤, Option, Some, None, if◌then◌else◌}
+use Rattle.std.specs.Prelude.{ℕ, List, [], ◌∷◌, map, length, nat_le, ◌&&◌, Bool, ⊤, Option, Some, None}
 use Rattle.std.specs.Int.{w16, w32}
-use Rattle.std.specs.Option.{option_eq}
 use Rattle.std.specs.Str.{bytes_eq}
 use Rattle.au_base.specs.Actions as actions
 use Rattle.au_base.specs.declared.action.Action.{Action}
 use Rattle.au_base.specs.declared.cell.Cell.{Cell}
 use Rattle.au_base.specs.declared.numbers.RowNo.{RowNo}
-use Rattle.au_base.specs.declared.numbers.Stamp.{Stamp}
 use Rattle.au_base.specs.declared.privilege.Privilege.{Privilege}
 use Rattle.au_base.specs.declared.table.Column.{Column}
 use Rattle.au_base.specs.declared.table.TableName.{TableName}
@@ -18,18 +16,9 @@ use Rattle.au_entries.specs.declared.policy.Enabled.TheVariants.{Off, By, Except
 use Rattle.au_entries.specs.declared.policy.Evaluate.{Evaluate}
 use Rattle.au_entries.specs.declared.policy.Evaluate.TheVariants.{Statement, Session, Instance}
 use Rattle.au_entries.specs.declared.policy.Outcomes.{Outcomes}
-use Rattle.au_grants.specs.Holding.{same_action, same_table}
-use Rattle.rec_codec.specs.Spelling.{Spelling, Behind, behind, below, byte, counted, is_without_repeats, led_by, no_other, nothing, number, option, pair, such_that, tagged_first}
-use Rattle.rec_codec.specs.Parts.{name, text, truth, stamp, verifier, privilege, action, outcomes, table, names, privileges_in_order}
-use Rattle.rec_codec.specs.Tables.{cells, columns, places, row_number}
-
--- a part of a policy: an action, on one table where one is named
-abbrev pub Part : Type 0
-Part = Action × Option TableName
-
--- two parts are the same
-abbrev pub same_part : Part → Part → Bool
-same_part a b = same_action a.0 b.0 && option_eq same_table a.1 b.1
+use Rattle.rec_parts.specs.Spelling.{Spelling, byte, counted, is_without_repeats, led_by, nothing, number, option, pair, such_that}
+use Rattle.rec_parts.specs.Parts.{Part, name, text, truth, stamp, verifier, privilege, action, outcomes, same_part, table, names, privileges_in_order}
+use Rattle.rec_parts.specs.Tables.{cells, columns, places, row_number}
 
 -- up to 65,535 parts, no two the same
 unfoldable pub parts : Spelling (List Part)
@@ -49,16 +38,8 @@ abbrev pub IsWhenSpellable : Condition → Type 0
 IsWhenSpellable None = ⊤
 IsWhenSpellable (Some x) = text.IsSpellable x.1
 
-unfoldable pub when_behind : Behind Condition
-when_behind =
-    behind 0 nothing (λ x. None)
-    (behind 1 text (λ condition. Some (Statement, condition))
-    (behind 2 text (λ condition. Some (Session, condition))
-    (behind 3 text (λ condition. Some (Instance, condition))
-    no_other)))
-
 unfoldable pub when : Spelling Condition
-when = record { spelled = when_spelled; IsSpellable = IsWhenSpellable; first = tagged_first when_behind }
+when = record { spelled = when_spelled; IsSpellable = IsWhenSpellable }
 
 -- users, each with outcomes: at least one, and each user once
 abbrev pub are_users : List (List ℕ × Outcomes) → Bool
@@ -81,15 +62,8 @@ IsEnabledSpellable Off = ⊤
 IsEnabledSpellable (By us) = users.IsSpellable us
 IsEnabledSpellable (Except ns o) = (pair outcomes names).IsSpellable (o, ns)
 
-unfoldable pub enabled_behind : Behind Enabled
-enabled_behind =
-    behind 0 off (λ x. Off)
-    (behind 1 (led_by 0 users) By
-    (behind 2 (pair outcomes names) (λ x. Except x.1 x.0)
-    no_other))
-
 unfoldable pub enabled : Spelling Enabled
-enabled = record { spelled = enabled_spelled; IsSpellable = IsEnabledSpellable; first = tagged_first enabled_behind }
+enabled = record { spelled = enabled_spelled; IsSpellable = IsEnabledSpellable }
 
 -- the parts behind the tags
 unfoldable pub user : Spelling (List ℕ × List ℕ)
@@ -130,9 +104,6 @@ put = pair table (pair row_number cells)
 unfoldable pub policy : Spelling (List ℕ × (List Privilege × (List Part × (List (List ℕ) × Condition))))
 policy = pair name (pair privileges_in_order (pair parts (pair names when)))
 
-abbrev pub made_policy : List ℕ × (List Privilege × (List Part × (List (List ℕ) × Condition))) → Change
-made_policy x = Policy x.0 x.1.0 x.1.1.0 x.1.1.1.0 x.1.1.1.1
-
 unfoldable pub enablement : Spelling (List ℕ × Enabled)
 enablement = pair name enabled
 
@@ -151,9 +122,6 @@ fga_parts = pair (option text) (pair names (pair truth (pair types truth)))
 
 unfoldable pub fga : Spelling ((TableName × List ℕ) × (Option (List ℕ) × (List (List ℕ) × (Bool × (ℕ × Bool)))))
 fga = pair fga_name fga_parts
-
-abbrev pub made_fga : (TableName × List ℕ) × (Option (List ℕ) × (List (List ℕ) × (Bool × (ℕ × Bool)))) → Change
-made_fga x = Fga x.0.0 x.0.1 x.1.0 x.1.1.0 x.1.1.1.0 x.1.1.1.1.0 x.1.1.1.1.1
 
 -- changes, each behind its tag
 abbrev pub change_spelled : Change → List ℕ
@@ -202,49 +170,5 @@ IsChangeSpellable (FgaGone t n) = fga_name.IsSpellable (t, n)
 IsChangeSpellable (Archive s) = (option stamp).IsSpellable s
 IsChangeSpellable (Start i) = (number w32).IsSpellable i
 
--- users and roles
-unfoldable pub named_behind : Behind Change
-named_behind =
-    behind 1 user (λ x. User x.0 x.1)
-    (behind 2 name UserGone
-    (behind 3 name Role
-    (behind 4 name RoleGone
-    no_other)))
-
--- grants
-unfoldable pub granted_behind : Behind Change
-granted_behind =
-    behind 5 system_grant (λ x. SysGrant x.0 x.1.0 x.1.1)
-    (behind 6 system_revoke (λ x. SysRevoke x.0 x.1)
-    (behind 7 role_grant (λ x. RoleGrant x.0 x.1.0 x.1.1)
-    (behind 8 role_revoke (λ x. RoleRevoke x.0 x.1)
-    (behind 9 object_right (λ x. ObjGrant x.0 x.1.0 x.1.1)
-    (behind 10 object_right (λ x. ObjRevoke x.0 x.1.0 x.1.1)
-    no_other)))))
-
--- tables and rows
-unfoldable pub tabled_behind : Behind Change
-tabled_behind =
-    behind 11 created (λ x. Table x.0 x.1.0 x.1.1)
-    (behind 12 table TableGone
-    (behind 13 put (λ x. Put x.0 x.1.0 x.1.1)
-    (behind 14 row (λ x. Gone x.0 x.1)
-    no_other)))
-
--- policies, the archive timestamp and the instance
-unfoldable pub audited_behind : Behind Change
-audited_behind =
-    behind 15 policy made_policy
-    (behind 16 name PolicyGone
-    (behind 17 enablement (λ x. Enable x.0 x.1)
-    (behind 18 fga made_fga
-    (behind 19 fga_name (λ x. FgaGone x.0 x.1)
-    (behind 20 (option stamp) Archive
-    (behind 21 (number w32) Start
-    no_other))))))
-
-unfoldable pub change_behind : Behind Change
-change_behind = below 5 named_behind (below 11 granted_behind (below 15 tabled_behind audited_behind))
-
 unfoldable pub change : Spelling Change
-change = record { spelled = change_spelled; IsSpellable = IsChangeSpellable; first = tagged_first change_behind }
+change = record { spelled = change_spelled; IsSpellable = IsChangeSpellable }

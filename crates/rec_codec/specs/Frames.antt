@@ -6,8 +6,8 @@ use Rattle.au_entries.specs.declared.change.Change.{Change}
 use Rattle.au_entries.specs.declared.trail_record.Record.{Record}
 use Rattle.rec_codec.specs.declared.frame.Frame.{Frame}
 use Rattle.rec_codec.specs.declared.frame.Frame.TheVariants.{Image, Event, Purge}
-use Rattle.rec_codec.specs.Spelling.{Spelling, Behind, behind, counted, no_other, number, option, pair, tagged_first}
-use Rattle.rec_codec.specs.Parts.{stamp}
+use Rattle.rec_parts.specs.Spelling.{Spelling, counted, number, option, pair}
+use Rattle.rec_parts.specs.Parts.{stamp}
 use Rattle.rec_codec.specs.Changes.{change}
 use Rattle.rec_codec.specs.Records.{trail_record}
 
@@ -31,16 +31,8 @@ IsSpellable (Image last changes records) = body.IsSpellable (last, (changes, rec
 IsSpellable (Event moment changes records) = body.IsSpellable (moment, (changes, records))
 IsSpellable (Purge moment before changes records) = purge.IsSpellable (moment, (before, (changes, records)))
 
--- what stands behind the kind
-unfoldable pub frame_behind : Behind Frame
-frame_behind =
-    behind 1 body (λ x. Image x.0 x.1.0 x.1.1)
-    (behind 2 body (λ x. Event x.0 x.1.0 x.1.1)
-    (behind 3 purge (λ x. Purge x.0 x.1.0 x.1.1.0 x.1.1.1)
-    no_other))
-
 unfoldable pub frame : Spelling Frame
-frame = record { spelled = spelled; IsSpellable = IsSpellable; first = tagged_first frame_behind }
+frame = record { spelled = spelled; IsSpellable = IsSpellable }
 
 -- the bytes are the body of the frame
 pub record IsFrame (bytes : List ℕ) (f : Frame) : Type 0 where

@@ -5,7 +5,7 @@ use Rattle.std.specs.List.{flat_map, AllByRecursion}
 use Rattle.au_base.specs.declared.numbers.Stamp.{Stamp}
 use Rattle.au_entries.specs.declared.change.Change.{Change}
 use Rattle.au_entries.specs.declared.trail_record.Record.{Record}
-use Rattle.rec_codec.specs.Parts.{stamp}
+use Rattle.rec_parts.specs.Parts.{stamp}
 use Rattle.rec_codec.specs.Changes.{change}
 use Rattle.rec_codec.specs.Records.{trail_record}
 
@@ -41,3 +41,8 @@ pub record Wrote (old new : Written) (changes : List Change) (records : List Rec
   pub changes_left : new.changes + length changes ≡ old.changes
   pub records_left : new.records + length records ≡ old.records
   pub holds : (last : Stamp) (done : List Change) (told : List Record) → Holds old last done told → Holds new last (done ++ changes) (told ++ records)
+
+-- to write nothing changes nothing, and what is written in two goes is written in one
+pub record WritesJoin : Type 0 where
+  pub none : (written : Written) → Wrote written written [] []
+  pub both : (a b c : Written) (changes more : List Change) (records more_records : List Record) → Wrote a b changes records → Wrote b c more more_records → Wrote a c (changes ++ more) (records ++ more_records)

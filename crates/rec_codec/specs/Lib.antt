@@ -1,9 +1,5 @@
 pub mod Changes
 pub mod Frames
-pub mod Given
-pub mod ImageLaws
 pub mod Images
-pub mod Parts
 pub mod Records
-pub mod Spelling
-pub mod Tables
+pub mod descent

@@ -1,26 +1,29 @@
 //! Changes of what is kept.
 ghost use Rattle.std.specs.Prelude.{◌≡◌, ◌++◌, ◌∷◌, OnOk};
-ghost use Rattle.rec_codec.specs.Given.{Gives};
-ghost use Rattle.rec_codec.specs.Changes.{audited_behind, change_behind, created, granted_behind, named_behind, object_right, put, tabled_behind};
+ghost use Rattle.rec_parts.specs.Given.{Gives};
+ghost use Rattle.rec_codec.specs.Changes.{created, enablement, object_right, put};
+ghost use Rattle.rec_codec.specs.descent.Changes.{audited_behind, change_behind, granted_behind, named_behind, object_action_first, object_right_first, tabled_behind};
 
+use crate::enabled::{read_enabled, write_enabled};
 use crate::fine_grained::{read_fga, write_fga_parts};
-use crate::numbers::{read_u8, write_u8};
+use crate::listed::Listed;
 use crate::policies::{read_policy, write_policy};
-use crate::read_error::ReadError;
-use crate::spelled::{Spelled, write_one, write_three, write_two};
-use crate::tables::{
-    read_cells, read_columns, read_object_action, read_places, write_cells, write_columns,
-    write_places,
-};
 use au_base::{Action, Cell, Column, List, Memory, Name, Privilege, RowNo, Stamp, TableName};
 use au_entries::{Change, Enabled};
+use rec_parts::{
+    ReadError, Spelled, read_cells, read_columns, read_places, read_u8, write_cells, write_columns,
+    write_one, write_places, write_three, write_two, write_u8,
+};
 use std::alloc::Global;
 
-#[tactic(auto, unfolding(crate::specs::Changes::change, crate::specs::Changes::user, crate::specs::Changes::system_grant, crate::specs::Changes::system_revoke, crate::specs::Changes::role_grant, crate::specs::Changes::role_revoke, crate::specs::Changes::row, crate::specs::Changes::enablement, crate::specs::Changes::fga_name, crate::specs::Changes::fga))]
-impl Spelled for Change {
+#[tactic(auto, unfolding(crate::specs::Changes::change, crate::specs::Changes::user, crate::specs::Changes::system_grant, crate::specs::Changes::system_revoke, crate::specs::Changes::role_grant, crate::specs::Changes::role_revoke, crate::specs::Changes::row, crate::specs::Changes::fga_name, crate::specs::Changes::fga, crate::specs::descent::Changes::change_first))]
+impl Listed for Change {
     ghost use Rattle.rec_codec.specs.Changes.{change};
+    ghost use Rattle.rec_codec.specs.descent.Changes.{change_first};
 
     ghost spelling = { change };
+
+    ghost first = { change_first };
 
     fn write(&self, out: &mut Vec<u8>) -> Result<(), Memory> {
         match self {
@@ -49,7 +52,7 @@ impl Spelled for Change {
                 write_policy(name, privileges, actions, roles, when, out)
             }
             Change::PolicyGone(name) => write_one(out, 16, name),
-            Change::Enable(policy, enabled) => write_two(out, 17, policy, enabled),
+            Change::Enable(policy, enabled) => write_enablement(out, policy, enabled),
             Change::Fga {
                 table,
                 policy,
@@ -120,7 +123,17 @@ fn write_put(
     write_cells(cells, out)
 }
 
-#[tactic(auto, unfolding(crate::specs::Changes::change_behind))]
+/// Writes for whom a policy is enabled.
+#[tactic(auto, unfolding(crate::specs::Changes::enablement))]
+fn write_enablement(out: &mut Vec<u8>, policy: &Name, enabled: &Enabled) -> Result<(), Memory>
+    requires { enablement.IsSpellable (policy.now, enabled.now) }
+    ensures { OnOk result (out.new.items ≡ out.old.items ++ 17 ∷ enablement.spelled (policy.now, enabled.now)) }
+{
+    write_one(out, 17, policy)?;
+    write_enabled(enabled, out)
+}
+
+#[tactic(auto, unfolding(crate::specs::descent::Changes::change_behind))]
 fn read_behind_tag(alloc: Global, tag: u8, bytes: &[u8]) -> Result<(Change, &[u8]), ReadError>
     ensures { Gives (λ x. (x.0, x.1.now)) result (change_behind tag bytes.now) }
 {
@@ -137,7 +150,7 @@ fn read_behind_tag(alloc: Global, tag: u8, bytes: &[u8]) -> Result<(Change, &[u8
 }
 
 /// A change of users or roles.
-#[tactic(auto, unfolding(crate::specs::Changes::named_behind, crate::specs::Changes::user))]
+#[tactic(auto, unfolding(crate::specs::descent::Changes::named_behind))]
 fn read_named(alloc: Global, tag: u8, bytes: &[u8]) -> Result<(Change, &[u8]), ReadError>
     ensures { Gives (λ x. (x.0, x.1.now)) result (named_behind tag bytes.now) }
 {
@@ -164,7 +177,7 @@ fn read_named(alloc: Global, tag: u8, bytes: &[u8]) -> Result<(Change, &[u8]), R
 }
 
 /// A change of grants.
-#[tactic(auto, unfolding(crate::specs::Changes::granted_behind, crate::specs::Changes::system_grant, crate::specs::Changes::system_revoke, crate::specs::Changes::role_grant, crate::specs::Changes::role_revoke))]
+#[tactic(auto, unfolding(crate::specs::descent::Changes::granted_behind))]
 fn read_granted(alloc: Global, tag: u8, bytes: &[u8]) -> Result<(Change, &[u8]), ReadError>
     ensures { Gives (λ x. (x.0, x.1.now)) result (granted_behind tag bytes.now) }
 {
@@ -204,9 +217,9 @@ fn read_granted(alloc: Global, tag: u8, bytes: &[u8]) -> Result<(Change, &[u8]),
 }
 
 /// An object privilege: the grantee, the table and the action.
-#[tactic(auto, unfolding(crate::specs::Changes::object_right))]
+#[tactic(auto, unfolding(crate::specs::descent::Changes::object_right_first))]
 fn read_right(alloc: Global, bytes: &[u8]) -> Result<((Name, TableName, Action), &[u8]), ReadError>
-    ensures { Gives (λ x. ((x.0.0, (x.0.1, x.0.2)), x.1.now)) result (object_right.first bytes.now) }
+    ensures { Gives (λ x. ((x.0.0, (x.0.1, x.0.2)), x.1.now)) result (object_right_first bytes.now) }
 {
     let (grantee, rest) = Name::read(alloc, bytes)?;
     let (table, rest) = TableName::read(alloc, rest)?;
@@ -214,8 +227,20 @@ fn read_right(alloc: Global, bytes: &[u8]) -> Result<((Name, TableName, Action),
     Ok(((grantee, table, action), rest))
 }
 
+/// SELECT, INSERT, UPDATE or DELETE.
+#[tactic(auto, unfolding(crate::specs::descent::Changes::object_action_first))]
+fn read_object_action(alloc: Global, bytes: &[u8]) -> Result<(Action, &[u8]), ReadError>
+    ensures { Gives (λ x. (x.0, x.1.now)) result (object_action_first bytes.now) }
+{
+    let (action, rest) = Action::read(alloc, bytes)?;
+    if action.code() < 1 || action.code() > 4 {
+        return Err(ReadError::NoFrame);
+    }
+    Ok((action, rest))
+}
+
 /// A change of tables or rows.
-#[tactic(auto, unfolding(crate::specs::Changes::tabled_behind, crate::specs::Changes::created, crate::specs::Changes::put, crate::specs::Changes::row))]
+#[tactic(auto, unfolding(crate::specs::descent::Changes::tabled_behind))]
 fn read_tabled(alloc: Global, tag: u8, bytes: &[u8]) -> Result<(Change, &[u8]), ReadError>
     ensures { Gives (λ x. (x.0, x.1.now)) result (tabled_behind tag bytes.now) }
 {
@@ -246,7 +271,7 @@ fn read_tabled(alloc: Global, tag: u8, bytes: &[u8]) -> Result<(Change, &[u8]), 
 }
 
 /// A change of policies, of the archive timestamp or of the instance.
-#[tactic(auto, unfolding(crate::specs::Changes::audited_behind, crate::specs::Changes::enablement, crate::specs::Changes::fga_name))]
+#[tactic(auto, unfolding(crate::specs::descent::Changes::audited_behind))]
 fn read_audited(alloc: Global, tag: u8, bytes: &[u8]) -> Result<(Change, &[u8]), ReadError>
     ensures { Gives (λ x. (x.0, x.1.now)) result (audited_behind tag bytes.now) }
 {
@@ -258,7 +283,7 @@ fn read_audited(alloc: Global, tag: u8, bytes: &[u8]) -> Result<(Change, &[u8]),
         }
         17 => {
             let (policy, rest) = Name::read(alloc, bytes)?;
-            let (enabled, rest) = Enabled::read(alloc, rest)?;
+            let (enabled, rest) = read_enabled(alloc, rest)?;
             Ok((Change::Enable(policy, enabled), rest))
         }
         18 => read_fga(alloc, bytes),

@@ -1,49 +1,51 @@
 //! For whom policies are enabled.
 ghost use Rattle.std.specs.Prelude.{◌≡◌, ◌++◌, OnOk};
-ghost use Rattle.rec_codec.specs.Given.{Gives};
-ghost use Rattle.rec_codec.specs.Changes.{enabled_behind, off, users};
+ghost use Rattle.rec_parts.specs.Given.{Gives};
+ghost use Rattle.rec_codec.specs.Changes.{enabled, off, users};
+ghost use Rattle.rec_codec.specs.descent.Changes.{enabled_behind, enabled_first, off_first, users_first};
 
-use crate::lists::{read_list_u16, read_names, write_list_u16, write_names};
-use crate::numbers::{read_sign, read_u8, write_u8};
-use crate::read_error::ReadError;
-use crate::repeats::names_each_once;
-use crate::spelled::Spelled;
 use au_base::{List, Memory, Name};
 use au_entries::{Enabled, Outcomes};
+use rec_parts::{
+    ReadError, Spelled, names_each_once, read_list_u16, read_names, read_sign, read_u8,
+    write_list_u16, write_names, write_u8,
+};
 use std::alloc::Global;
 
+/// Writes for whom a policy is enabled.
 #[tactic(auto, unfolding(crate::specs::Changes::enabled))]
-impl Spelled for Enabled {
-    ghost use Rattle.rec_codec.specs.Changes.{enabled};
-
-    ghost spelling = { enabled };
-
-    fn write(&self, out: &mut Vec<u8>) -> Result<(), Memory> {
-        match self {
-            Enabled::Off => {
-                write_u8(out, 0)?;
-                write_off(out)
-            }
-            Enabled::By(users) => {
-                write_u8(out, 1)?;
-                write_u8(out, 0)?;
-                write_users(users, out)
-            }
-            Enabled::Except(names, outcomes) => {
-                write_u8(out, 2)?;
-                outcomes.write(out)?;
-                write_names(names, out)
-            }
+pub(crate) fn write_enabled(enablement: &Enabled, out: &mut Vec<u8>) -> Result<(), Memory>
+    requires { enabled.IsSpellable enablement.now }
+    ensures { OnOk result (out.new.items ≡ out.old.items ++ enabled.spelled enablement.now) }
+{
+    match enablement {
+        Enabled::Off => {
+            write_u8(out, 0)?;
+            write_off(out)
         }
-    }
-
-    fn read(alloc: Global, bytes: &[u8]) -> Result<(Self, &[u8]), ReadError> {
-        let (mode, rest) = read_u8(bytes)?;
-        read_behind_mode(alloc, mode, rest)
+        Enabled::By(users) => {
+            write_u8(out, 1)?;
+            write_u8(out, 0)?;
+            write_users(users, out)
+        }
+        Enabled::Except(names, outcomes) => {
+            write_u8(out, 2)?;
+            outcomes.write(out)?;
+            write_names(names, out)
+        }
     }
 }
 
-#[tactic(auto, unfolding(crate::specs::Changes::enabled_behind))]
+/// For whom a policy is enabled.
+#[tactic(auto, unfolding(crate::specs::descent::Changes::enabled_first))]
+pub(crate) fn read_enabled(alloc: Global, bytes: &[u8]) -> Result<(Enabled, &[u8]), ReadError>
+    ensures { Gives (λ x. (x.0, x.1.now)) result (enabled_first bytes.now) }
+{
+    let (mode, rest) = read_u8(bytes)?;
+    read_behind_mode(alloc, mode, rest)
+}
+
+#[tactic(auto, unfolding(crate::specs::descent::Changes::enabled_behind))]
 fn read_behind_mode(alloc: Global, mode: u8, bytes: &[u8]) -> Result<(Enabled, &[u8]), ReadError>
     ensures { Gives (λ x. (x.0, x.1.now)) result (enabled_behind mode bytes.now) }
 {
@@ -74,9 +76,9 @@ fn write_off(out: &mut Vec<u8>) -> Result<(), Memory>
 }
 
 /// Behind the outcomes and the count of names of what is enabled for nobody.
-#[tactic(auto, unfolding(crate::specs::Changes::off))]
+#[tactic(auto, unfolding(crate::specs::descent::Changes::off_first))]
 fn read_off(bytes: &[u8]) -> Result<&[u8], ReadError>
-    ensures { Gives (λ x. (tt, x.now)) result (off.first bytes.now) }
+    ensures { Gives (λ x. (tt, x.now)) result (off_first bytes.now) }
 {
     let rest = read_sign(bytes, 0)?;
     let rest = read_sign(rest, 0)?;
@@ -92,9 +94,9 @@ fn write_users(values: &List<(Name, Outcomes)>, out: &mut Vec<u8>) -> Result<(),
 }
 
 /// Users with their outcomes: at least one, and each once.
-#[tactic(auto, unfolding(crate::specs::Changes::users))]
+#[tactic(auto, unfolding(crate::specs::descent::Changes::users_first))]
 fn read_users(alloc: Global, bytes: &[u8]) -> Result<(List<(Name, Outcomes)>, &[u8]), ReadError>
-    ensures { Gives (λ x. (x.0, x.1.now)) result (users.first bytes.now) }
+    ensures { Gives (λ x. (x.0, x.1.now)) result (users_first bytes.now) }
 {
     let (values, rest) = read_list_u16::<(Name, Outcomes)>(alloc, bytes)?;
     if values.len() == 0 {

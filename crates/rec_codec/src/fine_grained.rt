@@ -1,15 +1,13 @@
 //! Fine-grained policies.
 ghost use Rattle.std.specs.Prelude.{◌≡◌, ◌++◌, OnOk};
-ghost use Rattle.rec_codec.specs.Spelling.{first_as};
-ghost use Rattle.rec_codec.specs.Given.{Gives};
-ghost use Rattle.rec_codec.specs.Changes.{fga, fga_parts, made_fga, types};
+ghost use Rattle.rec_parts.specs.Given.{Gives};
+ghost use Rattle.rec_parts.specs.descent.Reading.{made_first};
+ghost use Rattle.rec_codec.specs.Changes.{fga_parts};
+ghost use Rattle.rec_codec.specs.descent.Changes.{fga_first, made_fga, types_first};
 
-use crate::lists::{read_names, write_names};
-use crate::numbers::{read_u8, write_u8};
-use crate::read_error::ReadError;
-use crate::spelled::Spelled;
 use au_base::{List, Memory, Name, TableName, Text};
 use au_entries::Change;
+use rec_parts::{ReadError, Spelled, read_names, read_u8, write_names, write_u8};
 use std::alloc::Global;
 
 /// Writes what a fine-grained policy is for.
@@ -33,9 +31,9 @@ pub(crate) fn write_fga_parts(
 }
 
 /// A fine-grained policy, and the bytes behind it.
-#[tactic(auto, unfolding(crate::specs::Changes::fga, crate::specs::Changes::fga_name, crate::specs::Changes::fga_parts))]
+#[tactic(auto, unfolding(crate::specs::descent::Changes::fga_first))]
 pub(crate) fn read_fga(alloc: Global, bytes: &[u8]) -> Result<(Change, &[u8]), ReadError>
-    ensures { Gives (λ x. (x.0, x.1.now)) result (first_as fga made_fga bytes.now) }
+    ensures { Gives (λ x. (x.0, x.1.now)) result (made_first fga_first made_fga bytes.now) }
 {
     let (table, rest) = TableName::read(alloc, bytes)?;
     let (policy, rest) = Name::read(alloc, rest)?;
@@ -57,9 +55,9 @@ pub(crate) fn read_fga(alloc: Global, bytes: &[u8]) -> Result<(Change, &[u8]), R
 }
 
 /// The kinds of statements, at least one of them.
-#[tactic(auto, unfolding(crate::specs::Changes::types))]
+#[tactic(auto, unfolding(crate::specs::descent::Changes::types_first))]
 fn read_types(bytes: &[u8]) -> Result<(u8, &[u8]), ReadError>
-    ensures { Gives (λ x. (x.0, x.1.now)) result (types.first bytes.now) }
+    ensures { Gives (λ x. (x.0, x.1.now)) result (types_first bytes.now) }
 {
     let (types, rest) = read_u8(bytes)?;
     if types < 1 || types > 15 {

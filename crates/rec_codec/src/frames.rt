@@ -1,18 +1,17 @@
 //! The bodies of frames.
 ghost use Rattle.std.specs.Prelude.{◌≡◌, ◌++◌, ℕ, List, OnOk, IfOk};
-ghost use Rattle.rec_codec.specs.Spelling.{first_as, whole};
-ghost use Rattle.rec_codec.specs.Given.{Gives};
+ghost use Rattle.rec_parts.specs.Given.{Gives};
 ghost use Rattle.rec_codec.specs.declared.frame.Frame as declared;
 ghost use Rattle.rec_codec.specs.declared.frame.Frame.TheVariants as kinds;
-ghost use Rattle.rec_codec.specs.Frames.{IsFrame, IsSpellable, Reads, body, frame, frame_behind, framed, purge, spelled};
+ghost use Rattle.rec_parts.specs.descent.Reading.{made_first, whole};
+ghost use Rattle.rec_codec.specs.Frames.{IsFrame, IsSpellable, Reads, body, framed, purge, spelled};
+ghost use Rattle.rec_codec.specs.descent.Frames.{body_first, frame_behind, frame_first, purge_first};
 
 use crate::frame::Frame;
-use crate::lists::{read_list_u32, write_list_u32};
-use crate::numbers::{read_u8, write_u8, write_u64};
-use crate::read_error::ReadError;
-use crate::spelled::Spelled;
+use crate::listed::{read_list, write_list};
 use au_base::{List as Sequence, Memory, Stamp};
 use au_entries::{Change, Record};
+use rec_parts::{ReadError, Spelled, parts_are_exact, read_u8, write_u8, write_u64};
 use std::alloc::Global;
 
 /// The body of the frame.
@@ -44,6 +43,7 @@ pub fn write_framed(alloc: Global, frame: &Frame) -> Result<Vec<u8>, Memory>
 pub fn read(alloc: Global, body: &[u8]) -> Result<Option<Frame>, Memory>
     ensures { IfOk result (Reads body.now) }
 {
+    parts_are_exact();
     match read_whole(alloc, body) {
         Ok(frame) => Ok(Some(frame)),
         Err(ReadError::NoFrame) => Ok(None),
@@ -55,15 +55,19 @@ pub fn read(alloc: Global, body: &[u8]) -> Result<Option<Frame>, Memory>
 /// frame's, and the same bytes stand behind them.
 pub fn one_front()
     ensures { (a b : declared.Frame) (x y : List ℕ) → IsSpellable a → IsSpellable b → spelled a ++ x ≡ spelled b ++ y → (a ≡ b) × (x ≡ y) }
-{}
+{
+    parts_are_exact();
+}
 
 /// The body that was written is that of one frame: what is read of it is the frame.
 pub fn one_reading()
     ensures { (bytes : List ℕ) (a b : declared.Frame) → IsFrame bytes a → IsFrame bytes b → a ≡ b }
-{}
+{
+    parts_are_exact();
+}
 
 fn read_whole(alloc: Global, body: &[u8]) -> Result<Frame, ReadError>
-    ensures { Gives (λ frame. frame) result (whole frame body.now) }
+    ensures { Gives (λ frame. frame) result (whole frame_first body.now) }
 {
     let (frame, rest) = read_frame(alloc, body)?;
     if !rest.is_empty() {
@@ -116,8 +120,8 @@ fn write_body(
     ensures { OnOk result (out.new.items ≡ out.old.items ++ body.spelled (stamp, (changes.now, records.now))) }
 {
     stamp.write(out)?;
-    write_list_u32(changes, out)?;
-    write_list_u32(records, out)
+    write_list(changes, out)?;
+    write_list(records, out)
 }
 
 #[tactic(auto, unfolding(crate::specs::Frames::purge))]
@@ -133,19 +137,19 @@ fn write_purge(
 {
     stamp.write(out)?;
     before.write(out)?;
-    write_list_u32(changes, out)?;
-    write_list_u32(records, out)
+    write_list(changes, out)?;
+    write_list(records, out)
 }
 
-#[tactic(auto, unfolding(crate::specs::Frames::frame))]
+#[tactic(auto, unfolding(crate::specs::descent::Frames::frame_first))]
 fn read_frame(alloc: Global, bytes: &[u8]) -> Result<(Frame, &[u8]), ReadError>
-    ensures { Gives (λ x. (x.0, x.1.now)) result (frame.first bytes.now) }
+    ensures { Gives (λ x. (x.0, x.1.now)) result (frame_first bytes.now) }
 {
     let (kind, rest) = read_u8(bytes)?;
     read_behind_kind(alloc, kind, rest)
 }
 
-#[tactic(auto, unfolding(crate::specs::Frames::frame_behind))]
+#[tactic(auto, unfolding(crate::specs::descent::Frames::frame_behind))]
 fn read_behind_kind(alloc: Global, kind: u8, bytes: &[u8]) -> Result<(Frame, &[u8]), ReadError>
     ensures { Gives (λ x. (x.0, x.1.now)) result (frame_behind kind bytes.now) }
 {
@@ -157,13 +161,13 @@ fn read_behind_kind(alloc: Global, kind: u8, bytes: &[u8]) -> Result<(Frame, &[u
     }
 }
 
-#[tactic(auto, unfolding(crate::specs::Frames::body))]
+#[tactic(auto, unfolding(crate::specs::descent::Frames::body_first))]
 fn read_image(alloc: Global, bytes: &[u8]) -> Result<(Frame, &[u8]), ReadError>
-    ensures { Gives (λ x. (x.0, x.1.now)) result (first_as body (λ x. kinds.Image x.0 x.1.0 x.1.1) bytes.now) }
+    ensures { Gives (λ x. (x.0, x.1.now)) result (made_first body_first (λ x. kinds.Image x.0 x.1.0 x.1.1) bytes.now) }
 {
     let (last, rest) = Stamp::read(alloc, bytes)?;
-    let (changes, rest) = read_list_u32::<Change>(alloc, rest)?;
-    let (records, rest) = read_list_u32::<Record>(alloc, rest)?;
+    let (changes, rest) = read_list::<Change>(alloc, rest)?;
+    let (records, rest) = read_list::<Record>(alloc, rest)?;
     let image = Frame::Image {
         last,
         changes,
@@ -172,13 +176,13 @@ fn read_image(alloc: Global, bytes: &[u8]) -> Result<(Frame, &[u8]), ReadError>
     Ok((image, rest))
 }
 
-#[tactic(auto, unfolding(crate::specs::Frames::body))]
+#[tactic(auto, unfolding(crate::specs::descent::Frames::body_first))]
 fn read_event(alloc: Global, bytes: &[u8]) -> Result<(Frame, &[u8]), ReadError>
-    ensures { Gives (λ x. (x.0, x.1.now)) result (first_as body (λ x. kinds.Event x.0 x.1.0 x.1.1) bytes.now) }
+    ensures { Gives (λ x. (x.0, x.1.now)) result (made_first body_first (λ x. kinds.Event x.0 x.1.0 x.1.1) bytes.now) }
 {
     let (stamp, rest) = Stamp::read(alloc, bytes)?;
-    let (changes, rest) = read_list_u32::<Change>(alloc, rest)?;
-    let (records, rest) = read_list_u32::<Record>(alloc, rest)?;
+    let (changes, rest) = read_list::<Change>(alloc, rest)?;
+    let (records, rest) = read_list::<Record>(alloc, rest)?;
     let event = Frame::Event {
         stamp,
         changes,
@@ -187,14 +191,14 @@ fn read_event(alloc: Global, bytes: &[u8]) -> Result<(Frame, &[u8]), ReadError>
     Ok((event, rest))
 }
 
-#[tactic(auto, unfolding(crate::specs::Frames::purge))]
+#[tactic(auto, unfolding(crate::specs::descent::Frames::purge_first))]
 fn read_purge(alloc: Global, bytes: &[u8]) -> Result<(Frame, &[u8]), ReadError>
-    ensures { Gives (λ x. (x.0, x.1.now)) result (first_as purge (λ x. kinds.Purge x.0 x.1.0 x.1.1.0 x.1.1.1) bytes.now) }
+    ensures { Gives (λ x. (x.0, x.1.now)) result (made_first purge_first (λ x. kinds.Purge x.0 x.1.0 x.1.1.0 x.1.1.1) bytes.now) }
 {
     let (stamp, rest) = Stamp::read(alloc, bytes)?;
     let (before, rest) = Option::<Stamp>::read(alloc, rest)?;
-    let (changes, rest) = read_list_u32::<Change>(alloc, rest)?;
-    let (records, rest) = read_list_u32::<Record>(alloc, rest)?;
+    let (changes, rest) = read_list::<Change>(alloc, rest)?;
+    let (records, rest) = read_list::<Record>(alloc, rest)?;
     let made = Frame::Purge {
         stamp,
         before,

@@ -1,18 +1,19 @@
 //! Images that are written piece by piece.
 ghost use Rattle.std.specs.Prelude.{◌≡◌, ◌<◌, ◌≤◌, ◌++◌, ◌∷◌, [], ℕ, List, IfOk, OnOk};
 ghost use Rattle.au_base.specs.declared.numbers.Stamp.{Stamp as AnyStamp};
+ghost use Rattle.au_base.specs.Limits.{LAST_MOMENT};
 ghost use Rattle.au_entries.specs.declared.change.Change.{Change as AnyChange};
 ghost use Rattle.au_entries.specs.declared.trail_record.Record.{Record as AnyRecord};
 ghost use Rattle.rec_codec.specs.declared.frame.Frame.TheVariants.{Image};
 ghost use Rattle.rec_codec.specs.Changes.{IsChangeSpellable};
 ghost use Rattle.rec_codec.specs.Frames.{IsSpellable, framed};
-ghost use Rattle.rec_codec.specs.Images.{Holds, Wrote, count_behind};
+ghost use Rattle.rec_codec.specs.Images.{Holds, WritesJoin, Wrote, count_behind};
 ghost use Rattle.rec_codec.specs.Records.{trail_record};
 
-use crate::numbers::{write_u8, write_u32, write_u64};
-use crate::spelled::Spelled;
+use crate::listed::Listed;
 use au_base::{Memory, Stamp};
 use au_entries::{Change, Record};
+use rec_parts::{write_u8, write_u32, write_u64};
 use std::alloc::Global;
 use std::marker::Model;
 
@@ -39,14 +40,14 @@ impl Model for ImageWriter {
 impl ImageWriter {
     /// The image with this last stamp, so many changes and so many records, before the first of
     /// them.
-    #[tactic(auto, unfolding(crate::specs::Parts::stamp))]
+    #[tactic(auto, unfolding(rec_parts::specs::Parts::stamp))]
     pub fn new(
         alloc: Global,
         last: Stamp,
         changes: u32,
         records: u32,
     ) -> Result<ImageWriter, Memory>
-        requires { last.0 ≤ 253_402_300_799_999_999 }
+        requires { last.0 ≤ LAST_MOMENT }
         ensures holds { IfOk result (λ writer. Holds writer last [] []) }
         ensures changes { IfOk result (λ writer. writer.changes ≡ changes) }
         ensures records { IfOk result (λ writer. writer.records ≡ records) }
@@ -105,6 +106,12 @@ impl ImageWriter {
         Ok(bytes)
     }
 }
+
+/// To write nothing changes nothing, and what is written in two goes is written in one. It does
+/// nothing, and states the law for its callers.
+pub fn writes_join()
+    ensures { WritesJoin }
+{}
 
 /// Writes the count of the records, where no change is to come.
 fn write_count_behind(out: &mut Vec<u8>, changes: u32, records: u32) -> Result<(), Memory>

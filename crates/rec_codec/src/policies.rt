@@ -1,18 +1,16 @@
 //! Audit policies.
-ghost use Rattle.std.specs.Prelude.{◌≡◌, ◌++◌, IfOk, OnOk};
-ghost use Rattle.rec_codec.specs.Spelling.{first_as, is_without_repeats};
-ghost use Rattle.rec_codec.specs.Given.{Gives};
-ghost use Rattle.rec_codec.specs.Changes.{made_policy, parts, policy, same_part, when, when_behind};
+ghost use Rattle.std.specs.Prelude.{◌≡◌, ◌++◌, OnOk};
+ghost use Rattle.rec_parts.specs.Given.{Gives};
+ghost use Rattle.rec_parts.specs.descent.Reading.{made_first};
+ghost use Rattle.rec_codec.specs.Changes.{parts, policy, when};
+ghost use Rattle.rec_codec.specs.descent.Changes.{made_policy, parts_first, policy_first, when_behind, when_first};
 
-use crate::lists::{
-    read_list_u16, read_names, read_privileges, write_list_u16, write_names, write_privileges,
-};
-use crate::numbers::{read_u8, write_u8};
-use crate::read_error::ReadError;
-use crate::repeats::is_without_repeats;
-use crate::spelled::Spelled;
 use au_base::{Action, List, Memory, Name, Privilege, TableName, Text};
 use au_entries::{Change, Evaluate};
+use rec_parts::{
+    ReadError, Spelled, parts_each_once, read_list_u16, read_names, read_privileges, read_u8,
+    write_list_u16, write_names, write_privileges, write_u8,
+};
 use std::alloc::Global;
 
 /// Writes the parts of a policy.
@@ -37,9 +35,9 @@ pub(crate) fn write_policy(
 }
 
 /// A policy, and the bytes behind it.
-#[tactic(auto, unfolding(crate::specs::Changes::policy))]
+#[tactic(auto, unfolding(crate::specs::descent::Changes::policy_first))]
 pub(crate) fn read_policy(alloc: Global, bytes: &[u8]) -> Result<(Change, &[u8]), ReadError>
-    ensures { Gives (λ x. (x.0, x.1.now)) result (first_as policy made_policy bytes.now) }
+    ensures { Gives (λ x. (x.0, x.1.now)) result (made_first policy_first made_policy bytes.now) }
 {
     let (name, rest) = Name::read(alloc, bytes)?;
     let (privileges, rest) = read_privileges(alloc, rest)?;
@@ -65,25 +63,18 @@ fn write_parts(values: &List<(Action, Option<TableName>)>, out: &mut Vec<u8>) ->
 }
 
 /// Parts of a policy, no two the same.
-#[tactic(auto, unfolding(crate::specs::Changes::parts))]
+#[tactic(auto, unfolding(crate::specs::descent::Changes::parts_first))]
 fn read_parts(
     alloc: Global,
     bytes: &[u8],
 ) -> Result<(List<(Action, Option<TableName>)>, &[u8]), ReadError>
-    ensures { Gives (λ x. (x.0, x.1.now)) result (parts.first bytes.now) }
+    ensures { Gives (λ x. (x.0, x.1.now)) result (parts_first bytes.now) }
 {
     let (values, rest) = read_list_u16::<(Action, Option<TableName>)>(alloc, bytes)?;
     if !parts_each_once(alloc, values.as_slice())? {
         return Err(ReadError::NoFrame);
     }
     Ok((values, rest))
-}
-
-/// Whether no two of the parts are the same.
-fn parts_each_once(alloc: Global, values: &[(Action, Option<TableName>)]) -> Result<bool, Memory>
-    ensures { IfOk result (λ answer. answer ≡ is_without_repeats same_part values.now) }
-{
-    is_without_repeats(alloc, values)
 }
 
 #[tactic(auto, unfolding(crate::specs::Changes::when))]
@@ -109,15 +100,15 @@ fn write_when(condition: &Option<(Evaluate, Text)>, out: &mut Vec<u8>) -> Result
 }
 
 /// When a condition is evaluated, and its text.
-#[tactic(auto, unfolding(crate::specs::Changes::when))]
+#[tactic(auto, unfolding(crate::specs::descent::Changes::when_first))]
 fn read_when(alloc: Global, bytes: &[u8]) -> Result<(Option<(Evaluate, Text)>, &[u8]), ReadError>
-    ensures { Gives (λ x. (x.0, x.1.now)) result (when.first bytes.now) }
+    ensures { Gives (λ x. (x.0, x.1.now)) result (when_first bytes.now) }
 {
     let (code, rest) = read_u8(bytes)?;
     read_behind_code(alloc, code, rest)
 }
 
-#[tactic(auto, unfolding(crate::specs::Changes::when_behind))]
+#[tactic(auto, unfolding(crate::specs::descent::Changes::when_behind))]
 fn read_behind_code(
     alloc: Global,
     code: u8,

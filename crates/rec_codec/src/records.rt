@@ -1,24 +1,29 @@
 //! Records of the audit trail.
 ghost use Rattle.std.specs.Prelude.{◌≡◌, ◌++◌, OnOk};
-ghost use Rattle.rec_codec.specs.Spelling.{option};
-ghost use Rattle.rec_codec.specs.Given.{Gives};
-ghost use Rattle.rec_codec.specs.Records.{deed, deed_of, demanding, done_action, grounds, grounds_of, origin, origin_of, record_of, statement_text};
+ghost use Rattle.rec_parts.specs.Spelling.{option};
+ghost use Rattle.rec_parts.specs.Given.{Gives};
+ghost use Rattle.rec_parts.specs.descent.Reading.{option_first};
+ghost use Rattle.rec_codec.specs.Records.{deed, deed_of, grounds, grounds_of, origin, origin_of, record_of, statement_text};
+ghost use Rattle.rec_codec.specs.descent.Records.{deed_first, demanding_first, done_action_first, grounds_first, origin_first, statement_text_first};
 
-use crate::lists::{read_names, read_privileges, write_names, write_privileges};
-use crate::numbers::{read_u8, write_u8};
-use crate::read_error::ReadError;
+use crate::listed::Listed;
 use crate::record_parts::{Deed, Grounds, Origin};
-use crate::spelled::Spelled;
 use au_base::limits::{CATALOG_OBJECTS, STATEMENT_BYTES};
 use au_base::{Action, Code, List, Memory, Name, SessionNo, Stamp, Text};
 use au_entries::{Record, RecordKind};
+use rec_parts::{
+    ReadError, Spelled, read_names, read_privileges, write_names, write_privileges, write_u8,
+};
 use std::alloc::Global;
 
-#[tactic(auto, unfolding(crate::specs::Records::trail_record))]
-impl Spelled for Record {
+#[tactic(auto, unfolding(crate::specs::Records::trail_record, crate::specs::descent::Records::record_first))]
+impl Listed for Record {
     ghost use Rattle.rec_codec.specs.Records.{trail_record};
+    ghost use Rattle.rec_codec.specs.descent.Records.{record_first};
 
     ghost spelling = { trail_record };
+
+    ghost first = { record_first };
 
     fn write(&self, out: &mut Vec<u8>) -> Result<(), Memory> {
         write_origin(self, out)?;
@@ -68,9 +73,9 @@ fn write_origin(audited: &Record, out: &mut Vec<u8>) -> Result<(), Memory>
     audited.user.write(out)
 }
 
-#[tactic(auto, unfolding(crate::specs::Records::origin))]
+#[tactic(auto, unfolding(crate::specs::descent::Records::origin_first))]
 fn read_origin(alloc: Global, bytes: &[u8]) -> Result<(Origin, &[u8]), ReadError>
-    ensures { Gives (λ x. (x.0, x.1.now)) result (origin.first bytes.now) }
+    ensures { Gives (λ x. (x.0, x.1.now)) result (origin_first bytes.now) }
 {
     let (kind, rest) = RecordKind::read(alloc, bytes)?;
     let (session, rest) = SessionNo::read(alloc, rest)?;
@@ -100,9 +105,9 @@ fn write_deed(audited: &Record, out: &mut Vec<u8>) -> Result<(), Memory>
     write_statement_text(&audited.sql, out)
 }
 
-#[tactic(auto, unfolding(crate::specs::Records::deed))]
+#[tactic(auto, unfolding(crate::specs::descent::Records::deed_first))]
 fn read_deed(alloc: Global, bytes: &[u8]) -> Result<(Deed, &[u8]), ReadError>
-    ensures { Gives (λ x. (x.0, x.1.now)) result (deed.first bytes.now) }
+    ensures { Gives (λ x. (x.0, x.1.now)) result (deed_first bytes.now) }
 {
     let (action, rest) = read_done_action(alloc, bytes)?;
     let (schema, rest) = Option::<Name>::read(alloc, rest)?;
@@ -118,9 +123,9 @@ fn read_deed(alloc: Global, bytes: &[u8]) -> Result<(Deed, &[u8]), ReadError>
 }
 
 /// An action that was done, and not just any.
-#[tactic(auto, unfolding(crate::specs::Records::done_action))]
+#[tactic(auto, unfolding(crate::specs::descent::Records::done_action_first))]
 fn read_done_action(alloc: Global, bytes: &[u8]) -> Result<(Action, &[u8]), ReadError>
-    ensures { Gives (λ x. (x.0, x.1.now)) result (done_action.first bytes.now) }
+    ensures { Gives (λ x. (x.0, x.1.now)) result (done_action_first bytes.now) }
 {
     let (action, rest) = Action::read(alloc, bytes)?;
     if action.code() < 1 {
@@ -144,7 +149,7 @@ fn write_statement_text(text: &Option<Text>, out: &mut Vec<u8>) -> Result<(), Me
 }
 
 fn read_statement_text(alloc: Global, bytes: &[u8]) -> Result<(Option<Text>, &[u8]), ReadError>
-    ensures { Gives (λ x. (x.0, x.1.now)) result ((option statement_text).first bytes.now) }
+    ensures { Gives (λ x. (x.0, x.1.now)) result (option_first statement_text_first bytes.now) }
 {
     match bytes {
         [0, rest @ ..] => Ok((None, rest)),
@@ -157,9 +162,9 @@ fn read_statement_text(alloc: Global, bytes: &[u8]) -> Result<(Option<Text>, &[u
 }
 
 /// The text of a statement, 1 to 32,767 bytes.
-#[tactic(auto, unfolding(crate::specs::Records::statement_text))]
+#[tactic(auto, unfolding(crate::specs::descent::Records::statement_text_first))]
 fn read_present_text(alloc: Global, bytes: &[u8]) -> Result<(Text, &[u8]), ReadError>
-    ensures { Gives (λ x. (x.0, x.1.now)) result (statement_text.first bytes.now) }
+    ensures { Gives (λ x. (x.0, x.1.now)) result (statement_text_first bytes.now) }
 {
     let (text, rest) = Text::read(alloc, bytes)?;
     let len = text.as_bytes().len();
@@ -180,9 +185,9 @@ fn write_grounds(audited: &Record, out: &mut Vec<u8>) -> Result<(), Memory>
     audited.code.write(out)
 }
 
-#[tactic(auto, unfolding(crate::specs::Records::grounds))]
+#[tactic(auto, unfolding(crate::specs::descent::Records::grounds_first))]
 fn read_grounds(alloc: Global, bytes: &[u8]) -> Result<(Grounds, &[u8]), ReadError>
-    ensures { Gives (λ x. (x.0, x.1.now)) result (grounds.first bytes.now) }
+    ensures { Gives (λ x. (x.0, x.1.now)) result (grounds_first bytes.now) }
 {
     let (used, rest) = read_privileges(alloc, bytes)?;
     let (policies, rest) = read_demanding(alloc, rest)?;
@@ -198,9 +203,9 @@ fn read_grounds(alloc: Global, bytes: &[u8]) -> Result<(Grounds, &[u8]), ReadErr
 }
 
 /// The policies that demand a record: each policy, and the mandatory one.
-#[tactic(auto, unfolding(crate::specs::Records::demanding))]
+#[tactic(auto, unfolding(crate::specs::descent::Records::demanding_first))]
 fn read_demanding(alloc: Global, bytes: &[u8]) -> Result<(List<Name>, &[u8]), ReadError>
-    ensures { Gives (λ x. (x.0, x.1.now)) result (demanding.first bytes.now) }
+    ensures { Gives (λ x. (x.0, x.1.now)) result (demanding_first bytes.now) }
 {
     let (names, rest) = read_names(alloc, bytes)?;
     if names.len() > CATALOG_OBJECTS + 1 {

@@ -4,6 +4,7 @@ pub mod AuditLaws
 pub mod CallLaws
 pub mod FamilyLaws
 pub mod GrantLaws
+pub mod PasswordLaws
 pub mod PolicyLaws
 pub mod PrivilegeLaws
 pub mod ProcedureLaws

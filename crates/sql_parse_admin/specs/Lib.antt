@@ -1,4 +1,5 @@
 pub mod Families
+pub mod Passwords
 pub mod ReadAudits
 pub mod ReadCalls
 pub mod ReadGrants

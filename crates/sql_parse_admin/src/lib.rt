@@ -8,6 +8,7 @@ mod audits;
 mod calls;
 mod grants;
 mod literals;
+mod passwords;
 mod policies;
 mod privileges;
 mod procedures;
@@ -16,4 +17,5 @@ mod statements;
 mod table_definitions;
 mod users;
 
+pub use passwords::passwords_are_placed;
 pub use statements::{one_reading, read};

@@ -8,9 +8,8 @@ use Rattle.au_entries.specs.declared.change.Change.{Change}
 use Rattle.au_entries.specs.declared.trail_record.Record.{Record}
 use Rattle.rec_codec.specs.Changes.{IsChangeSpellable, change}
 use Rattle.rec_codec.specs.Frames.{body}
-use Rattle.rec_codec.specs.ImageLaws.{both_wrote}
-use Rattle.rec_codec.specs.Images.{Written, Wrote}
-use Rattle.rec_codec.specs.Parts.{stamp}
+use Rattle.rec_codec.specs.Images.{WritesJoin, Written, Wrote}
+use Rattle.rec_parts.specs.Parts.{stamp}
 use Rattle.rec_codec.specs.Records.{trail_record}
 
 length_taken : {Y : Type 0} (ys : List Y) (n : ℕ) → length (take n ys) ≤ n
@@ -24,13 +23,13 @@ one_at P (y ∷ xs) (suc i) x within is all = one_at P xs i x (omega (arith, wit
 one_further : {X : Type 0} (xs : List X) (i : ℕ) (x : X) → i < length xs → x ≡ get_or xs i x → take i xs ++ x ∷ [] ≡ take (i + 1) xs
 one_further {X} xs i x within is = ap (λ (y : X). take i xs ++ y ∷ []) is ∙ sym (take_more xs i x within)
 
-pub one_change : (changes : List Change) (a b c : Written) (i : ℕ) (x : Change) → i < length changes → x ≡ get_or changes i x → Wrote a b (take i changes) [] → Wrote b c (x ∷ []) [] → Wrote a c (take (i + 1) changes) []
-one_change changes a b c i x within is before here =
-    subst (λ (cs : List Change). Wrote a c cs []) (one_further changes i x within is) (both_wrote a b c (take i changes) (x ∷ []) [] [] before here)
+pub one_change : (laws : WritesJoin) (changes : List Change) (a b c : Written) (i : ℕ) (x : Change) → i < length changes → x ≡ get_or changes i x → Wrote a b (take i changes) [] → Wrote b c (x ∷ []) [] → Wrote a c (take (i + 1) changes) []
+one_change laws changes a b c i x within is before here =
+    subst (λ (cs : List Change). Wrote a c cs []) (one_further changes i x within is) (laws.both a b c (take i changes) (x ∷ []) [] [] before here)
 
-pub one_record : (trail : List Record) (a b c : Written) (i : ℕ) (x : Record) → i < length trail → x ≡ get_or trail i x → Wrote a b [] (take i trail) → Wrote b c [] (x ∷ []) → Wrote a c [] (take (i + 1) trail)
-one_record trail a b c i x within is before here =
-    subst (λ (rs : List Record). Wrote a c [] rs) (one_further trail i x within is) (both_wrote a b c [] [] (take i trail) (x ∷ []) before here)
+pub one_record : (laws : WritesJoin) (trail : List Record) (a b c : Written) (i : ℕ) (x : Record) → i < length trail → x ≡ get_or trail i x → Wrote a b [] (take i trail) → Wrote b c [] (x ∷ []) → Wrote a c [] (take (i + 1) trail)
+one_record laws trail a b c i x within is before here =
+    subst (λ (rs : List Record). Wrote a c [] rs) (one_further trail i x within is) (laws.both a b c [] [] (take i trail) (x ∷ []) before here)
 
 pub change_left : (changes : List Change) (a b : Written) (i : ℕ) → i < length changes → length changes ≤ a.changes → Wrote a b (take i changes) [] → 0 < b.changes
 change_left changes a b i within few before = let taken = length_taken changes i in omega (arith, within, few, before.changes_left, taken)

@@ -11,7 +11,7 @@ use crate::fault::Fault;
 use crate::parts::add;
 use au_base::Stamp;
 use au_catalog::{Change, Record};
-use rec_codec::{Frame, ImageWriter, read, write_framed};
+use rec_codec::{Frame, ImageWriter, read, write_framed, writes_join};
 use std::alloc::Global;
 
 /// What a frame's framed bytes are, if the case is about that.
@@ -115,6 +115,7 @@ fn push_changes(writer: &mut ImageWriter, changes: &[Change]) -> Result<(), Faul
     requires spellable { AllByRecursion IsChangeSpellable changes.now }
     ensures { OnOk result (Wrote writer.old writer.new changes.now []) }
 {
+    writes_join();
     for change in changes {
         writer.push_change(change)?;
     }
@@ -127,6 +128,7 @@ fn push_records(writer: &mut ImageWriter, records: &[Record]) -> Result<(), Faul
     requires spellable { AllByRecursion trail_record.IsSpellable records.now }
     ensures { OnOk result (Wrote writer.old writer.new [] records.now) }
 {
+    writes_join();
     for entry in records {
         writer.push_record(entry)?;
     }

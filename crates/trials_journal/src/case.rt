@@ -1,7 +1,6 @@
 //! The answers to the steps of a case.
-ghost use Rattle.au_io.specs.MemDisk.{disk_meaning};
-ghost use Rattle.au_journal.specs.Held.{IsHeld};
-ghost use Rattle.au_journal.specs.Journals.{disk_of, seat_of};
+ghost use Rattle.std.specs.Prelude.{◌≡◌, true};
+ghost use Rattle.au_journal.specs.Journals.{seat_of};
 
 use crate::fault::Fault;
 use crate::walking::{said_area, said_bodies, said_fault, walk};
@@ -96,7 +95,7 @@ fn make_steps(
     journal: &mut Journal<MemDisk>,
     part: &str,
 ) -> Result<(), Fault>
-    requires { IsHeld (disk_meaning (disk_of journal.old)) (seat_of journal.old) }
+    requires { (seat_of journal.old).ended ≡ true }
 {
     for step in part.split(';') {
         let (step, part) = first_word(step.trim());

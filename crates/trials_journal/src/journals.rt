@@ -1,8 +1,6 @@
 //! The steps of a journal that was walked to its end.
-ghost use Rattle.std.specs.Prelude.{◌≡◌, ℕ, List, OnOk};
-ghost use Rattle.au_io.specs.MemDisk.{disk_meaning};
-ghost use Rattle.au_journal.specs.Held.{IsHeld};
-ghost use Rattle.au_journal.specs.Journals.{disk_of, seat_of};
+ghost use Rattle.std.specs.Prelude.{◌≡◌, ℕ, List, OnOk, true};
+ghost use Rattle.au_journal.specs.Journals.{seat_of};
 ghost use Rattle.au_journal.specs.Seats.{IsFramed};
 
 use crate::fault::Fault;
@@ -19,8 +17,8 @@ pub fn said_step(
     step: &str,
     part: &str,
 ) -> Result<String, Fault>
-    requires { IsHeld (disk_meaning (disk_of journal.old)) (seat_of journal.old) }
-    ensures { OnOk result (IsHeld (disk_meaning (disk_of journal.new)) (seat_of journal.new)) }
+    requires { (seat_of journal.old).ended ≡ true }
+    ensures { OnOk result ((seat_of journal.new).ended ≡ true) }
 {
     match step {
         "append" => append_word(alloc, journal, part, false),
@@ -38,8 +36,8 @@ fn append_word(
     word: &str,
     free: bool,
 ) -> Result<String, Fault>
-    requires { IsHeld (disk_meaning (disk_of journal.old)) (seat_of journal.old) }
-    ensures { OnOk result (IsHeld (disk_meaning (disk_of journal.new)) (seat_of journal.new)) }
+    requires { (seat_of journal.old).ended ≡ true }
+    ensures { OnOk result ((seat_of journal.new).ended ≡ true) }
 {
     let framed = framed_body(alloc, word)?;
     let answer = append(journal, &framed, free);
@@ -49,8 +47,8 @@ fn append_word(
 // An append, which isn't asked while a doubt stands.
 fn append(journal: &mut Journal<MemDisk>, framed: &[u8], free: bool) -> Option<Appended>
     requires framed { (body : List ℕ) × IsFramed framed.now body }
-    requires held { IsHeld (disk_meaning (disk_of journal.old)) (seat_of journal.old) }
-    ensures { IsHeld (disk_meaning (disk_of journal.new)) (seat_of journal.new) }
+    requires ended { (seat_of journal.old).ended ≡ true }
+    ensures { (seat_of journal.new).ended ≡ true }
 {
     match journal.doubt() {
         Doubt::Settled => Some(journal.append(framed, free)),
@@ -59,8 +57,8 @@ fn append(journal: &mut Journal<MemDisk>, framed: &[u8], free: bool) -> Option<A
 }
 
 fn flip_word(alloc: Global, journal: &mut Journal<MemDisk>, word: &str) -> Result<String, Fault>
-    requires { IsHeld (disk_meaning (disk_of journal.old)) (seat_of journal.old) }
-    ensures { OnOk result (IsHeld (disk_meaning (disk_of journal.new)) (seat_of journal.new)) }
+    requires { (seat_of journal.old).ended ≡ true }
+    ensures { OnOk result ((seat_of journal.new).ended ≡ true) }
 {
     let framed = framed_body(alloc, word)?;
     let answer = flip(journal, &framed);
@@ -70,8 +68,8 @@ fn flip_word(alloc: Global, journal: &mut Journal<MemDisk>, word: &str) -> Resul
 // A flip, which isn't asked while a doubt stands.
 fn flip(journal: &mut Journal<MemDisk>, framed: &[u8]) -> Option<Appended>
     requires framed { (body : List ℕ) × IsFramed framed.now body }
-    requires held { IsHeld (disk_meaning (disk_of journal.old)) (seat_of journal.old) }
-    ensures { IsHeld (disk_meaning (disk_of journal.new)) (seat_of journal.new) }
+    requires ended { (seat_of journal.old).ended ≡ true }
+    ensures { (seat_of journal.new).ended ≡ true }
 {
     match journal.doubt() {
         Doubt::Settled => Some(journal.flip(framed)),
@@ -89,8 +87,8 @@ fn said_appended(alloc: Global, answer: Option<Appended>) -> Result<String, Faul
 }
 
 fn said_mend(alloc: Global, journal: &mut Journal<MemDisk>) -> Result<String, Fault>
-    requires { IsHeld (disk_meaning (disk_of journal.old)) (seat_of journal.old) }
-    ensures { OnOk result (IsHeld (disk_meaning (disk_of journal.new)) (seat_of journal.new)) }
+    requires { (seat_of journal.old).ended ≡ true }
+    ensures { OnOk result ((seat_of journal.new).ended ≡ true) }
 {
     match mend(journal) {
         Mended::Done => Ok(format!(in alloc; "done")?),
@@ -99,15 +97,12 @@ fn said_mend(alloc: Global, journal: &mut Journal<MemDisk>) -> Result<String, Fa
 }
 
 fn mend(journal: &mut Journal<MemDisk>) -> Mended
-    requires { IsHeld (disk_meaning (disk_of journal.old)) (seat_of journal.old) }
-    ensures { IsHeld (disk_meaning (disk_of journal.new)) (seat_of journal.new) }
+    requires { (seat_of journal.old).ended ≡ true }
+    ensures { (seat_of journal.new).ended ≡ true }
 {
     journal.mend()
 }
 
-fn said_seat(alloc: Global, journal: &mut Journal<MemDisk>) -> Result<String, Fault>
-    requires { IsHeld (disk_meaning (disk_of journal.old)) (seat_of journal.old) }
-    ensures { OnOk result (IsHeld (disk_meaning (disk_of journal.new)) (seat_of journal.new)) }
-{
+fn said_seat(alloc: Global, journal: &Journal<MemDisk>) -> Result<String, Fault> {
     Ok(format!(in alloc; "{} {}", said_area(journal.area()), journal.used())?)
 }

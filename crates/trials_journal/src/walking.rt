@@ -1,8 +1,6 @@
 //! A walk over all that stands on a disk.
-ghost use Rattle.std.specs.Prelude.{IfOk, List, ℕ};
-ghost use Rattle.au_io.specs.MemDisk.{disk_meaning};
-ghost use Rattle.au_journal.specs.Held.{IsHeld};
-ghost use Rattle.au_journal.specs.Journals.{disk_of, seat_of};
+ghost use Rattle.std.specs.Prelude.{◌≡◌, true, IfOk};
+ghost use Rattle.au_journal.specs.Journals.{seat_of};
 
 use crate::fault::Fault;
 use au_io::{Area, MemDisk};
@@ -14,7 +12,7 @@ pub type Walk = Result<(Journal<MemDisk>, Vec<Vec<u8>>), (MemDisk, MountFault)>;
 
 /// Walks to the end. No case has more than eight bodies.
 pub fn walk(alloc: Global, disk: MemDisk) -> Result<Walk, Fault>
-    ensures { IfOk result (λ walked. IfOk walked (λ parts. IsHeld (disk_meaning (disk_of parts.0)) (seat_of parts.0))) }
+    ensures { IfOk result (λ walked. IfOk walked (λ parts. (seat_of parts.0).ended ≡ true)) }
 {
     let mut journal = match Journal::mount(disk) {
         Ok(journal) => journal,

@@ -11,7 +11,7 @@ use std::alloc::Global;
 pub fn changed(alloc: Global, rows: &mut Rows, case: &Case<'_>) -> Result<Option<String>, Fault> {
     match case.call {
         "nothing" => {
-            *rows = Rows::new(alloc)?;
+            begin_anew(alloc, rows)?;
             said(alloc, "done")
         }
         "open" => done_or_refused(alloc, opened(alloc, rows, case)?),
@@ -20,6 +20,12 @@ pub fn changed(alloc: Global, rows: &mut Rows, case: &Case<'_>) -> Result<Option
         "mark" => done_or_refused(alloc, mark_one(alloc, rows, case)?),
         _ => ended(alloc, rows, case),
     }
+}
+
+// From here on there are no tables.
+fn begin_anew(alloc: Global, rows: &mut Rows) -> Result<(), Fault> {
+    *rows = Rows::new(alloc)?;
+    Ok(())
 }
 
 fn opened(alloc: Global, rows: &mut Rows, case: &Case<'_>) -> Result<bool, Fault> {

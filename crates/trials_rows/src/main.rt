@@ -49,22 +49,26 @@ fn answer(alloc: Global, rows: &mut Rows, line: &str) -> Result<String, Fault> {
     }
 }
 
-fn main(rt: HostRuntime) -> io::Result<()> {
-    let Ok(mut rows) = Rows::new(rt.alloc()) else {
-        println!(rt; "out of memory")?;
-        return Ok(());
-    };
+// Answers each line of standard input.
+fn tried(rt: HostRuntime, rows: &mut Rows) -> io::Result<()> {
     for line in rt.lines(rt.alloc()) {
         let line = line?;
         if line.is_empty() || line.starts_with('#') {
             println!(rt; "{line}")?;
             continue;
         }
-        match answer(rt.alloc(), &mut rows, line.as_str()) {
+        match answer(rt.alloc(), rows, line.as_str()) {
             Ok(text) => println!(rt; "{line} = {text}")?,
             Err(Fault::Memory) => println!(rt; "{line}: out of memory")?,
             Err(Fault::NoCase) => println!(rt; "{line}: no such case")?,
         }
     }
     Ok(())
+}
+
+fn main(rt: HostRuntime) -> io::Result<()> {
+    match Rows::new(rt.alloc()) {
+        Ok(mut rows) => tried(rt, &mut rows),
+        Err(_) => println!(rt; "out of memory"),
+    }
 }

@@ -55,7 +55,7 @@ fn opened(alloc: Global, disk: MemDisk) -> Result<Store<MemDisk, MemClock>, Open
 
 // A store that was made and opened, on a disk that fails at that call.
 fn begun(alloc: Global, limit: u32, failing: u64) -> Result<Store<MemDisk, MemClock>, OpenFault> {
-    let disk = made(alloc, limit, failing)?;
+    let disk = made(alloc, limit, failing).map_err(|_| OpenFault::Memory)?;
     opened(alloc, disk)
 }
 
@@ -358,7 +358,7 @@ fn a_look_tells_damage_and_no_worn_number(rt: HostRuntime) -> Result<(), Fail> {
 
 // Opens a store where that call fails, and then again. What the first says.
 fn opened_twice(alloc: Global, failing: u64) -> Result<OpenFault, OpenFault> {
-    let disk = made(alloc, LIMIT, failing)?;
+    let disk = made(alloc, LIMIT, failing).map_err(|_| OpenFault::Memory)?;
     match Store::open(alloc, disk, CLOCK) {
         Ok(_) => Err(OpenFault::Memory),
         Err((disk, _, why)) => {

@@ -114,11 +114,17 @@ fn ended(desk: &mut Desk, case: &Case<'_>) -> Result<Option<&'static str>, Fault
     Ok(Some("done"))
 }
 
+// From here on there are no tables.
+fn begin_anew(alloc: Global, desk: &mut Desk) -> Result<(), Fault> {
+    *desk = Desk::new(alloc)?;
+    Ok(())
+}
+
 // What comes of a line.
 fn answer(alloc: Global, desk: &mut Desk, line: &str) -> Result<String, Fault> {
     let case = Case::read(alloc, line)?;
     if case.call == "nothing" {
-        *desk = Desk::new(alloc)?;
+        begin_anew(alloc, desk)?;
         return Ok(String::from_str(alloc, "done")?);
     }
     if let Some(text) = changed(alloc, desk, &case)? {
@@ -130,14 +136,14 @@ fn answer(alloc: Global, desk: &mut Desk, line: &str) -> Result<String, Fault> {
     }
 }
 
-fn tried(rt: HostRuntime, mut desk: Desk) -> io::Result<()> {
+fn tried(rt: HostRuntime, desk: &mut Desk) -> io::Result<()> {
     for line in rt.lines(rt.alloc()) {
         let line = line?;
         if line.is_empty() || line.starts_with('#') {
             println!(rt; "{line}")?;
             continue;
         }
-        match answer(rt.alloc(), &mut desk, line.as_str()) {
+        match answer(rt.alloc(), desk, line.as_str()) {
             Ok(text) => println!(rt; "{line} = {text}")?,
             Err(Fault::Memory) => println!(rt; "{line}: out of memory")?,
             Err(Fault::NoCase) => println!(rt; "{line}: no such case")?,
@@ -148,7 +154,7 @@ fn tried(rt: HostRuntime, mut desk: Desk) -> io::Result<()> {
 
 fn main(rt: HostRuntime) -> io::Result<()> {
     match Desk::new(rt.alloc()) {
-        Ok(desk) => tried(rt, desk),
+        Ok(mut desk) => tried(rt, &mut desk),
         Err(_) => println!(rt; "out of memory"),
     }
 }

@@ -1,17 +1,16 @@
 -- How edits are made in vectors.
-use Rattle.std.specs.Prelude.{◌≡◌, ◌≤◌, ◌+◌, ℕ, List, [], ◌∷◌, Option, not, length, take, drop, vec_capacity, Vec}
+use Rattle.std.specs.Prelude.{◌≡◌, ◌≤◌, ◌<◌, ◌+◌, ℕ, Bool, true, false, List, [], ◌∷◌, not, length, take, drop, vec_capacity}
 use Rattle.std.specs.List.{filter}
-use Rattle.std.specs.Str.{bytes_eq}
 use Rattle.std.specs.declared.cmp.Ordering.{Ordering}
 use Rattle.std.specs.Ordering.{is_lt}
-use Rattle.au_base.specs.Sameness.{same_table}
-use Rattle.au_entries.specs.declared.change.Change.TheVariants as change
-use Rattle.au_entries.specs.Changing.{by_fields, by_name, enabled_after, fga_fields, is_fga, put_in_order, table_fields, with_enablement}
-use Rattle.au_grants.specs.Changing.{without}
 use Rattle.au_catalog.specs.declared.catalog.Catalog.{Catalog}
+use Rattle.au_catalog.specs.declared.counts.Counts.{Counts}
 use Rattle.au_catalog.specs.declared.edit.Edit.{Edit}
-use Rattle.au_catalog.specs.declared.edit.Edit.TheVariants.{PutUser, DropUser, PutRole, DropRole, PutTable, DropTable, PutPolicy, DropPolicy, Enable, PutFga, DropFga, SetArchive}
+use Rattle.au_catalog.specs.declared.edit.Edit.TheVariants.{PutUser, PutRole, PutTable, PutPolicy, Enable, PutFga}
+use Rattle.au_catalog.specs.declared.kind.Kind.{Kind}
+use Rattle.au_catalog.specs.declared.kind.Kind.TheVariants as K
 use Rattle.au_catalog.specs.declared.lists.CatalogLists.{CatalogLists}
+use Rattle.au_catalog.specs.Staging.{Staged}
 
 -- before the place stand the lesser entries, and from it on the others
 pub record IsPlace {X : Type 0} (order : X → Ordering) (entries : List X) (place : ℕ) : Type 0 where
@@ -23,63 +22,85 @@ pub record IsPlace {X : Type 0} (order : X → Ordering) (entries : List X) (pla
 abbrev pub listed : CatalogLists → Catalog
 listed lists = record { users = lists.users.items; roles = lists.roles.items; tables = lists.tables.items; policies = lists.policies.items; enabled = lists.enabled.items; fga = lists.fga.items; archive = lists.archive }
 
--- the catalogue after an edit
-abbrev pub edited : Edit → Catalog → Catalog
-edited (PutUser name verifier) catalog = record catalog { users = put_in_order (λ user. by_name user.0 name) (name, verifier) catalog.users }
-edited (DropUser name) catalog = record catalog { users = without (λ user. bytes_eq user.0 name) catalog.users; enabled = enabled_after (change.UserGone name) catalog.enabled }
-edited (PutRole name) catalog = record catalog { roles = put_in_order (λ other. by_name other name) name catalog.roles }
-edited (DropRole name) catalog = record catalog { roles = without (λ other. bytes_eq other name) catalog.roles }
-edited (PutTable table) catalog = record catalog { tables = put_in_order (λ other. by_fields (table_fields other.name) (table_fields table.name)) table catalog.tables }
-edited (DropTable name) catalog =
-    record catalog { tables = without (λ other. same_table other.name name) catalog.tables; fga = without (λ other. same_table other.name.table name) catalog.fga }
-edited (PutPolicy policy) catalog = record catalog { policies = put_in_order (λ other. by_name other.name policy.name) policy catalog.policies }
-edited (DropPolicy name) catalog = record catalog { policies = without (λ other. bytes_eq other.name name) catalog.policies }
-edited (Enable policy enabled) catalog = record catalog { enabled = with_enablement policy enabled catalog.enabled }
-edited (PutFga policy) catalog =
-    record catalog { fga = put_in_order (λ other. by_fields (fga_fields other.name.table other.name.policy) (fga_fields policy.name.table policy.name.policy)) policy catalog.fga }
-edited (DropFga table policy) catalog = record catalog { fga = without (is_fga table policy) catalog.fga }
-edited (SetArchive stamp) catalog = record catalog { archive = stamp }
+-- the edit puts an entry into this list
+abbrev pub puts : Kind → Edit → Bool
+puts K.User (PutUser name verifier) = true
+puts K.Role (PutRole name) = true
+puts K.Table (PutTable table) = true
+puts K.Policy (PutPolicy policy) = true
+puts K.Enablement (Enable policy enabled) = true
+puts K.FineGrained (PutFga policy) = true
+puts _ _ = false
 
--- the catalogue after all edits, in their order
-abbrev pub edited_all : List Edit → Catalog → Catalog
-edited_all [] catalog = catalog
-edited_all (edit ∷ edits) catalog = edited_all edits (edited edit catalog)
+-- how many of the edits put an entry into this list
+abbrev pub put_count : Kind → List Edit → ℕ
+put_count kind edits = length (filter (puts kind) edits)
 
--- each vector has room for so many entries more
-pub record HasRoom (more : ℕ) (lists : CatalogLists) : Type 0 where
-  pub users : length lists.users.items + more ≤ vec_capacity lists.users
-  pub roles : length lists.roles.items + more ≤ vec_capacity lists.roles
-  pub tables : length lists.tables.items + more ≤ vec_capacity lists.tables
-  pub policies : length lists.policies.items + more ≤ vec_capacity lists.policies
-  pub enabled : length lists.enabled.items + more ≤ vec_capacity lists.enabled
-  pub fga : length lists.fga.items + more ≤ vec_capacity lists.fga
+-- each vector has room for what the edits put into it
+pub record HasRoom (edits : List Edit) (lists : CatalogLists) : Type 0 where
+  pub users : length lists.users.items + put_count K.User edits ≤ vec_capacity lists.users
+  pub roles : length lists.roles.items + put_count K.Role edits ≤ vec_capacity lists.roles
+  pub tables : length lists.tables.items + put_count K.Table edits ≤ vec_capacity lists.tables
+  pub policies : length lists.policies.items + put_count K.Policy edits ≤ vec_capacity lists.policies
+  pub enabled : length lists.enabled.items + put_count K.Enablement edits ≤ vec_capacity lists.enabled
+  pub fga : length lists.fga.items + put_count K.FineGrained edits ≤ vec_capacity lists.fga
 
--- an edit leaves the vectors as large as they are, with one entry more at most
-pub record KeepsRoom (lists later : CatalogLists) : Type 0 where
+-- an edit leaves the vectors as large as they are, with no more entries than it puts in
+pub record KeepsRoom (edit : Edit) (lists later : CatalogLists) : Type 0 where
   pub users : vec_capacity later.users ≡ vec_capacity lists.users
   pub roles : vec_capacity later.roles ≡ vec_capacity lists.roles
   pub tables : vec_capacity later.tables ≡ vec_capacity lists.tables
   pub policies : vec_capacity later.policies ≡ vec_capacity lists.policies
   pub enabled : vec_capacity later.enabled ≡ vec_capacity lists.enabled
   pub fga : vec_capacity later.fga ≡ vec_capacity lists.fga
-  pub more_users : length later.users.items ≤ length lists.users.items + 1
-  pub more_roles : length later.roles.items ≤ length lists.roles.items + 1
-  pub more_tables : length later.tables.items ≤ length lists.tables.items + 1
-  pub more_policies : length later.policies.items ≤ length lists.policies.items + 1
-  pub more_enabled : length later.enabled.items ≤ length lists.enabled.items + 1
-  pub more_fga : length later.fga.items ≤ length lists.fga.items + 1
+  pub more_users : length later.users.items ≤ length lists.users.items + put_count K.User (edit ∷ [])
+  pub more_roles : length later.roles.items ≤ length lists.roles.items + put_count K.Role (edit ∷ [])
+  pub more_tables : length later.tables.items ≤ length lists.tables.items + put_count K.Table (edit ∷ [])
+  pub more_policies : length later.policies.items ≤ length lists.policies.items + put_count K.Policy (edit ∷ [])
+  pub more_enabled : length later.enabled.items ≤ length lists.enabled.items + put_count K.Enablement (edit ∷ [])
+  pub more_fga : length later.fga.items ≤ length lists.fga.items + put_count K.FineGrained (edit ∷ [])
 
--- the vectors are empty, with room for so many entries each
-pub record AreSpared (users roles tables policies enabled fga : ℕ) (lists : CatalogLists) : Type 0 where
-  pub no_users : lists.users.items ≡ []
-  pub no_roles : lists.roles.items ≡ []
-  pub no_tables : lists.tables.items ≡ []
-  pub no_policies : lists.policies.items ≡ []
-  pub no_enabled : lists.enabled.items ≡ []
-  pub no_fga : lists.fga.items ≡ []
-  pub for_users : users ≤ vec_capacity lists.users
-  pub for_roles : roles ≤ vec_capacity lists.roles
-  pub for_tables : tables ≤ vec_capacity lists.tables
-  pub for_policies : policies ≤ vec_capacity lists.policies
-  pub for_enabled : enabled ≤ vec_capacity lists.enabled
-  pub for_fga : fga ≤ vec_capacity lists.fga
+-- the vectors are empty
+pub record AreEmpty (lists : CatalogLists) : Type 0 where
+  pub users : lists.users.items ≡ []
+  pub roles : lists.roles.items ≡ []
+  pub tables : lists.tables.items ≡ []
+  pub policies : lists.policies.items ≡ []
+  pub enabled : lists.enabled.items ≡ []
+  pub fga : lists.fga.items ≡ []
+
+-- where some more entries come to those of a list, this many in all have room
+abbrev pub Holds : ℕ → ℕ → ℕ → Type 0
+Holds standing more capacity = 0 < more → standing + more ≤ capacity
+
+-- each vector that the edits put something into has room for that and for so many entries of its list
+pub record AreSpared (counts : Counts) (edits : List Edit) (lists : CatalogLists) : Type 0 where
+  pub users : Holds counts.users (put_count K.User edits) (vec_capacity lists.users)
+  pub roles : Holds counts.roles (put_count K.Role edits) (vec_capacity lists.roles)
+  pub tables : Holds counts.tables (put_count K.Table edits) (vec_capacity lists.tables)
+  pub policies : Holds counts.policies (put_count K.Policy edits) (vec_capacity lists.policies)
+  pub enabled : Holds counts.enabled (put_count K.Enablement edits) (vec_capacity lists.enabled)
+  pub fga : Holds counts.fga (put_count K.FineGrained edits) (vec_capacity lists.fga)
+
+-- so many entries the lists of the catalogue have
+abbrev pub counts_in : Catalog → Counts
+counts_in catalog = record {
+  users = length catalog.users;
+  roles = length catalog.roles;
+  tables = length catalog.tables;
+  policies = length catalog.policies;
+  enabled = length catalog.enabled;
+  fga = length catalog.fga;
+}
+
+-- what is ready to be made, with these edits and these counts
+abbrev pub staged_from : List Edit → Counts → Staged
+staged_from edits counts = record {
+  edits = edits;
+  users = counts.users;
+  roles = counts.roles;
+  tables = counts.tables;
+  policies = counts.policies;
+  enabled = counts.enabled;
+  fga = counts.fga;
+}

@@ -2,8 +2,9 @@
 -- list; what is searched for are the first grants to those whose rights the user has.
 use Rattle.std.specs.Prelude.{◌≡◌, ◌≢◌, ◌≤◌, ◌<◌, ℕ, List, [], Bool, true, false, length, slice_index_or}
 use Rattle.std.specs.List.{filter}
-use Rattle.au_grants.specs.Holding.{IsGranted}
+use Rattle.au_grants.specs.descent.Direct.{IsGranted}
 use Rattle.au_grants.specs.declared.right.Sought.{Sought}
+use Rattle.au_grants.specs.declared.right.Sought.TheVariants.{Role, RoleWithAdmin, AnyTable}
 use Rattle.au_grants.specs.Rights.{Grants, Name, RoleEntry, IsRoleGranted, IsHolder, HoldsRole}
 
 -- the grantee of the grant at the place
@@ -73,10 +74,30 @@ pub record IsReach (roles : List RoleEntry) (user : Name) (queue : List ℕ) (co
   pub start : IsQueued roles queue count user
   pub closed : (k : ℕ) (role : Name) → k < count → IsRoleGranted roles (grantee_at roles (queued_at queue k)) role → IsQueued roles queue count role
 
--- the right is granted to a role that is granted to the name
-abbrev pub IsGrantedBehind : Grants → Name → Sought → Type 0
-IsGrantedBehind grants name right = (role : Name) × IsRoleGranted grants.role name role × IsGranted grants role right
+-- the right at the place in the list
+abbrev pub right_at : List Sought → ℕ → Sought
+right_at rights place = slice_index_or rights place AnyTable
 
--- the right is granted to a role that the user holds
-abbrev pub HasByRole : Grants → Name → Sought → Type 0
-HasByRole grants user right = (role : Name) × HoldsRole grants.role user role × IsGranted grants role right
+-- whether the grant at the place has the admin option
+abbrev pub admin_at : List RoleEntry → ℕ → Bool
+admin_at roles place = (slice_index_or roles place ([], [], false)).2
+
+-- the grant of a role at the place gives the right: it is the role that is looked for, or the right is granted to the role
+abbrev pub IsGivenAt : Grants → ℕ → Sought → Type 0
+IsGivenAt grants at (Role role) = role_at grants.role at ≡ role.now
+IsGivenAt grants at (RoleWithAdmin role) = (role_at grants.role at ≡ role.now) × (admin_at grants.role at ≡ true)
+IsGivenAt grants at right = IsGranted grants (role_at grants.role at) right
+
+-- a grant to the user or to a held role gives the right
+abbrev pub IsGivenByRole : Grants → Name → Sought → Type 0
+IsGivenByRole grants user right = (at : ℕ) × (at < length grants.role) × IsHolder grants.role user (grantee_at grants.role at) × IsGivenAt grants at right
+
+-- a grant to the grantee of the one at the place gives the right
+abbrev pub IsGivenBehind : Grants → ℕ → Sought → Type 0
+IsGivenBehind grants place right = (at : ℕ) × (at < length grants.role) × (grantee_at grants.role at ≡ grantee_at grants.role place) × IsGivenAt grants at right
+
+-- the first number below the limit of which P is so, or the limit where there is none
+pub record IsFirstOf (P : ℕ → Type 0) (limit first : ℕ) : Type 0 where
+  pub within : first ≤ limit
+  pub none : (j : ℕ) → j < first → ¬ P j
+  pub found : first < limit → P first

@@ -2,7 +2,7 @@ use Rattle.std.proofs.Common.{◌≡◌, ◌↔◌, ◌∙◌, sym, ap, subst, B
 use Rattle.std.specs.List.{list_any}
 use Rattle.au_grants.specs.declared.grants.Grants.{Grants}
 use Rattle.au_grants.specs.declared.right.Sought.{Sought}
-use Rattle.au_grants.specs.Holding.{IsGranted}
+use Rattle.au_grants.specs.descent.Direct.{IsGranted}
 use Rattle.au_grants.specs.Rights.{Name}
 use Rattle.au_grants.proofs.Entries.{role_granted, role_administered, privilege_granted, privilege_administered, any_table_granted, object_granted, some_object_granted}
 use Rattle.au_grants.proofs.direct.is_granted.Goals as goal

@@ -1,32 +1,32 @@
-use Rattle.std.proofs.Common.{◌≡◌, ◌∙◌, ◌≤◌, refl, arith}
-use Rattle.au_image.specs.Image.{image_changes, kept_of}
+use Rattle.std.proofs.Common.{◌≡◌, ◌∙◌, ◌≤◌, sym, arith}
+use Rattle.au_image.specs.Image.{image_changes, kept_of, kept_rows}
 use Rattle.au_image.proofs.Pieces.{changes_told, image_held, no_change, records_done, records_wait}
 use Rattle.au_image.proofs.imaging.image.Goals as goal
 
 pub new-requires : goal.new-requires
-new-requires c = c.requires.last
+new-requires c = c.requires.writable.last
 
-pub write_changes-requires : goal.write_changes-requires
-write_changes-requires c = (c.in_ok-writer.ensures.changes ∙ (c.in_ok-changes.ensures ∙ c.count_changes.ensures c.args.rows.now refl c.args.instance), c.requires.changes)
+pub write_changes-requires-clause-ready : goal.write_changes-requires-clause-ready
+write_changes-requires-clause-ready c = (c.in_ok-writer.ensures.changes ∙ (c.in_ok-changes.ensures.ok ∙ c.count_changes.ensures (kept_rows c.args.desk.now) (sym c.in_ok-rows.ensures) c.args.instance), c.requires.writable.spelled.entries)
 
 pub write_records-requires-clause-changes : goal.write_records-requires-clause-changes
 write_records-requires-clause-changes c =
-    changes_told _ _ _ _ _ c.in_ok-writer.ensures.changes c.in_ok-changes.ensures (c.count_changes.ensures c.args.rows.now refl c.args.instance) c.in_ok-write_changes.ensures
+    changes_told _ _ _ _ _ c.in_ok-writer.ensures.changes c.in_ok-changes.ensures.ok (c.count_changes.ensures (kept_rows c.args.desk.now) (sym c.in_ok-rows.ensures) c.args.instance) c.in_ok-write_changes.ensures
 
 pub write_records-requires-clause-left : goal.write_records-requires-clause-left
-write_records-requires-clause-left c = records_wait _ _ _ c.args.trail.now _ c.in_ok-writer.ensures.records c.in_ok-records.ensures c.in_ok-write_changes.ensures
+write_records-requires-clause-left c = records_wait _ _ _ c.args.trail.now _ c.in_ok-writer.ensures.records c.in_ok-records.ensures.ok c.in_ok-write_changes.ensures
 
 pub write_records-requires-clause-spellable : goal.write_records-requires-clause-spellable
-write_records-requires-clause-spellable c = c.requires.records
+write_records-requires-clause-spellable c = c.requires.writable.spelled.records
 
 pub finish-requires-clause-changes : goal.finish-requires-clause-changes
 finish-requires-clause-changes c =
     no_change _ _ _
-    (changes_told _ _ _ _ _ c.in_ok-writer.ensures.changes c.in_ok-changes.ensures (c.count_changes.ensures c.args.rows.now refl c.args.instance) c.in_ok-write_changes.ensures)
+    (changes_told _ _ _ _ _ c.in_ok-writer.ensures.changes c.in_ok-changes.ensures.ok (c.count_changes.ensures (kept_rows c.args.desk.now) (sym c.in_ok-rows.ensures) c.args.instance) c.in_ok-write_changes.ensures)
     c.in_ok-write_records.ensures
 
 pub finish-requires-clause-records : goal.finish-requires-clause-records
-finish-requires-clause-records c = records_done _ _ _ _ _ _ c.in_ok-writer.ensures.records c.in_ok-records.ensures c.in_ok-write_changes.ensures c.in_ok-write_records.ensures
+finish-requires-clause-records c = records_done _ _ _ _ _ _ c.in_ok-writer.ensures.records c.in_ok-records.ensures.ok c.in_ok-write_changes.ensures c.in_ok-write_records.ensures
 
 pub returns-clause-bytes : goal.returns-clause-bytes
 returns-clause-bytes c = c.in_ok-bytes.ensures.bytes _ _ _ (image_held _ _ _ _ _ _ c.in_ok-writer.ensures.holds c.in_ok-write_changes.ensures c.in_ok-write_records.ensures)

@@ -35,4 +35,4 @@ pub write_start-requires-clause-left : goal.write_start-requires-clause-left
 write_start-requires-clause-left c = one_left _ (Start c.args.instance) (rest_ready (archive_changes c.args.catalog.now.archive) (Start c.args.instance ∷ []) _ _ (step fga_change c.args.catalog.now.fga _ (behind_fga c.args.catalog.now c.args.instance) _ _ (step enablement_change c.args.catalog.now.enabled _ (behind_enabled c.args.catalog.now c.args.instance) _ _ (step policy_change c.args.catalog.now.policies _ (behind_policies c.args.catalog.now c.args.instance) _ _ (c.requires) c.as_slice.ensures c.in_ok-write_group.ensures) c.as_slice-2.ensures c.in_ok-write_group-2.ensures) c.as_slice-3.ensures c.in_ok-write_group-3.ensures) c.in_ok-write_archive.ensures)
 
 pub returns : goal.returns
-returns c = joins policy_change c.args.catalog.now.policies _ (behind_policies c.args.catalog.now c.args.instance) _ _ _ c.as_slice.ensures c.in_ok-write_group.ensures (joins enablement_change c.args.catalog.now.enabled _ (behind_enabled c.args.catalog.now c.args.instance) _ _ _ c.as_slice-2.ensures c.in_ok-write_group-2.ensures (joins fga_change c.args.catalog.now.fga _ (behind_fga c.args.catalog.now c.args.instance) _ _ _ c.as_slice-3.ensures c.in_ok-write_group-3.ensures (both_changes _ _ _ (archive_changes c.args.catalog.now.archive) (Start c.args.instance ∷ []) c.in_ok-write_archive.ensures c.in_ok-write_start.ensures)))
+returns c = joins c.writes_join.ensures policy_change c.args.catalog.now.policies _ (behind_policies c.args.catalog.now c.args.instance) _ _ _ c.as_slice.ensures c.in_ok-write_group.ensures (joins c.writes_join.ensures enablement_change c.args.catalog.now.enabled _ (behind_enabled c.args.catalog.now c.args.instance) _ _ _ c.as_slice-2.ensures c.in_ok-write_group-2.ensures (joins c.writes_join.ensures fga_change c.args.catalog.now.fga _ (behind_fga c.args.catalog.now c.args.instance) _ _ _ c.as_slice-3.ensures c.in_ok-write_group-3.ensures (both_changes c.writes_join.ensures _ _ _ (archive_changes c.args.catalog.now.archive) (Start c.args.instance ∷ []) c.in_ok-write_archive.ensures c.in_ok-write_start.ensures)))

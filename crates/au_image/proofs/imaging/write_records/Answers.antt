@@ -1,9 +1,8 @@
-use Rattle.rec_codec.specs.ImageLaws.{none_wrote}
 use Rattle.au_image.proofs.Pieces.{all_records, no_change, one_record, record_at, some_records_left}
 use Rattle.au_image.proofs.imaging.write_records.Goals as goal
 
 pub loop-entry-init : goal.loop-entry-init
-loop-entry-init c = none_wrote _
+loop-entry-init c = c.writes_join.ensures.none _
 
 pub push_record-requires-clause-spellable : goal.push_record-requires-clause-spellable
 push_record-requires-clause-spellable c = record_at c.args.trail.now c.loop-entry.entry-index _ c.loop-entry-test.true c.entry-item.is c.requires.spellable
@@ -15,7 +14,7 @@ pub push_record-requires-clause-left : goal.push_record-requires-clause-left
 push_record-requires-clause-left c = some_records_left c.args.trail.now _ _ c.loop-entry.entry-index c.loop-entry-test.true c.requires.left c.loop-entry.invariant
 
 pub loop-entry-preserved : goal.loop-entry-preserved
-loop-entry-preserved c = one_record c.args.trail.now _ _ _ c.loop-entry.entry-index _ c.loop-entry-test.true c.entry-item.is c.loop-entry.invariant c.in_ok-push_record.ensures
+loop-entry-preserved c = one_record c.writes_join.ensures c.args.trail.now _ _ _ c.loop-entry.entry-index _ c.loop-entry-test.true c.entry-item.is c.loop-entry.invariant c.in_ok-push_record.ensures
 
 pub returns : goal.returns
 returns c = all_records c.args.trail.now _ _ c.loop-entry.entry-index c.loop-entry-test.false c.loop-entry.invariant

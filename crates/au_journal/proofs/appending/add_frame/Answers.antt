@@ -3,7 +3,7 @@ use Rattle.au_io.specs.Moments.{Leaves, LeavesSince, at_last, both_calls}
 use Rattle.au_journal.specs.Frames.{front, spelled, framed_of}
 use Rattle.au_journal.specs.Images.{Closed, Staged, Doubted, EndsIn, In, MayStandFor}
 use Rattle.au_journal.proofs.Leaving.{from_ok}
-use Rattle.au_journal.proofs.Steps.{gate_leaves, gate_within, frame_read, closed_since, doubted_since, appended_settled}
+use Rattle.au_journal.proofs.Steps.{gate_leaves, frame_read, closed_since, doubted_since, appended_settled}
 use Rattle.au_journal.proofs.appending.add_frame.Goals as goal
 
 pub returns-then-is_err-clause-doubted : goal.returns-then-is_err-clause-doubted
@@ -99,13 +99,11 @@ returns-clause-any_moment g c = λ told bodies body is settled.
 
 pub returns-clause-reads : goal.returns-clause-reads
 returns-clause-reads g c = λ told.
-    let laws = g.met.D.Disk g.world.𝓛 g.world.𝓜 g.world.𝓡 ((λ s x. x), (λ x. x), (λ x. x), λ x. x) in
     let seat = c.args.seat in
     let old = g.D.Disk.meaning c.args.disk.now in
     let mid = g.D.Disk.meaning c.stage.new.disk in
     let new = g.D.Disk.meaning c.open_gate.new.disk in
-    let was = c.requires.stands told in
-    frame_read seat.area seat.used c.args.framed.now old.reads mid.reads new.reads (gate_within seat was.0 old (laws.reads_is_image c.args.disk.now told) c.requires.gated was.1)
+    frame_read seat.area seat.used c.args.framed.now old.reads mid.reads new.reads (c.requires.within told)
     (from_ok c.stage.result _ c.if-is_err.ensures.value (c.stage.ensures.reads told)) (from_ok c.open_gate.result _ c.if-is_err-2.ensures.value (c.open_gate.ensures.reads told))
 
 pub returns-clause-safe : goal.returns-clause-safe

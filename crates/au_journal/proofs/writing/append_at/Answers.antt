@@ -1,10 +1,10 @@
-use Rattle.std.proofs.Common.{◌≡◌, Bool, true, OnOk, [], ◌∷◌, ◌++◌, sym, ◌∙◌, subst}
+use Rattle.std.proofs.Common.{◌≡◌, Bool, true, OnOk, [], ◌∷◌, ◌++◌, sym, subst}
 use Rattle.au_io.specs.Moments.{LeavesSince, both_calls}
 use Rattle.au_journal.specs.declared.seat.Seat.{Seat}
 use Rattle.au_journal.specs.Images.{IsSafe, MayStandFor}
 use Rattle.au_journal.specs.Seats.{with_frame}
 use Rattle.au_journal.proofs.Leaving.{on_ok}
-use Rattle.au_journal.proofs.Steps.{bare_within, gate_then_frame, true_since}
+use Rattle.au_journal.proofs.Steps.{gate_then_frame, true_since}
 use Rattle.au_journal.proofs.writing.append_at.Goals as goal
 
 pub returns-in-Ok-clause-any_moment : goal.returns-in-Ok-clause-any_moment
@@ -23,15 +23,13 @@ returns-in-Ok-clause-any_moment g c = λ told bodies body is settled.
 
 pub returns-in-Ok-clause-reads : goal.returns-in-Ok-clause-reads
 returns-in-Ok-clause-reads g c = λ told.
-    let laws = g.met.D.Disk g.world.𝓛 g.world.𝓜 g.world.𝓡 ((λ s x. x), (λ x. x), (λ x. x), λ x. x) in
     let seat = c.args.seat in
     let old = g.D.Disk.meaning c.args.disk.now in
     let mid = g.D.Disk.meaning c.close_end.new.disk in
     let new = g.D.Disk.meaning c.add_frame.new.disk in
-    let was = c.requires.stands told in
     let Q : Seat → Type 0 = λ s. OnOk c.add_frame.result (new.reads ≡ with_frame s c.args.framed.now mid.reads) in
     on_ok c.add_frame.result _ _ (λ reads.
-    gate_then_frame seat.area seat.used c.args.framed.now old.reads mid.reads new.reads (bare_within seat was.0 old (laws.reads_is_image c.args.disk.now told) c.if-seat.true was.1) (c.in-Ok.ensures.reads told) reads)
+    gate_then_frame seat.area seat.used c.args.framed.now old.reads mid.reads new.reads (c.requires.within told) (c.in-Ok.ensures.reads told) reads)
     (subst Q c.in-Ok.ensures.advances (c.add_frame.ensures.reads told))
 
 pub returns-in-Ok-clause-safe : goal.returns-in-Ok-clause-safe

@@ -1,9 +1,9 @@
-use Rattle.std.proofs.Common.{List, false, subst, sym, ◌≡◌, ◌∙◌}
-use Rattle.std.specs.List.{list_any}
-use Rattle.au_grants.specs.Changing.{role_to}
-use Rattle.au_grants.specs.Rights.{RoleEntry}
+use Rattle.std.proofs.Common.{inl, inr, refl}
+use Rattle.au_priv.proofs.FirstHeld.{nothing, something}
 use Rattle.au_priv.proofs.allowing.refusal.Goals as goal
 
-pub refusal_found-requires : goal.refusal_found-requires
-refusal_found-requires c =
-    c.searches_without_grants_find_none.ensures _ c.args.user.now (subst (λ (rs : List RoleEntry). list_any (role_to c.args.user.now) rs ≡ false) c.role_grants-roles.ensures.value (sym c.is_grantee.ensures ∙ c.if-not-is_grantee.true))
+pub returns-in-Some : goal.returns-in-Some
+returns-in-Some c = inl (something c.args.grants.now c.args.user.now c.args.table.now _ c.in-Some.field-0 (λ holds. holds) ((c.in-Some.ensures.some c.in-Some.field-0).0 refl), refl)
+
+pub returns-in-None : goal.returns-in-None
+returns-in-None c = inr (nothing c.args.grants.now c.args.user.now c.args.table.now _ (λ has. has) (c.in-None.ensures.none.0 refl), refl)

@@ -1,7 +1,7 @@
 use Rattle.std.proofs.Common.{take, Ok}
 use Rattle.std.specs.List.{flat_map}
 use Rattle.au_priv.specs.Pairs.{object_pair}
-use Rattle.au_priv.specs.Walking.{Walked}
+use Rattle.au_priv.specs.descent.Progressing.{Walked}
 use Rattle.au_priv.proofs.Walks.{single}
 use Rattle.au_priv.proofs.walking.walk_object_right.Given as goal
 

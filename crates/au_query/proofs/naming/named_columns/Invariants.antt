@@ -7,5 +7,5 @@ use Rattle.au_query.proofs.naming.named_columns.Given as goal
 
 abbrev pub invariant-loop-number : goal.invariant-loop-number
 invariant-loop-number l =
-    l.names ++ map (λ (column : ℕ × Column). column.1.name) (filter (is_named (trees_in_plan l.plan) l.range) (enumerate_from l.number (drop l.number l.columns)))
-    ≡ map (λ (column : ℕ × Column). column.1.name) (filter (is_named (trees_in_plan l.plan) l.range) (enumerate_from 0 l.columns))
+    l.names ++ map (λ (column : ℕ × Column). column.1.name) (filter (is_named (trees_in_plan l.plan) l.places) (enumerate_from l.number (drop l.number l.columns)))
+    ≡ map (λ (column : ℕ × Column). column.1.name) (filter (is_named (trees_in_plan l.plan) l.places) (enumerate_from 0 l.columns))

@@ -8,4 +8,4 @@ use Rattle.au_query.proofs.touching.numbers_at.Given as goal
 
 abbrev pub invariant-loop-combo : goal.invariant-loop-combo
 invariant-loop-combo l =
-    (number : RowNo) → (contains nat_cmp l.there number.0 || list_any (stands_in l.range number) (drop l.combo-index l.combos)) ≡ list_any (stands_in l.range number) l.combos
+    (number : RowNo) → (contains nat_cmp l.there number.0 || list_any (stands_in l.places number) (drop l.combo-index l.combos)) ≡ list_any (stands_in l.places number) l.combos

@@ -5,5 +5,5 @@ use Rattle.au_query.proofs.touching.touched_rows.Given as goal
 
 abbrev pub invariant-loop-number : goal.invariant-loop-number
 invariant-loop-number l =
-    l.numbers ++ map (λ (line : Line). line.0) (filter (takes_part l.combos l.range) (lines (drop l.number-index l.rows)))
-    ≡ map (λ (line : Line). line.0) (filter (takes_part l.combos l.range) (lines l.rows))
+    l.numbers ++ map (λ (line : Line). line.0) (filter (takes_part l.combos l.places) (lines (drop l.number-index l.rows)))
+    ≡ map (λ (line : Line). line.0) (filter (takes_part l.combos l.places) (lines l.rows))

@@ -1,27 +1,26 @@
 use Rattle.std.proofs.Common.{◌≡◌, ◌∙◌, true, ◌∷◌, sym, refl, arith}
 use Rattle.std.specs.List.{list_all}
-use Rattle.au_rows.specs.Kept.{is_owned, is_logged, place_left}
+use Rattle.au_rows.specs.Kept.{is_owned, is_logged}
 use Rattle.au_rows.proofs.AllLemmas.{ended-none, ended-step}
 use Rattle.au_rows.proofs.EndLemmas.{loose-frees, kept-is-loose}
-use Rattle.au_rows.proofs.FrontLemmas.{all-front, front-less}
 use Rattle.au_rows.proofs.TakenLemmas.{all-others, ended-all, taken-all, taken-first, taken-length, taken-others}
 use Rattle.au_rows.proofs.ends.end_all.Goals as goal
 
 pub loop-change-init : goal.loop-change-init
 loop-change-init c = record {
-  left = λ h. all-front place_left c.args.places.now.items _ h;
-  ended = ended-none c.args.ending c.args.by c.args.changes.now.listed c.args.places.now.items c.args.versions.now.slots c.requires.order c.requires.whole c.requires.covered;
+  left = c.requires.left;
+  ended = ended-none c.args.ending c.args.by c.args.changes.now.listed c.args.places.now.listed c.args.versions.now.slots c.requires.order c.requires.whole c.requires.covered;
   others = refl;
   logged = c.requires.logged;
   owned = c.requires.owned;
   room = omega arith;
-  len = omega arith;
-  capacity = omega arith;
+  places_room = refl;
+  tables = refl;
   changes_room = omega arith;
 }
 
-pub end_change-next-requires-clause-loose : goal.end_change-next-requires-clause-loose
-end_change-next-requires-clause-loose c =
+pub end_change-requires-clause-loose : goal.end_change-requires-clause-loose
+end_change-requires-clause-loose c =
     let change = c.in-Some.change in
     let before = c.args.versions.now.slots in
     let left = c.pop.new.self.listed in
@@ -34,7 +33,7 @@ pub loop-change-preserved : goal.loop-change-preserved
 loop-change-preserved c =
     let change = c.in-Some.change in
     let before = c.args.versions.now.slots in
-    let places = c.args.places.now.items in
+    let places = c.args.places.now.listed in
     let old = c.loop-change.changes.listed in
     let left = c.pop.new.self.listed in
     let taken = c.in-Some.ensures.taken in
@@ -47,19 +46,17 @@ loop-change-preserved c =
     let most = i.changes_room in
     let room = c.pop.ensures.room in
     let versions_room = i.room in
-    let len = i.len in
-    let capacity = i.capacity in
     record {
-      left = λ h. c.end_change-next.ensures.left c.min-bare.result (omega arith) (front-less place_left c.loop-change.places.items c.min-bare.result c.loop-change.bare (omega arith) (i.left h));
-      ended = ended-step c.args.ending c.args.by change left c.args.changes.now.listed places c.loop-change.places.items c.end_change-next.new.places.items before c.loop-change.versions.slots c.end_change-next.new.versions.slots
-          (taken-first c.args.by change old left taken c.args.ending c.args.changes.now.listed places c.loop-change.places.items before c.loop-change.versions.slots i.ended)
-          first taken.own c.end_change-next.ensures.gone c.end_change-next.ensures.row;
+      left = c.end_change.ensures.left;
+      ended = ended-step c.args.ending c.args.by change left c.args.changes.now.listed places c.loop-change.places.listed c.end_change.new.places.listed before c.loop-change.versions.slots c.end_change.new.versions.slots
+          (taken-first c.args.by change old left taken c.args.ending c.args.changes.now.listed places c.loop-change.places.listed before c.loop-change.versions.slots i.ended)
+          first taken.own c.end_change.ensures.gone c.end_change.ensures.row;
       others = taken-others c.args.by change old left taken ∙ i.others;
       logged = logged;
       owned = owned;
       room = omega arith;
-      len = omega arith;
-      capacity = omega arith;
+      places_room = c.end_change.ensures.places_room ∙ i.places_room;
+      tables = c.end_change.ensures.tables ∙ i.tables;
       changes_room = omega arith;
     }
 
@@ -68,7 +65,7 @@ loop-change-smaller c = let less = taken-length c.args.by c.in-Some.change c.loo
 
 pub returns-clause-ended : goal.returns-clause-ended
 returns-clause-ended c =
-    ended-all c.args.ending c.args.by c.loop-change.changes.listed c.args.changes.now.listed c.args.places.now.items c.loop-change.places.items c.args.versions.now.slots c.loop-change.versions.slots
+    ended-all c.args.ending c.args.by c.loop-change.changes.listed c.args.changes.now.listed c.args.places.now.listed c.loop-change.places.listed c.args.versions.now.slots c.loop-change.versions.slots
     c.in_default.ensures.none c.loop-change.invariant.ended
 
 pub returns-clause-others : goal.returns-clause-others

@@ -9,5 +9,5 @@ use Rattle.au_rows.proofs.keys.has_committed_key.Goals as goal
 pub returns : goal.returns
 returns c =
     subst (λ (content : Option (List Cell)). IsTrue c.has_key_in.result ↔ HasKey c.args.asked.now.places.now c.args.asked.now.key.now content)
-    (ap (content_at c.args.versions.now.slots) c.find_settled-slot.ensures ∙ settled-found c.args.versions.now.slots c.args.change.now.table c.args.change.now.number c.args.places.now)
+    (ap (content_at c.args.versions.now.slots) c.settled-slot.ensures ∙ settled-found c.args.versions.now.slots c.args.change.now.table c.args.change.now.number c.args.places.now.listed)
     c.has_key_in.ensures

@@ -14,10 +14,10 @@ returns-in-Some-get-clause-some c =
     let found = c.in-Some.ensures.some in
     let both : Some found.0 ≡ Some version = sym found.1 ∙ is in
     let same : found.0 ≡ version = cc in
-    let match_it = subst (λ (v : Version). IsMatch (Other c.args.row) c.args.places.now asked.table asked.places.now asked.key.now asked.by c.in-Some.slot v) same found.2 in
-    other-some slots asked.by asked.table c.args.row c.args.places.now asked.places.now asked.key.now c.in-Some.slot version is match_it
+    let match_it = subst (λ (v : Version). IsMatch (Other c.args.row) c.args.places.now.listed asked.table asked.places.now asked.key.now asked.by c.in-Some.slot v) same found.2 in
+    other-some slots asked.by asked.table c.args.row c.args.places.now.listed asked.places.now asked.key.now c.in-Some.slot version is match_it
 
 pub returns-in-None-clause-none : goal.returns-in-None-clause-none
 returns-in-None-clause-none c =
     let asked = c.args.asked.now in
-    other-none c.args.versions.now.slots asked.by asked.table c.args.row c.args.places.now asked.places.now asked.key.now c.requires.order c.requires.whole c.requires.indexed c.requires.keyed c.in-None.ensures.none
+    other-none c.args.versions.now.slots asked.by asked.table c.args.row c.args.places.now.listed asked.places.now asked.key.now c.requires.order c.requires.whole c.requires.indexed c.requires.keyed c.in-None.ensures.none

@@ -1,14 +1,14 @@
-use Rattle.std.proofs.Common.{◌≡◌, ◌-◌, refl, take, List, [], None, length, drop, get_or, ap, sym, subst, map}
-use Rattle.std.specs.List.{Contains}
+use Rattle.std.proofs.Common.{◌≡◌, ◌∙◌, ◌<◌, ℕ, drop, true, refl, List, [], ◌∷◌, None, length, ap, sym, subst, map, arith}
+use Rattle.std.specs.List.{Contains, list_all, position_or_len}
 use Rattle.au_base.specs.declared.cell.Cell.{Cell}
 use Rattle.au_base.specs.declared.numbers.RowNo.{RowNo}
 use Rattle.au_rows.specs.declared.place.Place.{Place}
-use Rattle.au_rows.specs.Held.{view_of}
-use Rattle.au_rows.specs.Kept.{held_of}
-use Rattle.au_rows.proofs.AllLemmas.{drop-past}
+use Rattle.au_rows.specs.Held.{lent, view_of}
+use Rattle.au_rows.specs.Kept.{held_of, place_from}
+use Rattle.au_rows.specs.Order.{in_order}
 use Rattle.au_rows.proofs.OtherLemmas.{other-behind}
-use Rattle.au_rows.proofs.UnderLemmas.{later-view, none-contained, row-here, row-within}
-use Rattle.au_rows.proofs.ViewLemmas.{past-rest, view_of-past}
+use Rattle.au_rows.proofs.UnderLemmas.{none-contained, row-here, row-within}
+use Rattle.au_rows.proofs.ViewLemmas.{drop-order, later-from, step-from, step-order, step-past, view_of-drop, view_of-past}
 use Rattle.au_rows.proofs.reading.other_walk.Goals as goal
 
 abbrev nothing : Place
@@ -16,44 +16,69 @@ nothing = record { table = 0; number = record { 0 = 0 }; settled = None; owner =
 
 pub loop-place-init : goal.loop-place-init
 loop-place-init c =
-    let same = later-view c.args.versions.now.slots c.args.asked.now.table c.args.asked.now.by c.args.places.now c.index_of.result c.index_of.ensures.index in
+    let places = c.args.places.now.listed in
+    let asked = c.args.asked.now in
+    let slots = c.args.versions.now.slots in
+    let F = place_from asked.table (record { 0 = 0 }) in
+    let is = c.from-walk.ensures in
+    let same : view_of asked.table asked.by (map (held_of slots) c.from-walk.result) ≡ view_of asked.table asked.by (map (held_of slots) places) =
+    ap (λ (ps : List Place). view_of asked.table asked.by (map (held_of slots) ps)) is ∙ view_of-drop slots asked.table asked.by places in
     record {
+      order = ap in_order is ∙ drop-order places (position_or_len F places) c.requires;
+      from = ap (list_all F) is ∙ later-from asked.table (record { 0 = 0 }) places c.requires;
       within = λ row h. subst (λ (rows : List (RowNo × List Cell)). Contains rows row) same h;
       rest = λ row h other has. subst (λ (rows : List (RowNo × List Cell)). Contains rows row) (sym same) h;
     }
 
+pub loop-place-smaller : goal.loop-place-smaller
+loop-place-smaller c = let one = ap length c.in-Some.ensures in omega arith
+
 pub returns-then-place-asked-clause-none : goal.returns-then-place-asked-clause-none
 returns-then-place-asked-clause-none c = λ number h.
     let row : RowNo × List Cell = (number, h.1) in
-    let past = past-rest c.args.asked.now.table (record { 0 = 0 }) c.args.places.now c.index_of.result c.loop-place.place-index _ c.requires c.index_of.ensures.index c.loop-place-test.true c.if-place-asked.true in
-    none-contained _ row (view_of-past c.args.versions.now.slots c.args.asked.now.table c.args.asked.now.by _ past) (c.loop-place.invariant.rest row h.2 h.0 h.3)
+    let asked = c.args.asked.now in
+    let i = c.loop-place.invariant in
+    let past = step-past asked.table (record { 0 = 0 }) c.loop-place.walk c.step.new.self c.in-Some.place c.in-Some.ensures i.order i.from c.if-place-asked.true in
+    none-contained _ row (view_of-past c.args.versions.now.slots asked.table asked.by c.loop-place.walk past) (i.rest row h.2 h.0 h.3)
 
-pub returns-in-Some-clause-some : goal.returns-in-Some-clause-some
-returns-in-Some-clause-some c =
-    let is : (get_or (take (length c.args.places.now - c.index_of.result) (drop c.index_of.result c.args.places.now)) c.loop-place.place-index nothing).table ≡ c.args.asked.now.table = c.if-place-asked.false in
-    let some = c.in-Some.ensures.some in (
+pub returns-in-Some-other_if_under-clause-some : goal.returns-in-Some-other_if_under-clause-some
+returns-in-Some-other_if_under-clause-some c =
+    let asked = c.args.asked.now in
+    let slots = c.args.versions.now.slots in
+    let i = c.loop-place.invariant in
+    let p = c.in-Some.place in
+    let rest = c.step.new.self in
+    let is : c.loop-place.walk ≡ p ∷ rest = c.in-Some.ensures in
+    let first : 0 < length (p ∷ rest) = omega arith in
+    let other = c.in-Some-other_if_under.other in
+    let some = c.in-Some-other_if_under.ensures.some in
+    let row : RowNo × List Cell = (other, some.2) in (
       some.1,
       some.2,
-      c.loop-place.invariant.within (c.in-Some.other, some.2)
-          (row-here c.args.versions.now.slots c.args.asked.now.table c.args.asked.now.by (take (length c.args.places.now - c.index_of.result) (drop c.index_of.result c.args.places.now)) c.loop-place.place-index nothing
-          c.in-Some.other some.2 c.loop-place-test.true is some.0 some.3 (c.in-Some.other, some.2) refl),
+      i.within row (subst (λ (ps : List Place). Contains (view_of asked.table asked.by (map (held_of slots) ps)) row) (sym is)
+          (row-here slots asked.table asked.by (p ∷ rest) 0 nothing other some.2 first c.if-place-asked.false some.0 some.3 row refl)),
       some.4,
     )
 
 pub loop-place-preserved : goal.loop-place-preserved
 loop-place-preserved c =
-    let later = take (length c.args.places.now - c.index_of.result) (drop c.index_of.result c.args.places.now) in
+    let asked = c.args.asked.now in
+    let slots = c.args.versions.now.slots in
+    let i = c.loop-place.invariant in
+    let p = c.in-Some.place in
+    let rest = c.step.new.self in
+    let is : c.loop-place.walk ≡ p ∷ rest = c.in-Some.ensures in
+    let first : 0 < length (p ∷ rest) = omega arith in
     record {
-      within = λ row h. c.loop-place.invariant.within row (row-within c.args.versions.now.slots c.args.asked.now.table c.args.asked.now.by later c.loop-place.place-index nothing row c.loop-place-test.true h);
+      order = step-order asked.table (record { 0 = 0 }) c.loop-place.walk rest p is i.order i.from;
+      from = step-from asked.table (record { 0 = 0 }) c.loop-place.walk rest p is i.order i.from;
+      within = λ row h. i.within row (subst (λ (ps : List Place). Contains (view_of asked.table asked.by (map (held_of slots) ps)) row) (sym is) (row-within slots asked.table asked.by (p ∷ rest) 0 nothing row first h));
       rest = λ row h other has.
-          other-behind c.args.versions.now.slots c.args.asked.now.by c.args.asked.now.table c.args.row later c.loop-place.place-index nothing c.args.asked.now.places.now c.args.asked.now.key.now row c.loop-place-test.true
-          c.in_default.ensures.none other has (c.loop-place.invariant.rest row h other has);
+          other-behind slots asked.by asked.table c.args.row (p ∷ rest) 0 nothing asked.places.now asked.key.now row first c.in_default-other_if_under.ensures.none other has
+          (subst (λ (ps : List Place). Contains (view_of asked.table asked.by (map (held_of slots) ps)) row) is (i.rest row h other has));
     }
 
 pub returns-clause-none : goal.returns-clause-none
 returns-clause-none c = λ number h.
     let row : RowNo × List Cell = (number, h.1) in
-    let later = take (length c.args.places.now - c.index_of.result) (drop c.index_of.result c.args.places.now) in
-    let none : view_of c.args.asked.now.table c.args.asked.now.by (map (held_of c.args.versions.now.slots) (drop c.loop-place.place-index later)) ≡ [] =
-    ap (λ (ps : List Place). view_of c.args.asked.now.table c.args.asked.now.by (map (held_of c.args.versions.now.slots) ps)) (drop-past later c.loop-place.place-index c.loop-place-test.false) in
-    none-contained _ row none (c.loop-place.invariant.rest row h.2 h.0 h.3)
+    none-contained _ row (ap (λ (ps : List Place). view_of c.args.asked.now.table c.args.asked.now.by (map (held_of c.args.versions.now.slots) ps)) c.in_default.ensures) (c.loop-place.invariant.rest row h.2 h.0 h.3)

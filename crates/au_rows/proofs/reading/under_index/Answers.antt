@@ -18,14 +18,14 @@ returns-in-Some-get-clause-some c =
     let found = c.in-Some.ensures.some in
     let both : Some found.0 ≡ Some version = sym found.1 ∙ is in
     let same : found.0 ≡ version = cc in
-    let match_it = subst (λ (v : Version). IsMatch Seen c.args.places.now asked.table asked.places.now asked.key.now asked.by c.in-Some.slot v) same found.2 in
-    let view = view_of asked.table asked.by (map (held_of slots) c.args.places.now) in (
+    let match_it = subst (λ (v : Version). IsMatch Seen c.args.places.now.listed asked.table asked.places.now asked.key.now asked.by c.in-Some.slot v) same found.2 in
+    let view = view_of asked.table asked.by (map (held_of slots) c.args.places.now.listed) in (
       subst (λ (cells : List Cell). Contains view (version.number, cells)) (sym c.as_slice.ensures)
-          (under-some slots asked.by asked.table c.args.places.now asked.places.now asked.key.now c.in-Some.slot version is match_it),
+          (under-some slots asked.by asked.table c.args.places.now.listed asked.places.now asked.key.now c.in-Some.slot version is match_it),
       subst (λ (cells : List Cell). HasKey asked.places.now asked.key.now (Some cells)) (sym c.as_slice.ensures) match_it.1,
     )
 
 pub returns-in-None-clause-none : goal.returns-in-None-clause-none
 returns-in-None-clause-none c =
     let asked = c.args.asked.now in
-    under-none c.args.versions.now.slots asked.by asked.table c.args.places.now asked.places.now asked.key.now c.requires.order c.requires.whole c.requires.indexed c.requires.keyed c.in-None.ensures.none
+    under-none c.args.versions.now.slots asked.by asked.table c.args.places.now.listed asked.places.now asked.key.now c.requires.order c.requires.whole c.requires.indexed c.requires.keyed c.in-None.ensures.none

@@ -47,6 +47,6 @@ loop-turn-preserved c =
           (λ same.
           let both : Some version ≡ Some c.in-Some-get.node.now.version = sym is ∙ (ap (λ (s : ℕ). get_or (versions_of nodes) s None) same ∙ (version-at nodes c.in-Some.here ∙ ap version_of node_here)) in
           let version_is : version ≡ c.in-Some-get.node.now.version = cc in
-          let Match : ℕ → Version → Type 0 = λ s v. IsMatch c.args.sought c.args.places.now c.args.asked.now.table c.args.asked.now.places.now c.args.asked.now.key.now c.args.asked.now.by s v in
+          let Match : ℕ → Version → Type 0 = λ s v. IsMatch c.args.sought c.args.places.now.listed c.args.asked.now.table c.args.asked.now.places.now c.args.asked.now.key.now c.args.asked.now.by s v in
           failed c.is_match.result c.is_match.ensures c.if-is_match.false (subst (λ (v : Version). Match c.in-Some.here v) version_is (subst (λ (s : ℕ). Match s version) same m)));
     }

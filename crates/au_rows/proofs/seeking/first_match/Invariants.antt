@@ -11,5 +11,5 @@ invariant-loop-turn l = record {
   stands : IsChain l.nodes.slots l.hash l.at rest;
   short : length rest + l._turn ≤ l._turn-end;
   found : (slot : ℕ) (version : Version) → get_or (versions_of l.nodes.slots) slot None ≡ Some version → version.hash ≡ l.hash
-      → IsMatch l.sought l.places l.asked.table l.asked.places.now l.asked.key.now l.asked.by slot version → IsOneOf rest slot;
+      → IsMatch l.sought l.places.listed l.asked.table l.asked.places.now l.asked.key.now l.asked.by slot version → IsOneOf rest slot;
 }

@@ -44,24 +44,21 @@ returns-in_err-take_frame-clause-cause g c =
     rw (p.1, p.2) (cause_after c.in_err-take_frame.field-0.0 (faults (disk_of c.args.journal.now)) (faults (disk_of c.loop-turn.journal)) (faults (disk_of c.take_frame.new.journal))
     c.loop-turn.invariant.cause c.in_err-take_frame.ensures.cause)
 
-pub returns-in-None-clause-read : goal.returns-in-None-clause-read
-returns-in-None-clause-read g c = λ told taken. rw c.in-None.is at (c.in_ok-take_frame.ensures.taken told (c.loop-turn.invariant.taken told taken))
+pub returns-then-not-branch-clause-read : goal.returns-then-not-branch-clause-read
+returns-then-not-branch-clause-read g c = λ told taken. rw c.if-not-branch.true at (c.in_ok-take_frame.ensures.taken told (c.loop-turn.invariant.taken told taken))
 
-pub returns-in-None-clause-ended : goal.returns-in-None-clause-ended
-returns-in-None-clause-ended g c = rw c.in-None.is at c.in_ok-take_frame.ensures.ended
+pub returns-then-not-branch-clause-settled : goal.returns-then-not-branch-clause-settled
+returns-then-not-branch-clause-settled g c = c.take_frame.ensures.settled ∙ c.loop-turn.invariant.settled
 
-pub returns-in-None-clause-settled : goal.returns-in-None-clause-settled
-returns-in-None-clause-settled g c = c.take_frame.ensures.settled ∙ c.loop-turn.invariant.settled
-
-pub returns-in-None-clause-stays : goal.returns-in-None-clause-stays
-returns-in-None-clause-stays g c =
+pub returns-then-not-branch-clause-stays : goal.returns-then-not-branch-clause-stays
+returns-then-not-branch-clause-stays g c =
     let laws = g.met.D.Disk g.world.𝓛 g.world.𝓜 g.world.𝓡 ((λ s x. x), (λ x. x), (λ x. x), λ x. x) in
     let meaning = g.D.Disk.meaning in
     both_stay (meaning (disk_of c.args.journal.now)) (meaning (disk_of c.loop-turn.journal)) (meaning (disk_of c.take_frame.new.journal)) (laws.counts_now (disk_of c.loop-turn.journal))
     c.loop-turn.invariant.stays c.take_frame.ensures.stays
 
-pub returns-in-None-clause-cause : goal.returns-in-None-clause-cause
-returns-in-None-clause-cause g c = c.in_ok-take_frame.ensures.cause ∙ c.loop-turn.invariant.cause
+pub returns-then-not-branch-clause-cause : goal.returns-then-not-branch-clause-cause
+returns-then-not-branch-clause-cause g c = c.in_ok-take_frame.ensures.cause ∙ c.loop-turn.invariant.cause
 
 pub loop-turn-preserved : goal.loop-turn-preserved
 loop-turn-preserved g c =
@@ -69,7 +66,7 @@ loop-turn-preserved g c =
     let meaning = g.D.Disk.meaning in
     let before = c.loop-turn.invariant in
     record {
-      taken = λ told taken. rw c.in-Some.is at (c.in_ok-take_frame.ensures.taken told (before.taken told taken));
+      taken = λ told taken. rw c.if-not-branch.false at (c.in_ok-take_frame.ensures.taken told (before.taken told taken));
       resting = c.take_frame.ensures.resting;
       ends = c.take_frame.ensures.ends;
       settled = c.take_frame.ensures.settled ∙ before.settled;

@@ -22,18 +22,18 @@ returns-in_err-next_length-clause-cause g c =
     let why = c.in_err-next_length.field-0.0 in
     rw (p.1, p.2) (mount_cause why old new c.in_err-next_length.ensures.cause)
 
-pub returns-in_err-body-in-Some-clause-why : goal.returns-in_err-body-in-Some-clause-why
-returns-in_err-body-in-Some-clause-why g c = λ told bodies walked before.
-    let p = err_from_is_err_and c.from_residual-in_err-body-in-Some.result c.from_residual-in_err-body-in-Some.ensures.1 in rw (p.1, p.2) tt
+pub returns-in_err-resize-in-Some-clause-why : goal.returns-in_err-resize-in-Some-clause-why
+returns-in_err-resize-in-Some-clause-why g c = λ told bodies walked before.
+    let p = err_from_is_err_and c.from_residual-in_err-resize-in-Some.result c.from_residual-in_err-resize-in-Some.ensures.1 in rw (p.1, p.2) tt
 
-pub returns-in_err-body-in-Some-clause-cause : goal.returns-in_err-body-in-Some-clause-cause
-returns-in_err-body-in-Some-clause-cause g c =
-    let p = err_from_is_err_and c.from_residual-in_err-body-in-Some.result c.from_residual-in_err-body-in-Some.ensures.1 in
+pub returns-in_err-resize-in-Some-clause-cause : goal.returns-in_err-resize-in-Some-clause-cause
+returns-in_err-resize-in-Some-clause-cause g c =
+    let p = err_from_is_err_and c.from_residual-in_err-resize-in-Some.result c.from_residual-in_err-resize-in-Some.ensures.1 in
     rw (p.1, p.2) c.in_ok-next_length.ensures.cause
 
 pub next_frame-requires-clause-before : goal.next_frame-requires-clause-before
 next_frame-requires-clause-before g c = λ _ _.
-    let size : length c.deref_mut.result.now ≡ c.in-Some.n = cc (c.in_ok-body-in-Some.ensures) in
+    let size : length c.deref_mut.result.now ≡ c.in-Some.n = cc (c.in_ok-resize-in-Some.ensures) in
     let reach = rw c.in-Some.is at c.in_ok-next_length.ensures.ended in
     reach ∙ ap (λ (k : ℕ). (seat_of c.next_length.new.self).used + 9 + k) (sym size)
 
@@ -41,7 +41,7 @@ pub returns-in_err-next_frame-in-Some-clause-why : goal.returns-in_err-next_fram
 returns-in_err-next_frame-in-Some-clause-why g c = λ told bodies walked before.
     let p = err_from_is_err_and c.from_residual-in_err-next_frame-in-Some.result c.from_residual-in_err-next_frame-in-Some.ensures.1 in
     let j = c.next_length.new.self in
-    let size : length c.deref_mut.result.now ≡ c.in-Some.n = cc (c.in_ok-body-in-Some.ensures) in
+    let size : length c.deref_mut.result.now ≡ c.in-Some.n = cc (c.in_ok-resize-in-Some.ensures) in
     let there = rw c.in-Some.is at (c.in_ok-next_length.ensures.next told bodies walked) in
     let at_it = subst (λ (k : ℕ). IsBefore (g.D.Disk.meaning (disk_of j)) (seat_of j) k bodies) (sym size) there in
     rw (p.1, p.2, c.in_err-next_frame-in-Some.ensures.why told bodies at_it) tt
@@ -72,11 +72,11 @@ returns-in-None-clause-next g c = λ told bodies walked. rw c.in-None.is at (c.i
 pub returns-in_ok-next_frame-in-Some-clause-next : goal.returns-in_ok-next_frame-in-Some-clause-next
 returns-in_ok-next_frame-in-Some-clause-next g c = λ told bodies walked.
     let j = c.next_length.new.self in
-    let size : length c.deref_mut.result.now ≡ c.in-Some.n = cc (c.in_ok-body-in-Some.ensures) in
+    let size : length c.deref_mut.result.now ≡ c.in-Some.n = cc (c.in_ok-resize-in-Some.ensures) in
     let there = rw c.in-Some.is at (c.in_ok-next_length.ensures.next told bodies walked) in
     let at_it = subst (λ (k : ℕ). IsBefore (g.D.Disk.meaning (disk_of j)) (seat_of j) k bodies) (sym size) there in
     let n = c.next_frame.new.self in
-    let body = c.in_ok-body-in-Some.body in
+    let body = c.resize.new.room in
     let room = c.next_frame.new.room in
     let sized : length body.items ≡ body.len = omega (arith, body.ok.0) in
     let full : length room ≡ body.len = omega (arith, c.next_frame.auto.room, ap length c.deref_mut.ensures.value, body.ok.0) in

@@ -14,9 +14,6 @@ append-requires-clause-framed g c = λ _ _.
     let k = c.requires.carries.2 in
     (spelled k.0, is_framed c.args.framed.now k.0 k.1)
 
-pub append-requires-clause-stands : goal.append-requires-clause-stands
-append-requires-clause-stands g c = λ _ _ told. let read = (c.requires.read told).1 in (read.bodies, read.settled)
-
 pub returns-in-Done-clause-kept : goal.returns-in-Done-clause-kept
 returns-in-Done-clause-kept g c = λ told kept next read k.
     let old = seat_of c.args.journal.now in

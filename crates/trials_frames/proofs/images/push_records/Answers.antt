@@ -1,10 +1,9 @@
-use Rattle.rec_codec.specs.ImageLaws.{none_wrote}
 use Rattle.rec_codec.specs.Records.{trail_record}
 use Rattle.trials_frames.proofs.Pieces.{all_records, no_change, one_at, one_record, record_left}
 use Rattle.trials_frames.proofs.images.push_records.Goals as goal
 
 pub loop-entry-init : goal.loop-entry-init
-loop-entry-init c = none_wrote _
+loop-entry-init c = c.writes_join.ensures.none _
 
 pub push_record-requires-clause-spellable : goal.push_record-requires-clause-spellable
 push_record-requires-clause-spellable c = one_at trail_record.IsSpellable c.args.records.now c.loop-entry.entry-index _ c.loop-entry-test.true c.entry-item.is c.requires.spellable
@@ -16,7 +15,7 @@ pub push_record-requires-clause-left : goal.push_record-requires-clause-left
 push_record-requires-clause-left c = record_left c.args.records.now _ _ c.loop-entry.entry-index c.loop-entry-test.true c.requires.left c.loop-entry.invariant
 
 pub loop-entry-preserved : goal.loop-entry-preserved
-loop-entry-preserved c = one_record c.args.records.now _ _ _ c.loop-entry.entry-index _ c.loop-entry-test.true c.entry-item.is c.loop-entry.invariant c.in_ok-push_record.ensures
+loop-entry-preserved c = one_record c.writes_join.ensures c.args.records.now _ _ _ c.loop-entry.entry-index _ c.loop-entry-test.true c.entry-item.is c.loop-entry.invariant c.in_ok-push_record.ensures
 
 pub returns : goal.returns
 returns c = all_records c.args.records.now _ _ c.loop-entry.entry-index c.loop-entry-test.false c.loop-entry.invariant

@@ -1,7 +1,6 @@
-use Rattle.au_io.specs.MemDisk.{disk_meaning}
-use Rattle.au_journal.specs.Held.{IsHeld}
-use Rattle.au_journal.specs.Journals.{disk_of, seat_of}
+use Rattle.std.proofs.Common.{◌≡◌, true}
+use Rattle.au_journal.specs.Journals.{seat_of}
 use Rattle.trials_journal.proofs.case.make_steps.Given as goal
 
 abbrev pub invariant-loop-step : goal.invariant-loop-step
-invariant-loop-step l = IsHeld (disk_meaning (disk_of l.journal)) (seat_of l.journal)
+invariant-loop-step l = (seat_of l.journal).ended ≡ true

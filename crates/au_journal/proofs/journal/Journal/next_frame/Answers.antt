@@ -1,7 +1,6 @@
-use Rattle.std.proofs.Common.{◌≡◌, ◌+◌, ◌++◌, [], ◌∷◌, List, ℕ, length, drop, sym, ◌∙◌, ap, subst, arith}
-use Rattle.au_io.specs.Areas.{area_of}
-use Rattle.au_journal.specs.Frames.{front, AreSome}
-use Rattle.au_journal.proofs.Seating.{walked_after, next_split, next_place, next_fits, next_some, next_here, room_is}
+use Rattle.std.proofs.Common.{◌≡◌, ◌++◌, [], ◌∷◌, inl, length, refl, arith}
+use Rattle.au_journal.proofs.Holding.{behind_next, behind_seat, still_walking, way_after, way_before, way_behind, way_stays}
+use Rattle.au_journal.proofs.Seating.{next_fits}
 use Rattle.au_journal.proofs.journal.Journal.next_frame.Goals as goal
 
 pub returns-then-count-room-clause-why : goal.returns-then-count-room-clause-why
@@ -17,25 +16,45 @@ returns-clause-next g c = λ told bodies before.
     let new = g.D.Disk.meaning c.read.new.disk in
     let seat = c.args.self.now.seat in
     let room = c.args.room.now in
-    let n = length room in
-    let area = area_of seat.area old.reads in
-    let stays = c.in_ok-count.ensures.stays in
-    let walked = walked_after old new seat bodies (laws.counts_now c.read.new.disk) stays before.walked in
-    let full : c.in_ok-count.count ≡ n = omega (arith, c.in_ok-count.ensures.count, c.if-count-room.false) in
-    let read : c.read.new.room ≡ before.next.body =
-    room_is c.read.new.room room (drop (seat.used + 9) area) c.in_ok-count.count full (c.in_ok-count.ensures.bytes told)
-    ∙ next_here old seat n bodies before in
-    let same = sym read in
+    let full : c.in_ok-count.count ≡ length room = omega (arith, c.in_ok-count.ensures.count, c.if-count-room.false) in
+    behind_next old new seat (length room) bodies (laws.counts_now c.read.new.disk) c.in_ok-count.ensures.stays before c.requires.before
+    c.read.new.room room refl c.in_ok-count.count full (c.in_ok-count.ensures.bytes told)
+
+pub invariant_of-self-2-clause-stands : goal.invariant_of-self-2-clause-stands
+invariant_of-self-2-clause-stands g c =
+    let laws = g.met.D.Disk g.world.𝓛 g.world.𝓜 g.world.𝓡 ((λ s x. x), (λ x. x), (λ x. x), λ x. x) in
+    let old = g.D.Disk.meaning c.args.self.now.disk in
+    let new = g.D.Disk.meaning c.read.new.disk in
+    let seat = c.args.self.now.seat in
+    let room = c.args.room.now in
+    let full : c.in_ok-count.count ≡ length room = omega (arith, c.in_ok-count.ensures.count, c.if-count-room.false) in
+    way_after g.D.Disk.told old new seat (behind_seat seat) c.args.self.now.stands (still_walking seat (length room) c.args.self.now.behind c.requires.before)
+    (λ told way.
+    let walked = behind_next old new seat (length room) way.bodies (laws.counts_now c.read.new.disk) c.in_ok-count.ensures.stays (way_before old seat (length room) way c.requires.before) c.requires.before
+    c.read.new.room room refl c.in_ok-count.count full (c.in_ok-count.ensures.bytes told) in
+    way_behind new seat (behind_seat seat) (way.bodies ++ c.read.new.room ∷ []) walked refl way.settled refl)
+
+pub invariant_of-self : goal.invariant_of-self
+invariant_of-self g c =
+    let laws = g.met.D.Disk g.world.𝓛 g.world.𝓜 g.world.𝓡 ((λ s x. x), (λ x. x), (λ x. x), λ x. x) in
+    let old = g.D.Disk.meaning c.args.self.now.disk in
+    let new = g.D.Disk.meaning c.read.new.disk in
+    let seat = c.args.self.now.seat in
     record {
-      placed = record {
-        in_range = before.walked.placed.in_range;
-        some = subst (λ (b : List ℕ). AreSome (bodies ++ b ∷ [])) same (next_some old seat n bodies before);
-        place = c.requires.before ∙ next_place old seat n bodies before ∙ ap (λ (b : List ℕ). length (front seat.limit (bodies ++ b ∷ []))) same;
-      };
-      still = walked.still;
-      selected = walked.selected;
-      walking = walked.walking;
-      size = walked.size;
-      rest = before.next.more;
-      split = ap (area_of seat.area) stays.reads ∙ next_split old seat n bodies before ∙ ap (λ (b : List ℕ). front seat.limit (bodies ++ b ∷ []) ++ before.next.more) same;
+      sized = c.args.self.now.sized;
+      short = c.args.self.now.short;
+      near = c.args.self.now.near;
+      shown = c.read.ensures.shown;
+      behind = c.args.self.now.behind;
+      stands = way_after g.D.Disk.told old new seat seat c.args.self.now.stands (still_walking seat (length c.args.room.now) c.args.self.now.behind c.requires.before)
+          (λ told way. inl (way_stays old new seat (laws.counts_now c.read.new.disk) c.read.ensures.stays way));
     }
+
+pub invariant_of-self-then-count-room-clause-stands : goal.invariant_of-self-then-count-room-clause-stands
+invariant_of-self-then-count-room-clause-stands g c =
+    let laws = g.met.D.Disk g.world.𝓛 g.world.𝓜 g.world.𝓡 ((λ s x. x), (λ x. x), (λ x. x), λ x. x) in
+    let old = g.D.Disk.meaning c.args.self.now.disk in
+    let new = g.D.Disk.meaning c.read.new.disk in
+    let seat = c.args.self.now.seat in
+    way_after g.D.Disk.told old new seat seat c.args.self.now.stands (still_walking seat (length c.args.room.now) c.args.self.now.behind c.requires.before)
+    (λ told way. inl (way_stays old new seat (laws.counts_now c.read.new.disk) c.read.ensures.stays way))

@@ -19,7 +19,7 @@ returns-clause-changes c =
 
 pub returns-clause-owners : goal.returns-clause-owners
 returns-clause-owners c =
-    let places = c.self.inside.places.items in
+    let places = c.self.inside.places.listed in
     let is : c.number_of-table.result ≡ number_of c.args.table.now c.self.inside.tables.items = c.number_of-table.ensures.number ∙ ap (number_of c.args.table.now) c.deref.ensures.value in
     rw (← c.self.view_is) (λ yes row.
     let all : list_all (unsettled_elsewhere c.number_of-table.result) c.self.inside.unsettled.listed ≡ true =

@@ -6,10 +6,9 @@ use Rattle.au_rows.proofs.rows.Rows.owner.Goals as goal
 
 pub returns : goal.returns
 returns c =
-    let places = c.self.inside.places.items in
-    let is : c.number_of.result ≡ number_of c.args.table.now c.self.inside.tables.items = c.number_of.ensures.number ∙ ap (number_of c.args.table.now) c.deref-2.ensures.value in
+    let places = c.self.inside.places.listed in
+    let is : c.number_of-table.result ≡ number_of c.args.table.now c.self.inside.tables.items = c.number_of-table.ensures.number ∙ ap (number_of c.args.table.now) c.deref.ensures.value in
     rw (← c.self.view_is)
-    (c.find_owner.ensures
-    ∙ (ap (owner_in c.number_of.result c.args.row) c.deref.ensures.value
+    (c.owner.ensures
     ∙ (ap (λ (t : ℕ). owner_in t c.args.row places) is
-    ∙ sym (owner_of-map c.self.inside.versions.slots (number_of c.args.table.now c.self.inside.tables.items) c.args.row places))))
+    ∙ sym (owner_of-map c.self.inside.versions.slots (number_of c.args.table.now c.self.inside.tables.items) c.args.row places)))

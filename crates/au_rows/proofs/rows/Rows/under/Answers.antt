@@ -18,9 +18,9 @@ returns-clause-some c =
     let keys : c.key_of.result.now ≡ key_of c.number_of-table.result tables = c.key_of.ensures ∙ ap (key_of c.number_of-table.result) c.deref-2.ensures.value in
     let P : ℕ → List ℕ → List Place → Type 0 = λ t key places. IfSome c.under_in.result (λ (row : RowNo × Bor (List Cell)). Contains (view_of t c.args.by (map (held_of slots) places)) (lent row) × HasKey key c.args.key.now (Some row.1.now)) in
     rw (← c.self.view_is)
-    (subst (λ (t : ℕ). P t (key_of t tables) c.self.inside.places.items) is
-    (subst (λ (key : List ℕ). P c.number_of-table.result key c.self.inside.places.items) keys
-    (subst (λ (places : List Place). P c.number_of-table.result c.key_of.result.now places) c.deref-3.ensures.value c.under_in.ensures.some)))
+    (subst (λ (t : ℕ). P t (key_of t tables) c.self.inside.places.listed) is
+    (subst (λ (key : List ℕ). P c.number_of-table.result key c.self.inside.places.listed) keys
+    c.under_in.ensures.some))
 
 pub returns-clause-none : goal.returns-clause-none
 returns-clause-none c =
@@ -29,7 +29,7 @@ returns-clause-none c =
     let is : c.number_of-table.result ≡ number_of c.args.table.now tables = c.number_of-table.ensures.number ∙ ap (number_of c.args.table.now) c.deref.ensures.value in
     let keys : c.key_of.result.now ≡ key_of c.number_of-table.result tables = c.key_of.ensures ∙ ap (key_of c.number_of-table.result) c.deref-2.ensures.value in
     let P : ℕ → List ℕ → List Place → Type 0 = λ t key places. IfNone c.under_in.result ((row : RowNo × List Cell) → Contains (view_of t c.args.by (map (held_of slots) places)) row → HasKey key c.args.key.now (Some row.1) → ⊥) in
-    rw (← c.self.view_is) (uncurried (λ (row : RowNo × List Cell). Contains (view_of (number_of c.args.table.now tables) c.args.by (map (held_of slots) c.self.inside.places.items)) row) (λ (row : RowNo × List Cell). HasKey (key_of (number_of c.args.table.now tables) tables) c.args.key.now (Some row.1)) c.under_in.result
-    (subst (λ (t : ℕ). P t (key_of t tables) c.self.inside.places.items) is
-    (subst (λ (key : List ℕ). P c.number_of-table.result key c.self.inside.places.items) keys
-    (subst (λ (places : List Place). P c.number_of-table.result c.key_of.result.now places) c.deref-3.ensures.value c.under_in.ensures.none))))
+    rw (← c.self.view_is) (uncurried (λ (row : RowNo × List Cell). Contains (view_of (number_of c.args.table.now tables) c.args.by (map (held_of slots) c.self.inside.places.listed)) row) (λ (row : RowNo × List Cell). HasKey (key_of (number_of c.args.table.now tables) tables) c.args.key.now (Some row.1)) c.under_in.result
+    (subst (λ (t : ℕ). P t (key_of t tables) c.self.inside.places.listed) is
+    (subst (λ (key : List ℕ). P c.number_of-table.result key c.self.inside.places.listed) keys
+    c.under_in.ensures.none)))

@@ -14,9 +14,9 @@ returns-clause-some c =
     let keys : c.key_of.result.now ≡ key_of c.number_of-table.result tables = c.key_of.ensures ∙ ap (key_of c.number_of-table.result) c.deref-2.ensures.value in
     let P : ℕ → List ℕ → List Place → Type 0 = λ t key places. IfSome c.other_in.result (λ (other : RowNo). IsOtherIn (view_of t c.args.by (map (held_of slots) places)) key c.args.key.now c.args.row other) in
     rw (← c.self.view_is)
-    (subst (λ (t : ℕ). P t (key_of t tables) c.self.inside.places.items) is
-    (subst (λ (key : List ℕ). P c.number_of-table.result key c.self.inside.places.items) keys
-    (subst (λ (places : List Place). P c.number_of-table.result c.key_of.result.now places) c.deref-3.ensures.value c.other_in.ensures.some)))
+    (subst (λ (t : ℕ). P t (key_of t tables) c.self.inside.places.listed) is
+    (subst (λ (key : List ℕ). P c.number_of-table.result key c.self.inside.places.listed) keys
+    c.other_in.ensures.some))
 
 pub returns-clause-none : goal.returns-clause-none
 returns-clause-none c =
@@ -26,6 +26,6 @@ returns-clause-none c =
     let keys : c.key_of.result.now ≡ key_of c.number_of-table.result tables = c.key_of.ensures ∙ ap (key_of c.number_of-table.result) c.deref-2.ensures.value in
     let P : ℕ → List ℕ → List Place → Type 0 = λ t key places. IfNone c.other_in.result ((other : RowNo) → IsOtherIn (view_of t c.args.by (map (held_of slots) places)) key c.args.key.now c.args.row other → ⊥) in
     rw (← c.self.view_is)
-    (subst (λ (t : ℕ). P t (key_of t tables) c.self.inside.places.items) is
-    (subst (λ (key : List ℕ). P c.number_of-table.result key c.self.inside.places.items) keys
-    (subst (λ (places : List Place). P c.number_of-table.result c.key_of.result.now places) c.deref-3.ensures.value c.other_in.ensures.none)))
+    (subst (λ (t : ℕ). P t (key_of t tables) c.self.inside.places.listed) is
+    (subst (λ (key : List ℕ). P c.number_of-table.result key c.self.inside.places.listed) keys
+    c.other_in.ensures.none))

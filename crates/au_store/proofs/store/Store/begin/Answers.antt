@@ -3,7 +3,8 @@ use Rattle.au_journal.specs.Journals.{disk_of, seat_of}
 use Rattle.au_engine.specs.State.{State, start}
 use Rattle.rec_codec.specs.Frames.{framed}
 use Rattle.au_engine.specs.Returning.{start_frame}
-use Rattle.au_store.specs.Steps.{CarriesTo, IsMovedTo}
+use Rattle.au_store.specs.Steps.{IsMovedTo}
+use Rattle.au_store.specs.descent.Making.{CarriesTo}
 use Rattle.au_store.specs.Stored.{IsKeptOn, IsSound}
 use Rattle.au_store.proofs.Begun.{no_cost, no_time, start_cost, unstarted}
 use Rattle.au_store.proofs.Sound.{settled_sound}
@@ -46,9 +47,6 @@ returns-in-Err-clause-cost g c =
 
 pub returns-in-Err-clause-cause : goal.returns-in-Err-clause-cause
 returns-in-Err-clause-cause g c = ap g.D.Disk.faults c.shut-in-Err.ensures
-
-pub write_start-requires-clause-read : goal.write_start-requires-clause-read
-write_start-requires-clause-read g c = λ _ _ told. (c.args.engine.state.kept, c.requires.read told)
 
 pub write_start-requires-clause-carries : goal.write_start-requires-clause-carries
 write_start-requires-clause-carries g c = λ _ _.

@@ -1,22 +1,22 @@
-use Rattle.std.proofs.Common.{◌≡◌, ℕ, ◌∙◌, sym, subst}
+use Rattle.std.proofs.Common.{ℕ, ◌∙◌, sym, subst}
 use Rattle.au_entries.specs.declared.kept.Kept.{Kept}
 use Rattle.au_io.specs.Moments.{both_stay}
 use Rattle.au_journal.specs.Journals.{disk_of, seat_of}
 use Rattle.au_store.specs.Looking.{ReadsUpTo}
 use Rattle.au_store.proofs.Begun.{cause_after, says_of}
-use Rattle.au_store.proofs.Looked.{look_cause, look_says, looked, still_read}
+use Rattle.au_store.proofs.Looked.{looked, still_read}
 use Rattle.au_store.proofs.Reading.{mount_cause, mount_says}
 use Rattle.au_store.proofs.store.Store.look.Goals as goal
 
 pub returns-in-Err-clause-why : goal.returns-in-Err-clause-why
 returns-in-Err-clause-why g c = λ told.
     let meaning = g.D.Disk.meaning in
-    rw (c.look_fault_of.ensures, c.from.ensures) (look_says (meaning c.args.disk).reads _ (mount_says (meaning c.args.disk).reads c.in-Err.why (c.in-Err.ensures.why told)))
+    rw c.from.ensures (mount_says (meaning c.args.disk).reads c.in-Err.why (c.in-Err.ensures.why told))
 
 pub returns-in-Err-clause-cause : goal.returns-in-Err-clause-cause
 returns-in-Err-clause-cause g c =
     let faults = g.D.Disk.faults in
-    rw (c.look_fault_of.ensures, c.from.ensures) (look_cause _ _ _ (mount_cause c.in-Err.why (faults c.args.disk) (faults c.in-Err.disk) c.in-Err.ensures.cause))
+    rw c.from.ensures (mount_cause c.in-Err.why (faults c.args.disk) (faults c.in-Err.disk) c.in-Err.ensures.cause)
 
 pub returns-in-Ok-recover-clause-found : goal.returns-in-Ok-recover-clause-found
 returns-in-Ok-recover-clause-found g c = λ told.
@@ -50,8 +50,7 @@ pub returns-in-Err-recover-clause-why : goal.returns-in-Err-recover-clause-why
 returns-in-Err-recover-clause-why g c = λ told.
     let meaning = g.D.Disk.meaning in
     let old = (meaning c.args.disk).reads in
-    rw c.look_fault_of-in-Err-recover.ensures (look_says old c.in-Err-recover.why
-    (says_of c.in-Err-recover.why old (meaning (disk_of c.in-Ok.journal)).reads c.in-Ok.ensures.stays.reads (c.in-Err-recover.ensures.why told (c.in-Ok.ensures.mounted told))))
+    says_of c.in-Err-recover.why old (meaning (disk_of c.in-Ok.journal)).reads c.in-Ok.ensures.stays.reads (c.in-Err-recover.ensures.why told (c.in-Ok.ensures.mounted told))
 
 pub returns-in-Err-recover-clause-stays : goal.returns-in-Err-recover-clause-stays
 returns-in-Err-recover-clause-stays g c =
@@ -66,8 +65,8 @@ returns-in-Err-recover-clause-stays g c =
 pub returns-in-Err-recover-clause-cause : goal.returns-in-Err-recover-clause-cause
 returns-in-Err-recover-clause-cause g c =
     let faults = g.D.Disk.faults in
-    rw (c.look_fault_of-in-Err-recover.ensures, c.shut-in-Err-recover.ensures) (look_cause c.in-Err-recover.why (faults c.args.disk) (faults (disk_of c.recover.new.journal))
-    (cause_after c.in-Err-recover.why (faults c.args.disk) (faults (disk_of c.in-Ok.journal)) (faults (disk_of c.recover.new.journal)) c.in-Ok.ensures.cause c.in-Err-recover.ensures.cause))
+    rw c.shut-in-Err-recover.ensures
+    (cause_after c.in-Err-recover.why (faults c.args.disk) (faults (disk_of c.in-Ok.journal)) (faults (disk_of c.recover.new.journal)) c.in-Ok.ensures.cause c.in-Err-recover.ensures.cause)
 
 pub returns-in-Ok-recover-clause-synced : goal.returns-in-Ok-recover-clause-synced
 returns-in-Ok-recover-clause-synced g c = λ told.

@@ -19,14 +19,6 @@ write-requires-clause-framed g c =
     let next = (after c.args.prepared m).kept in
     λ _ _. are_framed m.kept next c.args.prepared.framed carries
 
-pub write-requires-clause-stands : goal.write-requires-clause-stands
-write-requires-clause-stands g c =
-    let j = c.self.inside.journal in
-    let m = c.self.inside.engine.state in
-    let sound = c.self.invariant in
-    let settled = rw (← c.self.view_is) at c.requires.settled in
-    λ _ _ told. (m.kept, (settled_stands (ReplayedTo m.kept) (ReplayedTo (sound.stands told).doubted) j.seat j.seat sound.gated (g.D.Disk.meaning j.disk) settled (sound.stands told).stood))
-
 pub invariant_of-self : goal.invariant_of-self
 invariant_of-self g c =
     let j = c.self.inside.journal in

@@ -2,14 +2,15 @@ use Rattle.std.proofs.Common.{◌≡◌, ◌∙◌, false, refl, sym}
 use Rattle.au_io.specs.Moments.{both_pass, both_stay}
 use Rattle.au_journal.specs.Journals.{disk_of, seat_of}
 use Rattle.au_engine.specs.Image.{nothing}
+use Rattle.au_store.specs.Looking.{look_fault_of}
 use Rattle.au_store.proofs.Begun.{cause_after, match_both, no_cost, says_of}
-use Rattle.au_store.proofs.Reading.{gated_by, mount_cause, mount_says, open_leaves, opened_by, opens_in_vain, recovered, seated_by, start_says, unread_in_vain}
+use Rattle.au_store.proofs.Reading.{gated_by, mount_cause, mount_says, open_leaves, opened_by, opening_cause, opens_in_vain, recovered, seated_by, start_says, unread_in_vain}
 use Rattle.au_store.proofs.store.Store.open.Goals as goal
 
 pub returns-in-Err-clause-why : goal.returns-in-Err-clause-why
 returns-in-Err-clause-why g c = λ told.
     let meaning = g.D.Disk.meaning in
-    rw c.from.ensures (mount_says (meaning c.args.disk).reads c.in-Err.why (c.in-Err.ensures.why told))
+    rw c.open_fault_of.ensures (mount_says (meaning c.args.disk).reads c.in-Err.why (c.in-Err.ensures.why told))
 
 pub returns-in-Err-clause-time : goal.returns-in-Err-clause-time
 returns-in-Err-clause-time g c = c.in-Err.ensures.stays.time
@@ -22,7 +23,7 @@ returns-in-Err-clause-cost g c =
 pub returns-in-Err-clause-cause : goal.returns-in-Err-clause-cause
 returns-in-Err-clause-cause g c =
     let faults = g.D.Disk.faults in
-    rw c.from.ensures (mount_cause c.in-Err.why (faults c.args.disk) (faults c.in-Err.disk) c.in-Err.ensures.cause)
+    rw c.open_fault_of.ensures (opening_cause (look_fault_of c.in-Err.why) (faults c.args.disk) (faults c.in-Err.disk) (mount_cause c.in-Err.why (faults c.args.disk) (faults c.in-Err.disk) c.in-Err.ensures.cause))
 
 pub begin-requires-clause-settled : goal.begin-requires-clause-settled
 begin-requires-clause-settled g c = λ _ _. c.recover.ensures.settled ∙ c.in-Ok.ensures.settled
@@ -123,7 +124,7 @@ returns-in-Ok-recover-clause-cause g c =
 pub returns-in-Err-recover-clause-why : goal.returns-in-Err-recover-clause-why
 returns-in-Err-recover-clause-why g c = λ told.
     let meaning = g.D.Disk.meaning in
-    says_of c.in-Err-recover.why (meaning c.args.disk).reads (meaning (disk_of c.in-Ok.journal)).reads c.in-Ok.ensures.stays.reads (c.in-Err-recover.ensures.why told (c.in-Ok.ensures.mounted told))
+    rw c.from.ensures (says_of c.in-Err-recover.why (meaning c.args.disk).reads (meaning (disk_of c.in-Ok.journal)).reads c.in-Ok.ensures.stays.reads (c.in-Err-recover.ensures.why told (c.in-Ok.ensures.mounted told)))
 
 pub returns-in-Err-recover-clause-time : goal.returns-in-Err-recover-clause-time
 returns-in-Err-recover-clause-time g c =
@@ -148,11 +149,12 @@ returns-in-Err-recover-clause-cost g c =
 pub returns-in-Err-recover-clause-cause : goal.returns-in-Err-recover-clause-cause
 returns-in-Err-recover-clause-cause g c =
     let faults = g.D.Disk.faults in
-    rw c.shut.ensures (cause_after c.in-Err-recover.why (faults c.args.disk) (faults (disk_of c.in-Ok.journal)) (faults (disk_of c.recover.new.journal)) c.in-Ok.ensures.cause c.in-Err-recover.ensures.cause)
+    rw (c.shut.ensures, c.from.ensures) (opening_cause c.in-Err-recover.why (faults c.args.disk) (faults (disk_of c.recover.new.journal))
+    (cause_after c.in-Err-recover.why (faults c.args.disk) (faults (disk_of c.in-Ok.journal)) (faults (disk_of c.recover.new.journal)) c.in-Ok.ensures.cause c.in-Err-recover.ensures.cause))
 
 pub returns-in-Err-clause-in_vain : goal.returns-in-Err-clause-in_vain
 returns-in-Err-clause-in_vain g c =
-    unread_in_vain g.D.Disk.told g.D.Disk.meaning g.C.Clock.ticking c.args.disk c.in-Err.disk c.args.clock c.args.clock c.from.result refl c.in-Err.ensures.stays
+    unread_in_vain g.D.Disk.told g.D.Disk.meaning g.C.Clock.ticking c.args.disk c.in-Err.disk c.args.clock c.args.clock c.open_fault_of.result refl c.in-Err.ensures.stays
 
 pub returns-in-Err-recover-clause-in_vain : goal.returns-in-Err-recover-clause-in_vain
 returns-in-Err-recover-clause-in_vain g c =
@@ -163,7 +165,7 @@ returns-in-Err-recover-clause-in_vain g c =
     let new = meaning (disk_of c.recover.new.journal) in
     let stays = both_stay old mid new (laws.counts_now (disk_of c.in-Ok.journal)) c.in-Ok.ensures.stays c.recover.ensures.stays in
     rw c.shut.ensures
-    (unread_in_vain g.D.Disk.told meaning g.C.Clock.ticking c.args.disk (disk_of c.recover.new.journal) c.args.clock c.args.clock c.in-Err-recover.why refl stays)
+    (unread_in_vain g.D.Disk.told meaning g.C.Clock.ticking c.args.disk (disk_of c.recover.new.journal) c.args.clock c.args.clock c.from.result refl stays)
 
 pub returns-in-Ok-recover-clause-in_vain : goal.returns-in-Ok-recover-clause-in_vain
 returns-in-Ok-recover-clause-in_vain g c =

@@ -3,7 +3,7 @@ use Rattle.au_engine.specs.Framing.{Writes}
 use Rattle.au_engine.specs.Prepared.{after}
 use Rattle.au_engine.specs.Replaying.{EndsWell}
 use Rattle.au_engine.specs.State.{State}
-use Rattle.au_store.specs.Steps.{CarriesTo}
+use Rattle.au_store.specs.descent.Making.{CarriesTo}
 use Rattle.au_store.proofs.Frames.{carries_on, if_ok}
 use Rattle.au_store.proofs.store.Store.prepare.Goals as goal
 

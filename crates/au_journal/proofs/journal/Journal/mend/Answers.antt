@@ -1,0 +1,32 @@
+use Rattle.std.proofs.Common.{ap}
+use Rattle.au_journal.specs.Journals.{disk_of, seat_of}
+use Rattle.au_journal.specs.declared.seat.Seat.{Seat}
+use Rattle.au_journal.proofs.Holding.{held_after, held_settled}
+use Rattle.au_journal.proofs.journal.Journal.mend.Goals as goal
+
+pub invariant_of-self-clause-stands : goal.invariant_of-self-clause-stands
+invariant_of-self-clause-stands g c =
+    let seat = seat_of c.args.self.now in
+    let m = g.D.Disk.meaning (disk_of c.args.self.now) in
+    let n = g.D.Disk.meaning c.mend_seat.new.disk in
+    held_after g.D.Disk.told m seat c.args.self.now.stands c.requires.ended n c.in-Ok.seat
+    (λ told held. held_settled n c.in-Ok.seat held.bodies (c.in-Ok.ensures.mended told held.bodies held.others held.doubted) (ap (λ (s : Seat). s.doubt) c.in-Ok.ensures.mends))
+
+pub invariant_of-self-in-Err-clause-stands : goal.invariant_of-self-in-Err-clause-stands
+invariant_of-self-in-Err-clause-stands g c =
+    let seat = seat_of c.args.self.now in
+    let m = g.D.Disk.meaning (disk_of c.args.self.now) in
+    let n = g.D.Disk.meaning c.mend_seat.new.disk in
+    held_after g.D.Disk.told m seat c.args.self.now.stands c.requires.ended n seat
+    (λ told held. record {
+      ended = held.ended;
+      bodies = held.bodies;
+      others = held.others;
+      doubted = c.mend_seat.ensures.doubted held.bodies held.others held.doubted;
+    })
+
+pub invariant_of-self-clause-shown : goal.invariant_of-self-clause-shown
+invariant_of-self-clause-shown g c = λ told. c.clear.ensures.shown _
+
+pub invariant_of-self-in-Err-clause-shown : goal.invariant_of-self-in-Err-clause-shown
+invariant_of-self-in-Err-clause-shown g c = λ told. c.clear.ensures.shown _

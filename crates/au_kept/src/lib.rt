@@ -1,0 +1,9 @@
+//! What is kept: the catalogue, the grants, the committed rows and the trail, as frames of the
+//! journal leave them.
+#![tactic(auto)]
+
+mod keeping;
+mod laws;
+
+pub use keeping::Keeping;
+pub use laws::{frames_hold, images_lead_back};

@@ -1,0 +1,12 @@
+pub mod CellsFit
+pub mod Copies
+pub mod Found
+pub mod Halving
+pub mod KeptTables
+pub mod Members
+pub mod Places
+pub mod Readings
+pub mod RowsSeen
+pub mod Shapes
+pub mod SightLaws
+pub mod WholeLaws

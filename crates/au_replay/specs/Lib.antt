@@ -1,0 +1,4 @@
+pub mod Reading
+pub mod Sights
+pub mod Touched
+pub mod descent

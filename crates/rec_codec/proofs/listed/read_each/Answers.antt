@@ -1,0 +1,22 @@
+use Rattle.std.proofs.Common.{◌≡◌, ◌-◌, arith}
+use Rattle.std.proofs.lemmas.Result.{err_from_is_err_and}
+use Rattle.rec_parts.specs.descent.Reading.{many_first}
+use Rattle.rec_parts.specs.descent.LoopLaws.{begins, goes_on, ends, is_done}
+use Rattle.rec_codec.proofs.listed.read_each.Goals as goal
+
+pub loop-init : goal.loop-init
+loop-init g c =
+    let whole : c.args.count - 0 ≡ c.args.count = omega arith in
+    rw (c.new-values.ensures, whole) (begins (many_first g.T.Listed.first c.args.count c.args.bytes.now))
+
+pub returns-in_err-value : goal.returns-in_err-value
+returns-in_err-value g c =
+    let p = err_from_is_err_and c.from_residual.result c.from_residual.ensures.1 in
+    rw (p.1, p.2) (ends g.T.Listed.first c.in_err-value.field-0.0 c.loop.values c.args.count c.loop.counter c.loop.rest.now (many_first g.T.Listed.first c.args.count c.args.bytes.now) c.loop-test.true c.in_err-value.ensures c.loop.invariant)
+
+pub loop-preserved : goal.loop-preserved
+loop-preserved g c =
+    rw c.in_ok-push.ensures.ok (goes_on g.T.Listed.first c.loop.values c.args.count c.loop.counter c.loop.rest.now c.in_ok-value.value c.in_ok-value.after.now (many_first g.T.Listed.first c.args.count c.args.bytes.now) c.loop-test.true c.in_ok-value.ensures c.loop.invariant)
+
+pub returns : goal.returns
+returns g c = is_done g.T.Listed.first c.loop.values c.args.count c.loop.counter c.loop.rest.now (many_first g.T.Listed.first c.args.count c.args.bytes.now) c.loop-test.false c.loop.invariant

@@ -1,0 +1,6 @@
+mod CodeLaws
+mod Counting
+mod Elements
+mod Names
+mod PartLemmas
+mod TableRows

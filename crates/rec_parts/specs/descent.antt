@@ -1,0 +1,4 @@
+pub mod LoopLaws
+pub mod Parts
+pub mod Reading
+pub mod Tables
