@@ -7,6 +7,7 @@ use au_base::{Column, List, Name, TableName};
 use au_query::{Selected, Source, are_sound, count, select};
 use sql_ast::{AliasedTable, Count, Select, Statement};
 use std::alloc::Global;
+use std::slice;
 use trials_lines::{Fault, said, yes_or_no};
 
 /// What comes of a call.
@@ -87,23 +88,21 @@ fn over(
 
 // What a COUNT gives over its table.
 fn counted(alloc: Global, world: &World, query: &Count) -> Result<Selected, Fault> {
-    let mut sources = Vec::new(alloc);
-    sources.push(source(alloc, found(world, &query.table)?)?)?;
+    let source = source(alloc, found(world, &query.table)?)?;
     let range = range(alloc, world, &query.table)?;
-    if !are_sound(&sources) {
-        return Err(Fault::NoCase);
-    }
-    over_one(alloc, world, query, &sources, &range)
+    over_one(alloc, world, query, &source, &range)
 }
 
 fn over_one(
     alloc: Global,
     world: &World,
     query: &Count,
-    sources: &[Source<'_>],
+    source: &Source<'_>,
     range: &(Name, List<Column>),
 ) -> Result<Selected, Fault> {
-    let source = sources.first().ok_or(Fault::NoCase)?;
+    if !are_sound(slice::from_ref(source)) {
+        return Err(Fault::NoCase);
+    }
     let selected = count(alloc, source, range, &world.session, query)?;
     Ok(selected)
 }
