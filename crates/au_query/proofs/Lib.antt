@@ -1,5 +1,6 @@
 pub mod Anywhere
 pub mod Columns
+pub mod Cuts
 pub mod Firsts
 pub mod Fronts
 pub mod Numbers

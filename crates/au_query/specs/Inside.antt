@@ -1,15 +1,16 @@
 -- What the code holds midway. No promise of the crate rests on these.
-use Rattle.std.specs.Prelude.{◌≡◌, ◌≤◌, ◌<◌, ℕ, Bool, true, false, List, [], ◌∷◌, ◌++◌, map, length, take, if◌then◌else◌}
-use Rattle.std.specs.List.{flat_map, list_any}
+use Rattle.std.specs.Prelude.{◌≡◌, ◌≤◌, ◌<◌, ◌&&◌, ◌==◌, ℕ, Bool, true, false, not, List, [], ◌∷◌, ◌++◌, map, length, take, if◌then◌else◌}
+use Rattle.std.specs.List.{flat_map, list_all, list_any}
 use Rattle.au_base.specs.declared.cell.Cell.{Cell}
-use Rattle.au_base.specs.Limits.{REPLY_ROWS}
+use Rattle.au_base.specs.Limits.{FROM_TABLES, REPLY_ROWS}
 use Rattle.au_base.specs.declared.numbers.RowNo.{RowNo}
 use Rattle.std.specs.Borrow.{Bor}
 use Rattle.au_expr.specs.declared.placed.Placed.{Placed}
 use Rattle.au_expr.specs.Placing.{value_at}
 use Rattle.au_expr.specs.Ranges.{names_range}
 use Rattle.au_expr.specs.Sessions.{Session}
-use Rattle.au_expr.specs.Values.{is_overflow}
+use Rattle.au_expr.specs.Values.{is_met, is_overflow}
+use Rattle.au_query.specs.declared.cutting.Test.{Test}
 use Rattle.au_query.specs.declared.source.Source.{Source}
 
 -- what the rows that begin with these give
@@ -43,3 +44,30 @@ overflows_in session tree rows = is_overflow (value_at rows session tree)
 
 abbrev pub names_in : Placed → ℕ → Bool
 names_in tree range = names_range range tree
+
+-- ---- conditions that are told early
+
+-- the trees of the conditions
+abbrev pub trees_in_tests : List Test → List Placed
+trees_in_tests tests = map (λ (test : Test). test.condition.now) tests
+
+-- the condition names no table behind so many of the first ones
+abbrev pub IsReach : Test → Type 0
+IsReach test = (range : ℕ) → test.reach ≤ range → range < FROM_TABLES → names_range range test.condition.now ≡ false
+
+-- the condition needs just these rows, and isn't Yes over them
+abbrev pub refuses : Session → List (List Cell) → Test → Bool
+refuses session rows test = test.reach == length rows && not (is_met (value_at rows session test.condition.now))
+
+-- over each row the one are all Yes exactly where the others are
+abbrev pub AreMetTogether : List Placed → List Placed → Type 0
+AreMetTogether some others = (session : Session) (rows : List (List Cell))
+    → list_all (λ (tree : Placed). is_met (value_at rows session tree)) some ≡ list_all (λ (tree : Placed). is_met (value_at rows session tree)) others
+
+-- these are the parts of the one condition
+abbrev pub ArePartsOf : List Placed → List Placed → Type 0
+ArePartsOf conditions parts = (tree : Placed) × (conditions ≡ tree ∷ []) × AreMetTogether parts (tree ∷ [])
+
+-- these are the parts of the last of the conditions
+abbrev pub ArePartsOfLast : List Placed → List Placed → Type 0
+ArePartsOfLast conditions parts = (others : List Placed) × (tree : Placed) × (conditions ≡ others ++ tree ∷ []) × AreMetTogether parts (tree ∷ [])

@@ -3,6 +3,7 @@
 
 mod combo;
 mod counting;
+mod cutting;
 mod naming;
 mod output;
 mod overflow;

@@ -1,5 +1,5 @@
 //! SELECT.
-ghost use Rattle.std.specs.Prelude.{◌≡◌, ◌≤◌, ◌++◌, ◌∷◌, [], IfOk, length};
+ghost use Rattle.std.specs.Prelude.{◌≡◌, ◌≤◌, ◌<◌, ◌++◌, ◌∷◌, [], IfOk, MatchOption, length};
 ghost use Rattle.au_base.specs.Limits as limits;
 ghost use Rattle.au_query.specs.Answers.{Comes, IsDone, IsReply, IsSelected};
 ghost use Rattle.au_query.specs.Combos as spec;
@@ -9,6 +9,7 @@ ghost use Rattle.au_query.specs.Plans.{IsPlanOf, run_refusal};
 ghost use Rattle.au_query.specs.Queries.{query_of};
 
 use crate::combo::Combo;
+use crate::cutting::{tests, where_parts};
 use crate::naming::named;
 use crate::output::Output;
 use crate::overflow::overflows_somewhere;
@@ -73,13 +74,35 @@ fn run(
     if overflows(plan, session, sources) {
         return Ok(Selected::refused(alloc, Code::OVERFLOW));
     }
-    match combos(alloc, plan.conditions.as_slice(), session, sources)? {
+    match passing(alloc, sources, ranges, session, select, plan)? {
         Some(combos) => {
             let selected = answer(alloc, sources, ranges, session, select, plan, combos)?;
             Ok(selected)
         }
         None => Ok(Selected::refused(alloc, Code::TOO_MANY_ROWS)),
     }
+}
+
+// The combinations over which each condition is Yes, in order. `None` where they are more than a
+// reply may have.
+fn passing<'a>(
+    alloc: Global,
+    sources: &[Source<'a>],
+    ranges: &[(Name, List<Column>)],
+    session: &SessionFacts,
+    select: &Select,
+    plan: &Plan,
+) -> Result<Option<Vec<Combo<'a>>>, Memory>
+    requires few { length sources.now ≤ limits.FROM_TABLES }
+    requires plan { IsPlanOf ranges.now select.now plan.now }
+    ensures { IfOk result (λ found. MatchOption found
+        (limits.REPLY_ROWS < length (combos_of session.now plan.now.conditions.items (views sources.now)))
+        (λ kept. (kept.items ≡ combos_of session.now plan.now.conditions.items (views sources.now)) × (length (combos_of session.now plan.now.conditions.items (views sources.now)) ≤ limits.REPLY_ROWS))) }
+{
+    let parts = where_parts(alloc, &select.condition, ranges)?;
+    let tests = tests(alloc, plan.conditions.as_slice(), &parts)?;
+    let found = combos(alloc, tests.as_slice(), session, sources)?;
+    Ok(found)
 }
 
 fn overflows(plan: &Plan, session: &SessionFacts, sources: &[Source<'_>]) -> bool

@@ -1,39 +1,42 @@
 //! The scan of the combinations of rows.
 ghost use Rattle.std.specs.Prelude.{◌≡◌, ◌≤◌, ◌+◌, ◌++◌, [], true, IfOk, MatchOption, ◌<◌, length};
-ghost use Rattle.std.specs.List.{list_all};
+ghost use Rattle.std.specs.List.{AllByRecursion, list_all};
 ghost use Rattle.au_base.specs.Limits as limits;
 ghost use Rattle.au_expr.specs.declared.placed.Placed.{Placed};
 ghost use Rattle.au_expr.specs.Placing.{value_at};
 ghost use Rattle.au_expr.specs.Values as values;
 ghost use Rattle.au_query.specs.Combos as spec;
 ghost use Rattle.au_query.specs.Combos.{cells_of, passes, views};
-ghost use Rattle.au_query.specs.Inside.{IsKept, gathered};
+ghost use Rattle.au_query.specs.Inside.{IsKept, IsReach, gathered, trees_in_tests};
 
 use crate::Source;
 use crate::combo::Combo;
+use crate::cutting::{Test, are_passed, is_cut};
 use au_base::limits::REPLY_ROWS;
 use au_base::{Memory, Truth};
 use au_expr::{Resolved, Row, SessionFacts, truth};
 use std::alloc::Global;
 
 /// The combinations over which each condition is Yes, in order. `None` where they are more than a
-/// reply may have. Nothing is allocated for a combination that is refused.
+/// reply may have. Nothing is allocated for a combination that is refused; and where a condition that
+/// names the first tables alone isn't Yes over their rows, none that begins with them is gone through.
 pub fn combos<'a>(
     alloc: Global,
-    conditions: &[Resolved],
+    tests: &[Test<'_>],
     session: &SessionFacts,
     sources: &[Source<'a>],
 ) -> Result<Option<Vec<Combo<'a>>>, Memory>
     requires few { length sources.now ≤ limits.FROM_TABLES }
+    requires reach { AllByRecursion IsReach tests.now }
     ensures { IfOk result (λ found. MatchOption found
-        (limits.REPLY_ROWS < length (spec.combos session.now conditions.now (views sources.now)))
-        (λ kept. (kept.items ≡ spec.combos session.now conditions.now (views sources.now)) × (length (spec.combos session.now conditions.now (views sources.now)) ≤ limits.REPLY_ROWS))) }
+        (limits.REPLY_ROWS < length (spec.combos session.now (trees_in_tests tests.now) (views sources.now)))
+        (λ kept. (kept.items ≡ spec.combos session.now (trees_in_tests tests.now) (views sources.now)) × (length (spec.combos session.now (trees_in_tests tests.now) (views sources.now)) ≤ limits.REPLY_ROWS))) }
 {
     let mut kept = Vec::new(alloc);
     let mut front = Combo::new(alloc)?;
     let mut row = Row::new();
     if scan(
-        alloc, conditions, session, sources, &mut front, &mut row, &mut kept,
+        alloc, tests, session, sources, &mut front, &mut row, &mut kept,
     )? {
         Ok(Some(kept))
     } else {
@@ -44,7 +47,7 @@ pub fn combos<'a>(
 #[tactic(auto, using(crate::proofs::Fronts::popped))]
 fn scan<'a>(
     alloc: Global,
-    conditions: &[Resolved],
+    tests: &[Test<'_>],
     session: &SessionFacts,
     sources: &[Source<'a>],
     front: &mut Combo<'a>,
@@ -54,17 +57,21 @@ fn scan<'a>(
     requires few { length front.old + length sources.now ≤ limits.FROM_TABLES }
     requires cells { row.old ≡ cells_of front.old }
     requires room { length kept.old.items ≤ limits.REPLY_ROWS }
+    requires reach { AllByRecursion IsReach tests.now }
     ensures front { IfOk result (λ all. all ≡ true → front.new ≡ front.old) }
     ensures row { IfOk result (λ all. all ≡ true → row.new ≡ row.old) }
-    ensures kept { IfOk result (λ all. IsKept all kept.new.items (kept.old.items ++ gathered (passes session.now conditions.now) front.old (views sources.now))) }
+    ensures kept { IfOk result (λ all. IsKept all kept.new.items (kept.old.items ++ gathered (passes session.now (trees_in_tests tests.now)) front.old (views sources.now))) }
 {
+    if is_cut(tests, session, row, sources) {
+        return Ok(true);
+    }
     match sources.split_first() {
-        None => keep(alloc, conditions, session, front, row, kept),
+        None => keep(alloc, tests, session, front, row, kept),
         Some((source, rest)) => {
             for (number, cells) in source.rows.as_slice() {
                 front.push(*number, *cells)?;
                 row.push(*cells);
-                if !scan(alloc, conditions, session, rest, front, row, kept)? {
+                if !scan(alloc, tests, session, rest, front, row, kept)? {
                     return Ok(false);
                 }
                 row.pop();
@@ -78,7 +85,7 @@ fn scan<'a>(
 // Keeps the combination where each condition is Yes over it and a reply may have it.
 fn keep<'a>(
     alloc: Global,
-    conditions: &[Resolved],
+    tests: &[Test<'_>],
     session: &SessionFacts,
     front: &Combo<'a>,
     row: &Row<'a>,
@@ -86,9 +93,9 @@ fn keep<'a>(
 ) -> Result<bool, Memory>
     requires cells { row.now ≡ cells_of front.now }
     requires room { length kept.old.items ≤ limits.REPLY_ROWS }
-    ensures kept { IfOk result (λ all. IsKept all kept.new.items (kept.old.items ++ gathered (passes session.now conditions.now) front.now [])) }
+    ensures kept { IfOk result (λ all. IsKept all kept.new.items (kept.old.items ++ gathered (passes session.now (trees_in_tests tests.now)) front.now [])) }
 {
-    if !are_met(conditions, session, row) {
+    if !are_passed(tests, session, row) {
         return Ok(true);
     }
     if kept.len() >= REPLY_ROWS {
