@@ -19,6 +19,7 @@ pub mod NumberLemmas
 pub mod OrderLemmas
 pub mod OtherLemmas
 pub mod PutLemmas
+pub mod SlotLemmas
 pub mod SoughtLemmas
 pub mod SpanLemmas
 pub mod SweepLemmas

@@ -5,7 +5,6 @@ use Rattle.std.specs.List.{Contains, list_all, list_any}
 use Rattle.std.specs.Option.{option_and_then, option_map}
 use Rattle.std.proofs.lemmas.Grind.{common_steps}
 use Rattle.std.proofs.lemmas.List.Elements.{Contains-append_cases, Contains-append_left, Contains-append_right}
-use Rattle.slab.proofs.SlabLemmas.{Contains-cons_cases}
 use Rattle.au_base.specs.declared.cell.Cell.{Cell}
 use Rattle.au_base.specs.declared.numbers.RowNo.{RowNo}
 use Rattle.au_base.specs.declared.numbers.ClientNo.{ClientNo}
@@ -26,7 +25,7 @@ use Rattle.au_rows.proofs.FoundLemmas.{none-after}
 use Rattle.au_rows.proofs.IndexLemmas.{kept-version, owned-place, version-number, version-table}
 use Rattle.au_rows.proofs.KeyLemmas.{never}
 use Rattle.au_rows.proofs.PutLemmas.{settled-found}
-use Rattle.au_rows.proofs.UnderLemmas.{shown}
+use Rattle.au_rows.proofs.UnderLemmas.{first-or-later, shown}
 use Rattle.au_rows.proofs.UsedLemmas.{or-cases}
 
 -- what is stored under a key has the key's number
@@ -109,7 +108,7 @@ module _ (slots : List (Option Version)) (by : ClientNo) where
 
     shown-entry : (number : RowNo) (o : Option (List Cell)) (row : RowNo × List Cell) → Contains (entry number o) row → (row.0 ≡ number) × (o ≡ Some row.1)
     shown-entry number None row h = absurd (nothing-in row h)
-    shown-entry number (Some cells) row h = go (Contains-cons_cases (number, cells) row [] h)
+    shown-entry number (Some cells) row h = go (first-or-later (number, cells) row [] h)
       where
         go : ((number, cells) ≡ row) ⊎ Contains [] row → (row.0 ≡ number) × (Some cells ≡ Some row.1)
         go (inl same) = (ap (λ (r : RowNo × List Cell). r.0) (sym same), ap (λ (r : RowNo × List Cell). Some r.1) same)

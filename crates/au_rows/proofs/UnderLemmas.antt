@@ -1,12 +1,11 @@
 -- What a walk over a table finds under a key, and what the tests of a call's conditions say.
-use Rattle.std.proofs.Common.{◌≡◌, ◌∙◌, ◌&&◌, ◌⊎◌, inl, inr, ℕ, ◌+◌, ◌-◌, ◌<◌, Bool, true, false, cond, is_some, List, [], ◌∷◌, ◌++◌, length, get_or, take, drop, drop-cons, add-one, refl, ap, sym, subst, arith, Option, None, Some, map}
+use Rattle.std.proofs.Common.{◌≡◌, ◌∙◌, ◌&&◌, ◌⊎◌, inl, inr, ℕ, zero, suc, ◌+◌, ◌-◌, ◌<◌, Bool, true, false, cond, is_some, List, [], ◌∷◌, ◌++◌, length, get_or, take, drop, drop-cons, add-one, refl, ap, sym, subst, arith, Option, None, Some, map}
 use Rattle.std.specs.Prelude.{◌==◌, IfNone}
 use Rattle.std.specs.List.{Contains, list_all, position_or_len}
 use Rattle.std.specs.Option.{option_and_then, option_map}
 use Rattle.std.proofs.lemmas.Grind.{common_steps}
 use Rattle.std.proofs.lemmas.List.{take_rest}
 use Rattle.std.proofs.lemmas.List.Elements.{Contains-append_cases}
-use Rattle.slab.proofs.SlabLemmas.{Contains-cons_cases}
 use Rattle.std.proofs.lemmas.List.Elements.{Contains-append_left}
 use Rattle.std.proofs.lemmas.List.Elements.{Contains-append_right}
 use Rattle.au_base.specs.declared.cell.Cell.{Cell}
@@ -20,6 +19,14 @@ use Rattle.au_rows.specs.Kept.{Sound, change_of, found_seen, held_of, is_kept, i
 use Rattle.au_rows.proofs.EndLemmas.{found_passes, kept-some}
 use Rattle.au_rows.proofs.PutLemmas.{owner_of-map, row_at-map}
 use Rattle.au_rows.proofs.ViewLemmas.{view_of-drop}
+
+-- what stands in a list is its first element or stands behind it
+pub first-or-later : {X : Type 0} (head x : X) (rest : List X) → Contains (head ∷ rest) x → (head ≡ x) ⊎ Contains rest x
+first-or-later {X} head x rest p = by_index p.0 p.1 p.2
+  where
+    by_index : (k : ℕ) → k < suc (length rest) → get_or (head ∷ rest) k x ≡ x → (head ≡ x) ⊎ Contains rest x
+    by_index zero within found = inl found
+    by_index (suc k) within found = inr (k, omega arith, found)
 
 nothing-in : {X : Type 0} (x : X) → Contains [] x → ⊥
 nothing-in x h = let lt = h.1 in omega arith
@@ -48,7 +55,7 @@ module _ (slots : List (Option Version)) (t : ℕ) (by : ClientNo) where
 
   entry-row : (n : RowNo) (o : Option (List Cell)) (row : RowNo × List Cell) → Contains (entry n o) row → o ≡ Some row.1
   entry-row n None row h = absurd (nothing-in row h)
-  entry-row n (Some cells) row h = go (Contains-cons_cases (n, cells) row [] h)
+  entry-row n (Some cells) row h = go (first-or-later (n, cells) row [] h)
     where
       go : ((n, cells) ≡ row) ⊎ Contains [] row → Some cells ≡ Some row.1
       go (inl same) = ap (λ (r : RowNo × List Cell). Some r.1) same

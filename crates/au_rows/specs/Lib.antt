@@ -8,6 +8,7 @@ pub mod Held
 pub mod Kept
 pub mod Links
 pub mod Order
+pub mod Slots
 pub mod Sought
 pub mod Spare
 pub mod Stored

@@ -127,7 +127,7 @@ fn keep_elsewhere(places: &mut Vec<Place>, table: usize)
     ensures len { vec_len places.new ≤ vec_len places.old }
     ensures capacity { vec_capacity places.new ≡ vec_capacity places.old }
 {
-    places.retain(|place| place.table != table);
+    places.retain(|place| place.table as usize != table);
 }
 
 fn move_back(lower: &mut Vec<Place>, upper: &mut Vec<Place>)

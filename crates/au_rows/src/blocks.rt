@@ -88,7 +88,7 @@ pub(crate) fn put_over(blocks: &mut Vec<Block>, place: Place)
     ensures len { vec_len blocks.new ≡ vec_len blocks.old }
     ensures capacity { vec_capacity blocks.new ≡ vec_capacity blocks.old }
 {
-    let at = home_of(blocks, place.table, place.number);
+    let at = home_of(blocks, place.table as usize, place.number);
     put_at(blocks, at, place);
 }
 
@@ -239,7 +239,7 @@ pub(crate) fn put_new(blocks: &mut Vec<Block>, fresh: &mut Vec<Block>, place: Pl
     ensures paid { all_excess blocks.new.items + 128 * vec_len fresh.old ≤ all_excess blocks.old.items + 128 * vec_len fresh.new + 1 }
     ensures fits { vec_len blocks.new + vec_len fresh.new ≤ vec_capacity blocks.new }
 {
-    let at = make_way(blocks, fresh, place.table, place.number);
+    let at = make_way(blocks, fresh, place.table as usize, place.number);
     put_at(blocks, at, place);
 }
 

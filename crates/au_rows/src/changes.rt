@@ -18,7 +18,7 @@ pub struct Changes {
     /// The changes, and the places of those that are gone.
     entries: Vec<Option<Entry>>,
     /// Where each lane's newest change is kept.
-    tops: Vec<Option<usize>>,
+    tops: Vec<Option<u32>>,
 }
 
 impl Model for Changes {
@@ -26,12 +26,12 @@ impl Model for Changes {
 
     ghost Value = { Listed };
 
-    ghost use Rattle.std.specs.Prelude.{◌≡◌, ◌-◌, None, length, slice_index_or, vec_len, vec_capacity};
+    ghost use Rattle.std.specs.Prelude.{◌≡◌, ◌-◌, ◌≤◌, ◌^◌, None, length, min, slice_index_or, vec_len, vec_capacity};
     ghost use Rattle.au_rows.specs.Links.{Linked, live};
 
-    ghost view = { λ c. record { listed = live c.entries.items; room = vec_capacity c.entries - length (live c.entries.items) } };
+    ghost view = { λ c. record { listed = live c.entries.items; room = min (vec_capacity c.entries) (2 ^ 32) - length (live c.entries.items) } };
 
-    ghost invariant = { λ c. Linked c.entries.items (λ lane. slice_index_or c.tops.items lane None) (vec_len c.entries) × (vec_len c.tops ≡ 4096) };
+    ghost invariant = { λ c. Linked c.entries.items (λ lane. slice_index_or c.tops.items lane None) (vec_len c.entries) × (vec_len c.tops ≡ 4096) × (vec_len c.entries ≤ 2 ^ 32) };
 }
 
 impl Changes {

@@ -1,5 +1,5 @@
 //! How many places each table has.
-ghost use Rattle.std.specs.Prelude.{◌≡◌, ◌+◌, ◌-◌, ◌<◌, ◌≤◌, ◌^◌, ℕ, OnOk, length, slice_index_or, slice_set};
+ghost use Rattle.std.specs.Prelude.{◌≡◌, ◌+◌, ◌-◌, ◌<◌, ◌≤◌, ◌^◌, ℕ, OnOk, length, max, slice_index_or, slice_set};
 
 use au_base::Memory;
 
@@ -45,6 +45,7 @@ pub(crate) fn count_to(counts: &mut Vec<u32>, tables: usize) -> Result<(), Memor
     ensures ok { OnOk result (tables ≤ length counts.new.items) }
     ensures same { (table : ℕ) → slice_index_or counts.new.items table 0 ≡ slice_index_or counts.old.items table 0 }
     ensures more { length counts.old.items ≤ length counts.new.items }
+    ensures most { length counts.new.items ≤ max tables (length counts.old.items) }
 {
     while counts.len() < tables {
         counts.push(0)?;

@@ -33,7 +33,7 @@ fn free_all(places: &Places, versions: &mut Versions, table: usize)
 {
     let mut walk = places.from(table, RowNo(0));
     while let Some(place) = walk.step() {
-        if place.table != table {
+        if place.table as usize != table {
             return;
         }
         free_of(versions, place, table);

@@ -35,7 +35,7 @@ fn ended(place: Place, ending: Ending) -> Place
 }
 
 /// The committed version that the owner's changes take the part of.
-fn replaced(place: Place, ending: Ending) -> Option<usize>
+fn replaced(place: Place, ending: Ending) -> Option<u32>
     ensures { result ≡ slot_ended ending place }
 {
     match ending {
@@ -62,7 +62,7 @@ fn keep_left(places: &mut Places, place: Place)
     if is_left(place) {
         places.put_over(place);
     } else {
-        places.take_out(place.table, place.number);
+        places.take_out(place.table as usize, place.number);
     }
 }
 
@@ -120,12 +120,12 @@ fn end_row(
     ensures places_room { places.new.room ≡ places.old.room }
     ensures tables { places.new.tables ≡ places.old.tables }
 {
-    if let Some(place) = places.find(change.table, change.number) {
+    if let Some(place) = places.find(change.table as usize, change.number) {
         end_if_own(places, versions, place, by, ending);
     }
 }
 
-fn is_apart(a: Option<usize>, b: Option<usize>) -> bool
+fn is_apart(a: Option<u32>, b: Option<u32>) -> bool
     ensures { result ≡ is_apart a b }
 {
     match a {
@@ -137,7 +137,7 @@ fn is_apart(a: Option<usize>, b: Option<usize>) -> bool
     }
 }
 
-fn is_clear(place: Option<Place>, slot: Option<usize>) -> bool
+fn is_clear(place: Option<Place>, slot: Option<u32>) -> bool
     ensures { result ≡ is_clear slot place }
 {
     match place {
@@ -155,7 +155,10 @@ fn drop_version(places: &Places, versions: &mut Versions, change: Unsettled)
     ensures gone { IsGone change.slot (place_in change.table change.number places.now.listed) versions.new.slots }
     ensures room { versions.old.room ≤ versions.new.room }
 {
-    if is_clear(places.find(change.table, change.number), change.slot) {
+    if is_clear(
+        places.find(change.table as usize, change.number),
+        change.slot,
+    ) {
         versions.free(change.slot);
     }
 }

@@ -7,5 +7,5 @@ use crate::unsettled::Unsettled;
 pub struct Entry {
     pub change: Unsettled,
     /// Where its lane's change before it is kept.
-    pub below: Option<usize>,
+    pub below: Option<u32>,
 }

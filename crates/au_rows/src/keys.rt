@@ -58,7 +58,7 @@ pub(crate) fn has_key(places: &[u32], key: &[Cell], cells: &[Cell]) -> bool
 }
 
 /// The content in a slot.
-fn content<'a>(versions: &'a Versions, slot: Option<usize>) -> Option<&'a List<Cell>>
+fn content<'a>(versions: &'a Versions, slot: Option<u32>) -> Option<&'a List<Cell>>
     ensures { option_copied result ≡ content_at versions.entry.now.slots slot }
 {
     match slot {
@@ -70,7 +70,7 @@ fn content<'a>(versions: &'a Versions, slot: Option<usize>) -> Option<&'a List<C
     }
 }
 
-fn has_key_in(versions: &Versions, slot: Option<usize>, places: &[u32], key: &[Cell]) -> bool
+fn has_key_in(versions: &Versions, slot: Option<u32>, places: &[u32], key: &[Cell]) -> bool
     ensures { IsTrue result ↔ HasKey places.now key.now (content_at versions.now.slots slot) }
 {
     match content(versions, slot) {
@@ -89,7 +89,7 @@ fn has_committed_key(
     requires { in_order places.now.listed ≡ true }
     ensures { IsTrue result ↔ HasKey asked.now.places.now asked.now.key.now (settled_of change.now.table change.now.number (map (held_of versions.now.slots) places.now.listed)) }
 {
-    let slot = places.settled(change.table, change.number);
+    let slot = places.settled(change.table as usize, change.number);
     has_key_in(versions, slot, asked.places, asked.key)
 }
 
@@ -100,7 +100,7 @@ fn is_locking(places: &Places, versions: &Versions, change: &Unsettled, asked: &
     if change.by.0 == asked.by.0 {
         return false;
     }
-    if change.table != asked.table {
+    if change.table as usize != asked.table {
         return false;
     }
     if has_key_in(versions, change.slot, asked.places, asked.key) {
@@ -182,7 +182,7 @@ fn is_elsewhere(entry: &Option<Entry>, table: usize) -> bool
     ensures { result ≡ entry_elsewhere table entry.now }
 {
     match entry {
-        Some(entry) => entry.change.table != table,
+        Some(entry) => entry.change.table as usize != table,
         None => true,
     }
 }

@@ -22,6 +22,7 @@ mod places;
 mod reading;
 mod rows;
 mod seeking;
+mod slots;
 mod sought;
 mod table;
 mod tables;

@@ -1,6 +1,6 @@
 //! Changes of open transactions in the order in which they were made, those of one lane in a chain.
 //! A client's lane goes by its number: clients numbered one after another have lanes of their own.
-ghost use Rattle.std.specs.Prelude.{◌≡◌, ℕ, ◌+◌, ◌<◌, ◌≤◌, ◌++◌, ◌∷◌, [], IfNone, IfOk, IfSome, IsSome, IsTrue, None, OnOk, Option, Some, cond, false, filter, is_some, length, nat_eq, slice_index_or, slice_set, true, vec_len, vec_capacity};
+ghost use Rattle.std.specs.Prelude.{◌≡◌, ℕ, ◌+◌, ◌<◌, ◌≤◌, ◌^◌, ◌++◌, ◌∷◌, [], IfNone, IfOk, IfSome, IsSome, IsTrue, None, OnOk, Option, Some, cond, false, filter, is_some, length, min, nat_eq, slice_index_or, slice_set, true, vec_len, vec_capacity};
 ghost use Rattle.std.specs.List.{list_any};
 ghost use Rattle.au_rows.specs.declared.entry.Entry.{Entry as Kept};
 ghost use Rattle.au_rows.specs.Ends.{is_own};
@@ -14,6 +14,9 @@ use std::alloc::Global;
 /// How many lanes there are.
 const LANES: u32 = 4096;
 
+/// How many entries there are at most.
+const MOST: usize = 1 << 32;
+
 /// The client's lane.
 fn lane_of(by: ClientNo) -> usize
     ensures lane { result ≡ lane_in by }
@@ -23,7 +26,7 @@ fn lane_of(by: ClientNo) -> usize
 }
 
 /// A place for the newest change of each lane.
-pub(crate) fn no_tops(alloc: Global) -> Result<Vec<Option<usize>>, Memory>
+pub(crate) fn no_tops(alloc: Global) -> Result<Vec<Option<u32>>, Memory>
     ensures len { IfOk result (λ tops. vec_len tops ≡ 4096) }
     ensures none { IfOk result (λ tops. (lane : ℕ) → slice_index_or tops.items lane None ≡ None) }
 {
@@ -32,7 +35,7 @@ pub(crate) fn no_tops(alloc: Global) -> Result<Vec<Option<usize>>, Memory>
 }
 
 /// Where the lane's newest change is kept.
-fn top_of(tops: &[Option<usize>], lane: usize) -> Option<usize>
+fn top_of(tops: &[Option<u32>], lane: usize) -> Option<u32>
     requires { lane < length tops.now }
     ensures { result ≡ slice_index_or tops.now lane None }
 {
@@ -40,7 +43,7 @@ fn top_of(tops: &[Option<usize>], lane: usize) -> Option<usize>
 }
 
 /// Names another change of a lane as the newest, or none.
-fn set_top(tops: &mut Vec<Option<usize>>, lane: usize, top: Option<usize>)
+fn set_top(tops: &mut Vec<Option<u32>>, lane: usize, top: Option<u32>)
     requires { lane < vec_len tops.old }
     ensures items { tops.new.items ≡ slice_set tops.old.items lane top }
     ensures len { vec_len tops.new ≡ vec_len tops.old }
@@ -49,7 +52,7 @@ fn set_top(tops: &mut Vec<Option<usize>>, lane: usize, top: Option<usize>)
 }
 
 /// Names no change as the newest of any lane.
-fn clear(tops: &mut Vec<Option<usize>>)
+fn clear(tops: &mut Vec<Option<u32>>)
     ensures none { (lane : ℕ) → slice_index_or tops.new.items lane None ≡ None }
     ensures len { vec_len tops.new ≡ vec_len tops.old }
 {
@@ -59,8 +62,9 @@ fn clear(tops: &mut Vec<Option<usize>>)
 }
 
 /// Lets the entry at the index, where there is one, name its lane's entry before it.
-fn link(entries: &mut Vec<Option<Entry>>, tops: &mut Vec<Option<usize>>, at: usize)
+fn link(entries: &mut Vec<Option<Entry>>, tops: &mut Vec<Option<u32>>, at: usize)
     requires within { at < vec_len entries.old }
+    requires few { vec_len entries.old ≤ 2 ^ 32 }
     requires lanes { vec_len tops.old ≡ 4096 }
     requires linked { Linked entries.old.items (λ lane. slice_index_or tops.old.items lane None) at }
     ensures linked { Linked entries.new.items (λ lane. slice_index_or tops.new.items lane None) (at + 1) }
@@ -76,13 +80,14 @@ fn link(entries: &mut Vec<Option<Entry>>, tops: &mut Vec<Option<usize>>, at: usi
             change: entry.change,
             below,
         });
-        set_top(tops, lane, Some(at));
+        set_top(tops, lane, Some(at as u32));
     }
 }
 
 /// Lets each entry name its lane's entry before it.
-fn link_all(entries: &mut Vec<Option<Entry>>, tops: &mut Vec<Option<usize>>)
+fn link_all(entries: &mut Vec<Option<Entry>>, tops: &mut Vec<Option<u32>>)
     requires none { (lane : ℕ) → slice_index_or tops.old.items lane None ≡ None }
+    requires few { vec_len entries.old ≤ 2 ^ 32 }
     requires lanes { vec_len tops.old ≡ 4096 }
     ensures linked { Linked entries.new.items (λ lane. slice_index_or tops.new.items lane None) (vec_len entries.new) }
     ensures live { live entries.new.items ≡ live entries.old.items }
@@ -97,17 +102,20 @@ fn link_all(entries: &mut Vec<Option<Entry>>, tops: &mut Vec<Option<usize>>)
 
 fn drop_vacant(entries: &mut Vec<Option<Entry>>)
     ensures items { entries.new.items ≡ filter is_some entries.old.items }
+    ensures len { vec_len entries.new ≤ vec_len entries.old }
     ensures capacity { vec_capacity entries.new ≡ vec_capacity entries.old }
 {
     entries.retain(|entry| entry.is_some());
 }
 
 /// Moves the entries together, so that no vacant place is left.
-pub(crate) fn compact(entries: &mut Vec<Option<Entry>>, tops: &mut Vec<Option<usize>>)
+pub(crate) fn compact(entries: &mut Vec<Option<Entry>>, tops: &mut Vec<Option<u32>>)
+    requires few { vec_len entries.old ≤ 2 ^ 32 }
     requires lanes { vec_len tops.old ≡ 4096 }
     ensures linked { Linked entries.new.items (λ lane. slice_index_or tops.new.items lane None) (vec_len entries.new) }
     ensures live { live entries.new.items ≡ live entries.old.items }
     ensures len { vec_len entries.new ≡ length (live entries.old.items) }
+    ensures few { vec_len entries.new ≤ vec_len entries.old }
     ensures capacity { vec_capacity entries.new ≡ vec_capacity entries.old }
     ensures lanes { vec_len tops.new ≡ 4096 }
 {
@@ -118,32 +126,30 @@ pub(crate) fn compact(entries: &mut Vec<Option<Entry>>, tops: &mut Vec<Option<us
 
 /// Makes a place vacant at the end, where there are fewer changes than room for them. It takes no
 /// memory.
-pub(crate) fn make_way(entries: &mut Vec<Option<Entry>>, tops: &mut Vec<Option<usize>>)
+pub(crate) fn make_way(entries: &mut Vec<Option<Entry>>, tops: &mut Vec<Option<u32>>)
+    requires few { vec_len entries.old ≤ 2 ^ 32 }
     requires lanes { vec_len tops.old ≡ 4096 }
     requires linked { Linked entries.old.items (λ lane. slice_index_or tops.old.items lane None) (vec_len entries.old) }
-    requires room { length (live entries.old.items) < vec_capacity entries.old }
+    requires room { length (live entries.old.items) < min (vec_capacity entries.old) (2 ^ 32) }
     ensures linked { Linked entries.new.items (λ lane. slice_index_or tops.new.items lane None) (vec_len entries.new) }
     ensures live { live entries.new.items ≡ live entries.old.items }
-    ensures room { vec_len entries.new < vec_capacity entries.new }
+    ensures room { vec_len entries.new < min (vec_capacity entries.new) (2 ^ 32) }
     ensures capacity { vec_capacity entries.new ≡ vec_capacity entries.old }
     ensures lanes { vec_len tops.new ≡ 4096 }
 {
-    if entries.len() == entries.capacity() {
+    if entries.len() == entries.capacity().min(MOST) {
         compact(entries, tops);
     }
 }
 
 /// Takes a change in, behind all others. It takes no memory.
-pub(crate) fn add(
-    entries: &mut Vec<Option<Entry>>,
-    tops: &mut Vec<Option<usize>>,
-    change: Unsettled,
-)
+pub(crate) fn add(entries: &mut Vec<Option<Entry>>, tops: &mut Vec<Option<u32>>, change: Unsettled)
     requires lanes { vec_len tops.old ≡ 4096 }
     requires linked { Linked entries.old.items (λ lane. slice_index_or tops.old.items lane None) (vec_len entries.old) }
-    requires room { vec_len entries.old < vec_capacity entries.old }
+    requires room { vec_len entries.old < min (vec_capacity entries.old) (2 ^ 32) }
     ensures linked { Linked entries.new.items (λ lane. slice_index_or tops.new.items lane None) (vec_len entries.new) }
     ensures live { live entries.new.items ≡ live entries.old.items ++ change ∷ [] }
+    ensures len { vec_len entries.new ≡ vec_len entries.old + 1 }
     ensures capacity { vec_capacity entries.new ≡ vec_capacity entries.old }
     ensures lanes { vec_len tops.new ≡ 4096 }
 {
@@ -158,7 +164,7 @@ pub(crate) fn add(
 /// Takes the entry at the index out, which is the client's and its lane's newest.
 fn take_top(
     entries: &mut Vec<Option<Entry>>,
-    tops: &mut Vec<Option<usize>>,
+    tops: &mut Vec<Option<u32>>,
     by: ClientNo,
     at: usize,
 ) -> Option<Unsettled>
@@ -169,6 +175,7 @@ fn take_top(
     ensures linked { Linked entries.new.items (λ lane. slice_index_or tops.new.items lane None) (vec_len entries.new) }
     ensures taken { IfSome result (λ change. Taken by change (live entries.old.items) (live entries.new.items)) }
     ensures some { IsSome result }
+    ensures len { vec_len entries.new ≡ vec_len entries.old }
     ensures capacity { vec_capacity entries.new ≡ vec_capacity entries.old }
     ensures lanes { vec_len tops.new ≡ 4096 }
 {
@@ -194,7 +201,7 @@ fn is_own_at(entries: &[Option<Entry>], at: usize, by: ClientNo) -> bool
 }
 
 /// Where the entry below the one at the index is kept.
-fn below_of(entries: &[Option<Entry>], at: usize) -> Option<usize>
+fn below_of(entries: &[Option<Entry>], at: usize) -> Option<u32>
     requires { at < length entries.now }
     ensures { result ≡ below_in (slice_index_or entries.now at None) }
 {
@@ -216,10 +223,10 @@ fn find_above(entries: &[Option<Entry>], by: ClientNo, top: usize) -> Option<usi
     for _turn in 0..entries.len() {
         match below_of(entries, above) {
             Some(here) => {
-                if is_own_at(entries, here, by) {
+                if is_own_at(entries, here as usize, by) {
                     return Some(above);
                 }
-                above = here;
+                above = here as usize;
             }
             None => return None,
         }
@@ -264,6 +271,7 @@ fn take_named(
     ensures linked { (tops : ℕ → Option ℕ) → Linked entries.old.items tops (vec_len entries.old) → Linked entries.new.items tops (vec_len entries.new) }
     ensures taken { IfSome result (λ change. Taken by change (live entries.old.items) (live entries.new.items)) }
     ensures some { IsSome result }
+    ensures len { vec_len entries.new ≡ vec_len entries.old }
     ensures capacity { vec_capacity entries.new ≡ vec_capacity entries.old }
 {
     match entry_at(entries, here) {
@@ -282,11 +290,12 @@ fn take_below(entries: &mut Vec<Option<Entry>>, by: ClientNo, above: usize) -> O
     ensures linked { (tops : ℕ → Option ℕ) → Linked entries.old.items tops (vec_len entries.old) → Linked entries.new.items tops (vec_len entries.new) }
     ensures taken { IfSome result (λ change. Taken by change (live entries.old.items) (live entries.new.items)) }
     ensures some { IsSome result }
+    ensures len { vec_len entries.new ≡ vec_len entries.old }
     ensures capacity { vec_capacity entries.new ≡ vec_capacity entries.old }
 {
     match entry_at(entries, above) {
         Some(upper) => match upper.below {
-            Some(here) => take_named(entries, by, above, upper, here),
+            Some(here) => take_named(entries, by, above, upper, here as usize),
             None => None,
         },
         None => None,
@@ -296,7 +305,7 @@ fn take_below(entries: &mut Vec<Option<Entry>>, by: ClientNo, above: usize) -> O
 /// Takes the client's newest change out of its lane, whose newest is at the index.
 fn take_from(
     entries: &mut Vec<Option<Entry>>,
-    tops: &mut Vec<Option<usize>>,
+    tops: &mut Vec<Option<u32>>,
     by: ClientNo,
     top: usize,
 ) -> Option<Unsettled>
@@ -307,6 +316,7 @@ fn take_from(
     ensures taken { IfSome result (λ change. Taken by change (live entries.old.items) (live entries.new.items)) }
     ensures none { IfNone result (list_any (is_own by) (live entries.old.items) ≡ false) }
     ensures same { IfNone result (live entries.new.items ≡ live entries.old.items) }
+    ensures len { vec_len entries.new ≡ vec_len entries.old }
     ensures capacity { vec_capacity entries.new ≡ vec_capacity entries.old }
     ensures lanes { vec_len tops.new ≡ 4096 }
 {
@@ -323,6 +333,7 @@ fn take_from(
 fn drop_last(entries: &mut Vec<Option<Entry>>) -> bool
     ensures gone { IsTrue result → entries.old.items ≡ entries.new.items ++ None ∷ [] }
     ensures kept { result ≡ false → entries.new.items ≡ entries.old.items }
+    ensures len { vec_len entries.new ≤ vec_len entries.old }
     ensures capacity { vec_capacity entries.new ≡ vec_capacity entries.old }
 {
     match entries.pop() {
@@ -339,6 +350,7 @@ fn drop_last(entries: &mut Vec<Option<Entry>>) -> bool
 fn trim(entries: &mut Vec<Option<Entry>>)
     ensures linked { (tops : ℕ → Option ℕ) → Linked entries.old.items tops (vec_len entries.old) → Linked entries.new.items tops (vec_len entries.new) }
     ensures live { live entries.new.items ≡ live entries.old.items }
+    ensures len { vec_len entries.new ≤ vec_len entries.old }
     ensures capacity { vec_capacity entries.new ≡ vec_capacity entries.old }
 {
     for _turn in 0..entries.len() {
@@ -351,7 +363,7 @@ fn trim(entries: &mut Vec<Option<Entry>>)
 /// Takes the client's newest change out of its lane, and the vacant places behind all changes away.
 fn take_and_trim(
     entries: &mut Vec<Option<Entry>>,
-    tops: &mut Vec<Option<usize>>,
+    tops: &mut Vec<Option<u32>>,
     by: ClientNo,
     top: usize,
 ) -> Option<Unsettled>
@@ -362,6 +374,7 @@ fn take_and_trim(
     ensures taken { IfSome result (λ change. Taken by change (live entries.old.items) (live entries.new.items)) }
     ensures none { IfNone result (list_any (is_own by) (live entries.old.items) ≡ false) }
     ensures same { IfNone result (live entries.new.items ≡ live entries.old.items) }
+    ensures len { vec_len entries.new ≤ vec_len entries.old }
     ensures capacity { vec_capacity entries.new ≡ vec_capacity entries.old }
     ensures lanes { vec_len tops.new ≡ 4096 }
 {
@@ -373,7 +386,7 @@ fn take_and_trim(
 /// Takes the client's newest change out. `None` exactly where it has none.
 pub(crate) fn take_newest(
     entries: &mut Vec<Option<Entry>>,
-    tops: &mut Vec<Option<usize>>,
+    tops: &mut Vec<Option<u32>>,
     by: ClientNo,
 ) -> Option<Unsettled>
     requires lanes { vec_len tops.old ≡ 4096 }
@@ -382,20 +395,21 @@ pub(crate) fn take_newest(
     ensures taken { IfSome result (λ change. Taken by change (live entries.old.items) (live entries.new.items)) }
     ensures none { IfNone result (list_any (is_own by) (live entries.old.items) ≡ false) }
     ensures same { IfNone result (live entries.new.items ≡ live entries.old.items) }
+    ensures len { vec_len entries.new ≤ vec_len entries.old }
     ensures capacity { vec_capacity entries.new ≡ vec_capacity entries.old }
     ensures lanes { vec_len tops.new ≡ 4096 }
 {
     match top_of(tops, lane_of(by)) {
-        Some(top) => take_and_trim(entries, tops, by, top),
+        Some(top) => take_and_trim(entries, tops, by, top as usize),
         None => None,
     }
 }
 
 fn has_room(entries: &Vec<Option<Entry>>, more: usize) -> bool
-    ensures { IsTrue result → vec_len entries.now + more ≤ vec_capacity entries.now }
+    ensures { IsTrue result → vec_len entries.now + more ≤ min (vec_capacity entries.now) (2 ^ 32) }
 {
     match entries.len().checked_add(more) {
-        Some(all) => all <= entries.capacity(),
+        Some(all) => all <= entries.capacity().min(MOST),
         None => false,
     }
 }
@@ -414,17 +428,22 @@ fn wanted(len: usize, more: usize) -> Result<usize, Memory>
 /// Makes room for so many more changes, by new memory.
 fn grow(
     entries: &mut Vec<Option<Entry>>,
-    tops: &mut Vec<Option<usize>>,
+    tops: &mut Vec<Option<u32>>,
     more: usize,
 ) -> Result<(), Memory>
+    requires few { vec_len entries.old ≤ 2 ^ 32 }
     requires lanes { vec_len tops.old ≡ 4096 }
-    ensures ok { OnOk result (length (live entries.new.items) + more ≤ vec_capacity entries.new) }
+    ensures ok { OnOk result (length (live entries.new.items) + more ≤ min (vec_capacity entries.new) (2 ^ 32)) }
     ensures linked { Linked entries.new.items (λ lane. slice_index_or tops.new.items lane None) (vec_len entries.new) }
     ensures live { live entries.new.items ≡ live entries.old.items }
+    ensures few { vec_len entries.new ≤ 2 ^ 32 }
     ensures capacity { vec_capacity entries.old ≤ vec_capacity entries.new }
     ensures lanes { vec_len tops.new ≡ 4096 }
 {
     compact(entries, tops);
+    if MOST - entries.len() < more {
+        return Err(Memory);
+    }
     let places = wanted(entries.len(), more)?;
     entries.reserve_exact(places)?;
     Ok(())
@@ -433,14 +452,16 @@ fn grow(
 /// Makes room for so many more changes.
 pub(crate) fn make_room(
     entries: &mut Vec<Option<Entry>>,
-    tops: &mut Vec<Option<usize>>,
+    tops: &mut Vec<Option<u32>>,
     more: usize,
 ) -> Result<(), Memory>
+    requires few { vec_len entries.old ≤ 2 ^ 32 }
     requires lanes { vec_len tops.old ≡ 4096 }
     requires linked { Linked entries.old.items (λ lane. slice_index_or tops.old.items lane None) (vec_len entries.old) }
-    ensures ok { OnOk result (length (live entries.new.items) + more ≤ vec_capacity entries.new) }
+    ensures ok { OnOk result (length (live entries.new.items) + more ≤ min (vec_capacity entries.new) (2 ^ 32)) }
     ensures linked { Linked entries.new.items (λ lane. slice_index_or tops.new.items lane None) (vec_len entries.new) }
     ensures live { live entries.new.items ≡ live entries.old.items }
+    ensures few { vec_len entries.new ≤ 2 ^ 32 }
     ensures capacity { vec_capacity entries.old ≤ vec_capacity entries.new }
     ensures lanes { vec_len tops.new ≡ 4096 }
 {

@@ -7,5 +7,5 @@ use crate::version::Version;
 pub struct Node {
     pub version: Version,
     /// The slot of the next version with the same hash.
-    pub below: Option<usize>,
+    pub below: Option<u32>,
 }

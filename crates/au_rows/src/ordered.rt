@@ -71,8 +71,8 @@ pub(crate) fn write(places: &mut Vec<Place>, place: Place)
     ensures in_place { IsSome (place_in place.table place.number places.old.items) → vec_len places.new ≡ vec_len places.old }
     ensures capacity { vec_capacity places.old ≤ vec_capacity places.new }
 {
-    let at = index_of(places, place.table, place.number);
-    if is_there(places, at, place.table, place.number) {
+    let at = index_of(places, place.table as usize, place.number);
+    if is_there(places, at, place.table as usize, place.number) {
         places[at] = place;
     } else if places.insert(at, place).is_err() {
         unreachable!();

@@ -10,14 +10,14 @@ use au_base::{ClientNo, RowNo};
 #[derive(Clone, Copy, Debug)]
 pub struct Place {
     /// The number of the row's table.
-    pub table: usize,
+    pub table: u32,
     pub number: RowNo,
     /// The version that is committed.
-    pub settled: Option<usize>,
+    pub settled: Option<u32>,
     /// The client with unsettled changes of the row.
     pub owner: Option<ClientNo>,
     /// The version that its owner sees.
-    pub newest: Option<usize>,
+    pub newest: Option<u32>,
 }
 
 impl Place {
@@ -25,21 +25,21 @@ impl Place {
     pub(crate) fn is_this(&self, table: usize, number: RowNo) -> bool
         ensures { result ≡ place_at table number self.now }
     {
-        self.table == table && self.number.0 == number.0
+        self.table as usize == table && self.number.0 == number.0
     }
 
     /// Whether it is the place of this row or of a later one.
     pub(crate) fn is_from(&self, table: usize, number: RowNo) -> bool
         ensures { result ≡ place_from table number self.now }
     {
-        table < self.table || self.table == table && number.0 <= self.number.0
+        table < self.table as usize || self.table as usize == table && number.0 <= self.number.0
     }
 
     /// Whether it is the place of a row behind this one.
     pub(crate) fn is_past(&self, table: usize, number: RowNo) -> bool
         ensures { result ≡ place_past table number self.now }
     {
-        table < self.table || self.table == table && number.0 < self.number.0
+        table < self.table as usize || self.table as usize == table && number.0 < self.number.0
     }
 
     /// Whether the client has unsettled changes of the row.

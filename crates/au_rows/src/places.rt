@@ -38,12 +38,12 @@ impl Model for Places {
 
     ghost Value = { Counted };
 
-    ghost use Rattle.std.specs.Prelude.{◌≤◌, ◌+◌, length, vec_len, vec_capacity};
+    ghost use Rattle.std.specs.Prelude.{◌≤◌, ◌+◌, ◌^◌, length, vec_len, vec_capacity};
     ghost use Rattle.au_rows.specs.Blocks.{Housed, joined};
 
     ghost view = { λ p. record { listed = joined p.blocks.items; room = p.room; tables = length p.counts.items } };
 
-    ghost invariant = { λ p. Housed p.blocks.items p.fresh.items p.len p.room p.counts.items × (vec_len p.blocks + vec_len p.fresh ≤ vec_capacity p.blocks) };
+    ghost invariant = { λ p. Housed p.blocks.items p.fresh.items p.len p.room p.counts.items × (vec_len p.blocks + vec_len p.fresh ≤ vec_capacity p.blocks) × (length p.counts.items ≤ 2 ^ 32) };
 }
 
 impl Places {
@@ -92,7 +92,19 @@ impl Places {
         ensures room { self.new.room ≡ self.old.room }
         ensures tables { self.old.tables ≤ self.new.tables }
     {
+        if MOST < tables {
+            return Err(Memory);
+        }
         count_to(&mut self.counts, tables)
+    }
+
+    /// The number of a table whose places are counted.
+    pub(crate) fn short(&self, table: usize) -> u32
+        requires { table < self.now.tables }
+        ensures { result ≡ table }
+    {
+        let _counts = &self.counts;
+        table as u32
     }
 
     /// How many places there are.
@@ -120,7 +132,7 @@ impl Places {
     }
 
     /// The slot of the row's committed content.
-    pub(crate) fn settled(&self, table: usize, number: RowNo) -> Option<usize>
+    pub(crate) fn settled(&self, table: usize, number: RowNo) -> Option<u32>
         ensures { result ≡ settled_slot table number self.now.listed }
     {
         match self.find(table, number) {
@@ -171,13 +183,13 @@ impl Places {
         ensures tables { self.new.tables ≡ self.old.tables }
     {
         put_new(&mut self.blocks, &mut self.fresh, place);
-        count_more(&mut self.counts, place.table);
+        count_more(&mut self.counts, place.table as usize);
         self.len += 1;
         self.room -= 1;
     }
 
     /// Lets a client name a slot at a row. It takes no memory; a row that is new needs room.
-    pub(crate) fn own(&mut self, table: usize, number: RowNo, by: ClientNo, slot: Option<usize>)
+    pub(crate) fn own(&mut self, table: usize, number: RowNo, by: ClientNo, slot: Option<u32>)
         requires numbered { 1 ≤ number.0 }
         requires counted { table < self.old.tables }
         requires room { IsNone (place_in table number self.old.listed) → 0 < self.old.room }
@@ -186,9 +198,10 @@ impl Places {
         ensures in_place { IsSome (place_in table number self.old.listed) → self.new.room ≡ self.old.room }
         ensures tables { self.new.tables ≡ self.old.tables }
     {
+        let short = self.short(table);
         match self.find(table, number) {
-            Some(place) => self.put_over(owned(table, number, place.settled, by, slot)),
-            None => self.put_new(owned(table, number, None, by, slot)),
+            Some(place) => self.put_over(owned(short, number, place.settled, by, slot)),
+            None => self.put_new(owned(short, number, None, by, slot)),
         }
     }
 
@@ -225,13 +238,7 @@ impl Places {
 }
 
 /// The place of a row at which a client names a slot.
-fn owned(
-    table: usize,
-    number: RowNo,
-    settled: Option<usize>,
-    by: ClientNo,
-    slot: Option<usize>,
-) -> Place
+fn owned(table: u32, number: RowNo, settled: Option<u32>, by: ClientNo, slot: Option<u32>) -> Place
     ensures { result ≡ record { table = table; number = number; settled = settled; owner = Some by; newest = slot } }
 {
     Place {

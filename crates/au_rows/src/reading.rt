@@ -66,7 +66,7 @@ pub(crate) fn next_in<'a>(
 {
     let mut walk = places.from(table, after);
     while let Some(place) = walk.step() {
-        if place.table != table {
+        if place.table as usize != table {
             return None;
         }
         if let Some(row) = row_after(&place, versions, after, by) {
@@ -105,7 +105,7 @@ pub(crate) fn view_in<'a>(
     let mut rows = Vec::new(alloc);
     let mut walk = places.from(table, RowNo(0));
     while let Some(place) = walk.step() {
-        if place.table != table {
+        if place.table as usize != table {
             return Ok(rows);
         }
         add_seen(&mut rows, &place, versions, by)?;
@@ -163,7 +163,7 @@ fn under_walk<'a>(
 {
     let mut walk = places.from(asked.table, RowNo(0));
     while let Some(place) = walk.step() {
-        if place.table != asked.table {
+        if place.table as usize != asked.table {
             return None;
         }
         if let Some(row) = row_if_under(&place, versions, asked) {
@@ -243,7 +243,7 @@ fn other_walk(places: &Places, versions: &Versions, asked: &Asked<'_>, row: RowN
 {
     let mut walk = places.from(asked.table, RowNo(0));
     while let Some(place) = walk.step() {
-        if place.table != asked.table {
+        if place.table as usize != asked.table {
             return None;
         }
         if let Some(other) = other_if_under(&place, versions, asked, row) {

@@ -131,8 +131,9 @@ impl Rows {
     {
         let table = number_of(&self.tables, &self.guesses, table);
         let hash = version_hash(table, row, key_of(&self.tables, table), &cells);
+        let short = self.places.short(table);
         let slot = self.versions.insert(Version {
-            table,
+            table: short,
             number: row,
             cells: List::from_vec(cells),
             hash,
@@ -140,7 +141,7 @@ impl Rows {
         self.places.own(table, row, by, Some(slot));
         self.unsettled.push(Unsettled {
             by,
-            table,
+            table: short,
             number: row,
             slot: Some(slot),
         });
@@ -154,10 +155,11 @@ impl Rows {
         ensures spare { self.old.spare ≤ self.new.spare }
     {
         let table = number_of(&self.tables, &self.guesses, table);
+        let short = self.places.short(table);
         self.places.own(table, row, by, None);
         self.unsettled.push(Unsettled {
             by,
-            table,
+            table: short,
             number: row,
             slot: None,
         });

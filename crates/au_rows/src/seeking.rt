@@ -10,17 +10,16 @@ ghost use Rattle.au_rows.specs.Sought.{IsMatch, is_sought, slot_seen};
 use crate::chains::{head_of, is_slot};
 use crate::hash::key_hash;
 use crate::keys::{Asked, has_key};
-use crate::node::Node;
 use crate::place::Place;
 use crate::places::Places;
+use crate::slots::Slots;
 use crate::sought::Sought;
 use crate::version::Version;
 use au_base::ClientNo;
 use indexmap::IndexMap;
-use slab::Slab;
 
 /// The slot of what the client sees of the place's row.
-fn slot_seen(place: Place, by: ClientNo) -> Option<usize>
+fn slot_seen(place: Place, by: ClientNo) -> Option<u32>
     ensures { result ≡ slot_seen by place }
 {
     if place.is_by(by) {
@@ -30,7 +29,7 @@ fn slot_seen(place: Place, by: ClientNo) -> Option<usize>
     }
 }
 
-fn is_sought(place: Option<Place>, slot: usize, by: ClientNo, sought: Sought) -> bool
+fn is_sought(place: Option<Place>, slot: u32, by: ClientNo, sought: Sought) -> bool
     ensures { result ≡ is_sought sought by slot place }
 {
     match place {
@@ -46,7 +45,7 @@ fn is_sought(place: Option<Place>, slot: usize, by: ClientNo, sought: Sought) ->
 /// Whether the version of the slot is one that is sought.
 fn is_match(
     places: &Places,
-    slot: usize,
+    slot: u32,
     version: &Version,
     asked: &Asked<'_>,
     sought: Sought,
@@ -54,24 +53,24 @@ fn is_match(
     requires { in_order places.now.listed ≡ true }
     ensures { IsTrue result ↔ IsMatch sought places.now.listed asked.now.table asked.now.places.now asked.now.key.now asked.now.by slot version.now }
 {
-    if version.table != asked.table {
+    if version.table as usize != asked.table {
         return false;
     }
     if !has_key(asked.places, asked.key, version.cells.as_slice()) {
         return false;
     }
-    let place = places.find(version.table, version.number);
+    let place = places.find(version.table as usize, version.number);
     is_sought(place, slot, asked.by, sought)
 }
 
 /// The slot of a version that is sought, among those with the number of the key.
 pub(crate) fn first_match(
-    nodes: &Slab<Node>,
-    heads: &IndexMap<u64, usize>,
+    nodes: &Slots,
+    heads: &IndexMap<u64, u32>,
     places: &Places,
     asked: &Asked<'_>,
     sought: Sought,
-) -> Option<usize>
+) -> Option<u32>
     requires chained { Chained nodes.now.slots (λ hash. get nat_eq heads.now hash) }
     requires order { in_order places.now.listed ≡ true }
     ensures some { IfSome result (λ slot. (version : Content) × (slice_index_or (versions_of nodes.now.slots) slot None ≡ Some version) × IsMatch sought places.now.listed asked.now.table asked.now.places.now asked.now.key.now asked.now.by slot version) }
@@ -80,7 +79,7 @@ pub(crate) fn first_match(
     let hash = key_hash(asked.table, asked.key);
     let mut at = head_of(heads, hash);
     // no chain has more slots than there are
-    for _turn in 0..nodes.capacity() {
+    for _turn in 0..nodes.len() {
         match at {
             Some(here) => match nodes.get(here) {
                 Some(node) => {

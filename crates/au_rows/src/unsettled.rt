@@ -7,8 +7,8 @@ use au_base::{ClientNo, RowNo};
 pub struct Unsettled {
     pub by: ClientNo,
     /// The number of the row's table.
-    pub table: usize,
+    pub table: u32,
     pub number: RowNo,
     /// The version with the new content. `None` where the row is gone.
-    pub slot: Option<usize>,
+    pub slot: Option<u32>,
 }

@@ -6,7 +6,7 @@ use au_base::{Cell, List, RowNo};
 #[derive(Debug, Drop)]
 pub struct Version {
     /// The number of the row's table.
-    pub table: usize,
+    pub table: u32,
     pub number: RowNo,
     pub cells: List<Cell>,
     /// The number under which it is indexed.

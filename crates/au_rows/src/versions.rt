@@ -9,14 +9,13 @@ ghost use Rattle.au_rows.specs.Stored.{Frees, Puts};
 
 use crate::chains::{link, unlink};
 use crate::keys::Asked;
-use crate::node::Node;
 use crate::places::Places;
 use crate::seeking::first_match;
+use crate::slots::Slots;
 use crate::sought::Sought;
 use crate::version::Version;
 use au_base::Memory;
 use indexmap::IndexMap;
-use slab::Slab;
 use std::alloc::Global;
 use std::marker::Model;
 
@@ -24,9 +23,9 @@ use std::marker::Model;
 /// many more versions it takes without memory.
 #[derive(Drop)]
 pub struct Versions {
-    nodes: Slab<Node>,
+    nodes: Slots,
     /// The first slot of each hash's chain.
-    heads: IndexMap<u64, usize>,
+    heads: IndexMap<u64, u32>,
 }
 
 impl Model for Versions {
@@ -34,12 +33,11 @@ impl Model for Versions {
 
     ghost Value = { Stored };
 
-    ghost use Rattle.std.specs.Prelude.{◌-◌, min, nat_eq};
-    ghost use Rattle.slab.specs.Slab.{slab_len};
+    ghost use Rattle.std.specs.Prelude.{min, nat_eq};
     ghost use Rattle.indexmap.specs.IndexMap.{get, spare};
     ghost use Rattle.au_rows.specs.Chains.{Chained, versions_of};
 
-    ghost view = { λ v. record { slots = versions_of v.nodes.slots; room = min (v.nodes.capacity - slab_len v.nodes) (spare v.heads) } };
+    ghost view = { λ v. record { slots = versions_of v.nodes.slots; room = min v.nodes.room (spare v.heads) } };
 
     ghost invariant = { λ v. Chained v.nodes.slots (λ hash. get nat_eq v.heads hash) };
 }
@@ -51,7 +49,7 @@ impl Versions {
         ensures room { result.room ≡ 0 }
     {
         Versions {
-            nodes: Slab::new(alloc),
+            nodes: Slots::new(alloc),
             heads: IndexMap::new(alloc),
         }
     }
@@ -68,7 +66,7 @@ impl Versions {
     }
 
     /// Takes a version in, and answers its slot. It takes no memory.
-    pub(crate) fn insert(&mut self, version: Version) -> usize
+    pub(crate) fn insert(&mut self, version: Version) -> u32
         requires { 0 < self.old.room }
         ensures puts { Puts self.old.slots self.new.slots result version }
         ensures room { self.old.room ≤ self.new.room + 1 }
@@ -77,7 +75,7 @@ impl Versions {
     }
 
     /// Lets the version of a slot go, where there is one.
-    pub(crate) fn free(&mut self, slot: Option<usize>)
+    pub(crate) fn free(&mut self, slot: Option<u32>)
         ensures frees { Frees self.old.slots self.new.slots slot }
         ensures room { self.old.room ≤ self.new.room }
     {
@@ -87,7 +85,7 @@ impl Versions {
     }
 
     /// The version of a slot.
-    pub(crate) fn get(&self, slot: usize) -> Option<&Version>
+    pub(crate) fn get(&self, slot: u32) -> Option<&Version>
         ensures { option_copied result ≡ slice_index_or self.now.slots slot None }
     {
         match self.nodes.get(slot) {
@@ -97,7 +95,7 @@ impl Versions {
     }
 
     /// The slot of a version that is sought under a key.
-    pub(crate) fn find(&self, places: &Places, asked: &Asked<'_>, sought: Sought) -> Option<usize>
+    pub(crate) fn find(&self, places: &Places, asked: &Asked<'_>, sought: Sought) -> Option<u32>
         requires { in_order places.now.listed ≡ true }
         ensures some { IfSome result (λ slot. (version : Content) × (slice_index_or self.now.slots slot None ≡ Some version) × IsMatch sought places.now.listed asked.now.table asked.now.places.now asked.now.key.now asked.now.by slot version) }
         ensures none { IfNone result ((slot : ℕ) (version : Content) → slice_index_or self.now.slots slot None ≡ Some version → version.hash ≡ key_hash asked.now.table asked.now.key.now → IsMatch sought places.now.listed asked.now.table asked.now.places.now asked.now.key.now asked.now.by slot version → ⊥) }

@@ -1,12 +1,12 @@
 //! Calls that ask.
 
 use crate::case::{Case, said, yes_or_no};
-use crate::fault::Fault;
 use crate::reading::{cells, client, row, table};
 use crate::writing;
 use au_base::{ClientNo, RowNo};
 use au_rows::Rows;
 use std::alloc::Global;
+use trials_lines::Fault;
 
 /// What comes of a question, if the case is one.
 pub fn asked(alloc: Global, rows: &Rows, case: &Case<'_>) -> Result<Option<String>, Fault> {

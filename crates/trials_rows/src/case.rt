@@ -1,7 +1,7 @@
 //! The lines of standard input.
 
-use crate::fault::Fault;
 use std::alloc::Global;
+use trials_lines::Fault;
 
 /// A call, and what it is given.
 #[derive(Drop)]

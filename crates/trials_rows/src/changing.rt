@@ -1,11 +1,11 @@
 //! Calls that change rows.
 
 use crate::case::{Case, said};
-use crate::fault::Fault;
 use crate::reading::{cells, client, columns, row, table};
 use au_base::{Cell, ClientNo, RowNo, TableName};
 use au_rows::Rows;
 use std::alloc::Global;
+use trials_lines::Fault;
 
 /// What comes of a change, if the case is one.
 pub fn changed(alloc: Global, rows: &mut Rows, case: &Case<'_>) -> Result<Option<String>, Fault> {

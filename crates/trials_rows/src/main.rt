@@ -23,16 +23,15 @@
 mod asking;
 mod case;
 mod changing;
-mod fault;
 mod many;
 mod reading;
 mod writing;
 
 use au_rows::Rows;
 use case::Case;
-use fault::Fault;
 use std::alloc::Global;
 use std::io;
+use trials_lines::Fault;
 
 // What comes of a line.
 fn answer(alloc: Global, rows: &mut Rows, line: &str) -> Result<String, Fault> {

@@ -2,11 +2,11 @@
 
 use crate::case::{Case, said};
 use crate::changing::{mark, open, put};
-use crate::fault::Fault;
 use crate::reading::{client, columns, number, numbered, row, table};
 use au_base::{Cell, ClientNo, RowNo, TableName};
 use au_rows::Rows;
 use std::alloc::Global;
+use trials_lines::Fault;
 
 /// What comes of many changes, if the case makes them.
 pub fn changed(alloc: Global, rows: &mut Rows, case: &Case<'_>) -> Result<Option<String>, Fault> {
@@ -56,7 +56,7 @@ fn later(first: u32, place: u32) -> Result<RowNo, Fault> {
 // Two cells that are the row's number.
 fn numbers(alloc: Global, row: RowNo) -> Result<Vec<Cell>, Fault> {
     let number = i64::from(row.0);
-    let mut cells = Vec::new(alloc);
+    let mut cells = Vec::with_capacity(alloc, 2)?;
     cells.push(Cell::Num(number))?;
     cells.push(Cell::Num(number))?;
     Ok(cells)

@@ -1,9 +1,9 @@
 //! Tables, clients, rows and cells as a line writes them.
 
 use crate::case::Case;
-use crate::fault::Fault;
 use au_base::{Cell, ClientNo, Name, RowNo, TableName};
 use std::alloc::Global;
+use trials_lines::Fault;
 
 fn name(alloc: Global, text: &str) -> Result<Name, Fault> {
     Name::make(alloc, text.as_bytes())?.ok_or(Fault::NoCase)

@@ -1,8 +1,8 @@
 //! Rows as texts.
 
-use crate::fault::Fault;
 use au_base::{Cell, RowNo};
 use std::alloc::Global;
+use trials_lines::Fault;
 
 // The most rows that are written one by one.
 const WRITTEN: usize = 20;

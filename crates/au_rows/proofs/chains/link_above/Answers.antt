@@ -9,7 +9,7 @@ loop-turn-init c =
     let nodes = c.args.nodes.now.slots in
     let stands = subst (λ (at : Option ℕ). IsChain nodes c.args.hash at (c.requires.chain c.args.hash)) (sym c.head_of-at.ensures) (c.requires.linked c.args.hash) in
     let most = chain-length nodes c.args.hash c.head_of-at.result (c.requires.chain c.args.hash) stands in
-    let slots = c.capacity-turn-end.ensures.slots in
+    let slots = c.len-turn-end.ensures in
     record {
       rest = c.requires.chain c.args.hash;
       stands = stands;

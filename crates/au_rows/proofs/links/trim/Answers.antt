@@ -4,7 +4,7 @@ use Rattle.au_rows.proofs.LinkLemmas.{linked-same}
 use Rattle.au_rows.proofs.links.trim.Goals as goal
 
 pub loop-turn-init : goal.loop-turn-init
-loop-turn-init c = record { linked = λ tops l. l; live = refl; capacity = refl }
+loop-turn-init c = record { linked = λ tops l. l; live = refl; len = omega arith; capacity = refl }
 
 pub loop-turn-preserved : goal.loop-turn-preserved
 loop-turn-preserved c =
@@ -13,6 +13,7 @@ loop-turn-preserved c =
     record {
       linked = λ tops l. linked-trimmed c.loop-turn.entries.items c.drop_last.new.entries.items tops _ _ gone (omega arith) (omega arith) (i.linked tops l);
       live = live-trimmed c.loop-turn.entries.items c.drop_last.new.entries.items gone ∙ i.live;
+      len = omega (arith, c.drop_last.ensures.len, i.len);
       capacity = c.drop_last.ensures.capacity ∙ i.capacity;
     }
 

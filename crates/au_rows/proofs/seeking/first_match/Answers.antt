@@ -14,7 +14,7 @@ loop-turn-init c =
     let hash = c.key_hash-hash.result in
     let stands = subst (λ (at : Option ℕ). IsChain nodes hash at (chained.chain hash)) (sym c.head_of-at.ensures) (chained.linked hash) in
     let most = chain-length nodes hash c.head_of-at.result (chained.chain hash) stands in
-    let slots = c.capacity-turn-end.ensures.slots in
+    let slots = c.len-turn-end.ensures in
     record {
       rest = chained.chain hash;
       stands = stands;

@@ -1,4 +1,5 @@
-use Rattle.std.proofs.Common.{◌≡◌, ◌∙◌, ◌-◌, ℕ, List, ap, get_or, subst, sym, arith}
+use Rattle.std.proofs.Common.{◌≡◌, ◌∙◌, ◌-◌, ℕ, List, ap, get_or, length, subst, sym, arith}
+use Rattle.std.proofs.lemmas.List.{length-set}
 use Rattle.au_rows.specs.Blocks.{Housed}
 use Rattle.au_rows.proofs.HousedLemmas.{housed-elsewhere}
 use Rattle.au_rows.proofs.places.Places.keep_elsewhere.Goals as goal
@@ -11,4 +12,5 @@ invariant_of-self c =
           (housed-elsewhere i.blocks.items i.fresh.items i.len i.room i.counts.items c.self.invariant.0 c.keep_elsewhere.new.blocks.items c.count_none.new.counts.items c.args.table
           c.keep_elsewhere.ensures.places c.keep_elsewhere.ensures.some c.keep_elsewhere.ensures.filled c.keep_elsewhere.ensures.excess c.count_none.ensures),
       omega (arith, c.keep_elsewhere.ensures.len, c.keep_elsewhere.ensures.capacity, c.self.invariant.1),
+      omega (arith, ap length c.count_none.ensures, length-set i.counts.items c.args.table 0, c.self.invariant.2),
     )

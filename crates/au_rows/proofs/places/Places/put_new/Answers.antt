@@ -1,4 +1,5 @@
-use Rattle.std.proofs.Common.{◌≡◌, ◌+◌, ◌*◌, ◌≤◌, ◌<◌, ◌^◌, Option, None, get_or, length, arith}
+use Rattle.std.proofs.Common.{◌≡◌, ◌+◌, ◌*◌, ◌≤◌, ◌<◌, ◌^◌, Option, None, ap, get_or, length, arith}
+use Rattle.std.proofs.lemmas.List.{length-set}
 use Rattle.std.specs.Prelude.{IsNone}
 use Rattle.au_rows.specs.declared.place.Place.{Place}
 use Rattle.au_rows.specs.Blocks.{all_excess, joined}
@@ -22,4 +23,5 @@ invariant_of-self c =
           c.put_new.new.blocks.items c.put_new.new.fresh.items c.count_more.new.counts.items c.args.place (is-none _ new) c.put_new.ensures.places c.put_new.ensures.some c.put_new.ensures.filled c.put_new.ensures.vacant paid
           room c.requires.numbered counted c.count_more.ensures,
       c.put_new.ensures.fits,
+      omega (arith, ap length c.count_more.ensures, length-set c.self.inside.counts.items c.args.place.table (get_or c.self.inside.counts.items c.args.place.table 0 + 1), c.self.invariant.2),
     )

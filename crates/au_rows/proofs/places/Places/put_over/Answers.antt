@@ -9,4 +9,5 @@ invariant_of-self c =
       housed-over c.self.inside.blocks.items c.self.inside.fresh.items c.self.inside.len c.self.inside.room c.self.inside.counts.items c.self.invariant.0 c.put_over.new.blocks.items c.args.place
           there c.put_over.ensures.places some c.put_over.ensures.filled c.put_over.ensures.excess,
       omega (arith, c.put_over.ensures.len, c.put_over.ensures.capacity, c.self.invariant.1),
+      c.self.invariant.2,
     )
