@@ -4,5 +4,10 @@ mod Frames
 mod Held
 mod Images
 mod Lists
+mod Made
 mod Nothing
+mod Settled
 mod Spelled
+mod Steps
+mod Tabled
+mod Written

@@ -1,3 +1,6 @@
 pub mod Frames
 pub mod Keeping
 pub mod Sound
+pub mod Staging
+pub mod Writing
+pub mod descent

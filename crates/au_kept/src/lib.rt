@@ -4,6 +4,14 @@
 
 mod keeping;
 mod laws;
+mod open_rows;
+mod parting;
+mod reading;
+mod settling;
+mod staged;
+mod staging;
+mod tabling;
 
 pub use keeping::Keeping;
 pub use laws::{frames_hold, images_lead_back};
+pub use staged::{Staged, TableEdit};
