@@ -45,7 +45,7 @@ purged_spelled : (before : Option Stamp) (trail : List Record) → AllByRecursio
 purged_spelled None trail all = tt
 purged_spelled (Some moment) trail all = all_kept trail_record.IsSpellable (is_from moment) trail all
 
-left_spelled : (purge : Option (Option Stamp)) (trail : List Record) → AllByRecursion trail_record.IsSpellable trail → AllByRecursion trail_record.IsSpellable (trail_left purge trail)
+pub left_spelled : (purge : Option (Option Stamp)) (trail : List Record) → AllByRecursion trail_record.IsSpellable trail → AllByRecursion trail_record.IsSpellable (trail_left purge trail)
 left_spelled None trail all = all
 left_spelled (Some before) trail all = purged_spelled before trail all
 
@@ -85,11 +85,11 @@ in_range : (moment : Stamp) → stamp.IsSpellable moment → moment.0 ≤ LAST_M
 unfolding stamp
 in_range moment h = let test = h.1 in grind (arith, nat_tests)
 
-body_spellable : (moment : Stamp) (changes : List Change) (records : List Record) → body.IsSpellable (moment, (changes, records)) → AreSpellable moment changes records
+pub body_spellable : (moment : Stamp) (changes : List Change) (records : List Record) → body.IsSpellable (moment, (changes, records)) → AreSpellable moment changes records
 unfolding body change
 body_spellable moment changes records h = record { moment = in_range moment h.0; changes = h.1.0.1; records = h.1.1.1 }
 
-purge_spellable : (moment : Stamp) (before : Option Stamp) (changes : List Change) (records : List Record) → purge.IsSpellable (moment, (before, (changes, records))) → AreSpellable moment changes records
+pub purge_spellable : (moment : Stamp) (before : Option Stamp) (changes : List Change) (records : List Record) → purge.IsSpellable (moment, (before, (changes, records))) → AreSpellable moment changes records
 unfolding purge change
 purge_spellable moment before changes records h = record { moment = in_range moment h.0; changes = h.1.1.0.1; records = h.1.1.1.1 }
 

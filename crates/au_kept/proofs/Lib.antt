@@ -1,3 +1,4 @@
+mod Copies
 mod Counted
 mod Entries
 mod Frames
@@ -6,7 +7,12 @@ mod Images
 mod Lists
 mod Made
 mod Nothing
+mod OpenKeys
+mod Replayed
+mod Rowed
+mod RowsLaid
 mod Settled
+mod Shown
 mod Spelled
 mod Steps
 mod Tabled

@@ -96,7 +96,7 @@ rows_follow triples tree (_ ∷ changes) kept rows rowless same = rows_follow tr
 
 -- ---- what becomes of rows
 
-content_follows : Triples → (tree : List ℕ → Expr) (table : TableName) (number : RowNo) (content : Option (List Cell)) (kept : Kept) (rows : List Row) → kept.rows ≡ map triple_of rows
+pub content_follows : Triples → (tree : List ℕ → Expr) (table : TableName) (number : RowNo) (content : Option (List Cell)) (kept : Kept) (rows : List Row) → kept.rows ≡ map triple_of rows
     → changed tree (content_change table number content) kept ≡ record kept { rows = map triple_of (with_content table number content rows) }
 content_follows triples tree table number None kept rows same =
     ap (λ (rs : List Triple). record kept { rows = rs }) (ap (filter (λ (row : Triple). not (same_table row.0 table && (row.1.0 == number.0)))) same ∙ sym (triples.gone table number rows))
@@ -195,7 +195,7 @@ settled_kept triples settles catalogs tree commits contents changes logged purge
 
 -- ---- what is so of it
 
-restamped : (conditions : Conditions) (next : Kept) (trail : List Record) (last : Stamp) → last.0 ≤ LAST_MOMENT → IsLawful conditions next → IsLawful conditions (record next { trail = trail; last = last })
+pub restamped : (conditions : Conditions) (next : Kept) (trail : List Record) (last : Stamp) → last.0 ≤ LAST_MOMENT → IsLawful conditions next → IsLawful conditions (record next { trail = trail; last = last })
 restamped conditions next trail last moment h = record {
   ordered = record {
     users = h.ordered.users;
@@ -225,7 +225,7 @@ restamped conditions next trail last moment h = record {
   instance = h.instance;
 }
 
-whole_still : (next : Kept) (trail : List Record) (last : Stamp) → IsWhole next → IsWhole (record next { trail = trail; last = last })
+pub whole_still : (next : Kept) (trail : List Record) (last : Stamp) → IsWhole next → IsWhole (record next { trail = trail; last = last })
 whole_still next trail last h = record {
   fits = h.fits;
   keys = h.keys;

@@ -42,7 +42,7 @@ nothing_laid kept desk h = none_laid desk h.desk_is.quiet
 
 -- ---- no row that writable changes name is another client's
 
-same_name : (a b : TableName) → same_table a b ≡ true → a ≡ b
+pub same_name : (a b : TableName) → same_table a b ≡ true → a ≡ b
 same_name a b is =
     let parts = and_parts (bytes_eq a.owner b.owner) (bytes_eq a.name b.name) is in
     ap₂ (λ (o n : List ℕ). let t : TableName = record { owner = o; name = n } in t) ((bytes_eq-Decides a.owner b.owner).0 parts.0) ((bytes_eq-Decides a.name b.name).0 parts.1)

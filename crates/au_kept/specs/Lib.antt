@@ -1,5 +1,6 @@
 pub mod Frames
 pub mod Keeping
+pub mod Quick
 pub mod Sound
 pub mod Staging
 pub mod Writing

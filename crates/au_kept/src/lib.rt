@@ -4,8 +4,10 @@
 
 mod keeping;
 mod laws;
+mod laying_rows;
 mod open_rows;
 mod parting;
+mod quick;
 mod reading;
 mod settling;
 mod staged;
@@ -14,4 +16,5 @@ mod tabling;
 
 pub use keeping::Keeping;
 pub use laws::{frames_hold, images_lead_back};
+pub use quick::is_of_rows;
 pub use staged::{Staged, TableEdit};

@@ -52,7 +52,7 @@ impl Keeping {
     }
 
     // Makes room for so many more tables that are open for rows, and for so many more records.
-    fn make_room(&mut self, tables: usize, records: usize) -> Result<(), Memory>
+    pub(crate) fn make_room(&mut self, tables: usize, records: usize) -> Result<(), Memory>
         ensures kept { self.new.kept ≡ self.old.kept }
         ensures logs { self.new.logs ≡ self.old.logs }
         ensures spare { OnOk result (tables ≤ self.new.spare) }
