@@ -1,3 +1,7 @@
 pub mod Frames
 pub mod Keeping
+pub mod Quick
 pub mod Sound
+pub mod Staging
+pub mod Writing
+pub mod descent

@@ -4,6 +4,17 @@
 
 mod keeping;
 mod laws;
+mod laying_rows;
+mod open_rows;
+mod parting;
+mod quick;
+mod reading;
+mod settling;
+mod staged;
+mod staging;
+mod tabling;
 
 pub use keeping::Keeping;
 pub use laws::{frames_hold, images_lead_back};
+pub use quick::is_of_rows;
+pub use staged::{Staged, TableEdit};

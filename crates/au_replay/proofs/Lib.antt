@@ -1,3 +1,4 @@
+pub mod Alone
 pub mod CellsFit
 pub mod Copies
 pub mod Found
@@ -6,7 +7,9 @@ pub mod KeptTables
 pub mod Members
 pub mod Places
 pub mod Readings
+pub mod RowCounts
 pub mod RowsSeen
 pub mod Shapes
 pub mod SightLaws
+pub mod TouchedLaws
 pub mod WholeLaws

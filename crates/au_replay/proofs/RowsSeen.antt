@@ -52,3 +52,12 @@ pub none_at_zero : StandsThere → IsLaid → (rows : List Row) (changes : List 
     → (table : TableName) (number : RowNo) → number.0 ≡ 0 → list_any (is_row table number) (map triple_of (laid_over rows changes)) ≡ false
 none_at_zero stands laid rows changes numbered changed table number zero =
     any_row table number (laid_over rows changes) ∙ no_zero stands laid rows changes numbered changed table number (row_at table number (laid_over rows changes)) refl zero
+
+nothing_there : {A : Type 0} (o : Option A) → is_some o ≡ false → None ≡ o
+nothing_there None is = refl
+nothing_there (Some x) is = absurd (let e : true ≡ false = is in cc)
+
+pub zero_row : StandsThere → IsLaid → (rows : List Row) (changes : List RowChange) → ((row : Row) → Contains rows row → 1 ≤ row.number.0) → AllByRecursion (λ change. 1 ≤ change.row.0) changes
+    → (table : TableName) (number : RowNo) → number.0 ≡ 0 → None ≡ row_at table number (laid_over rows changes)
+zero_row stands laid rows changes numbered changed table number zero =
+    nothing_there (row_at table number (laid_over rows changes)) (no_zero stands laid rows changes numbered changed table number (row_at table number (laid_over rows changes)) refl zero)

@@ -1,6 +1,6 @@
 //! The rule by which a journal is replayed, as tests: whether a change goes on from what is kept; and
-//! of a frame, whether its stamp, its users and the counts that it leaves are right. A law says which
-//! of its rows and tables are to be tested besides.
+//! of a frame, whether its stamp and its users are right, and whether what it touched is whole: its
+//! rows, its tables and the counts of all lists.
 #![tactic(auto)]
 
 mod conditions;
@@ -17,6 +17,7 @@ mod rows;
 mod shape;
 mod sight;
 mod tables;
+mod touched;
 mod users;
 mod whole;
 
@@ -35,5 +36,6 @@ pub use rows::{gone_goes_on, put_goes_on};
 pub use shape::is_table;
 pub use sight::{GrantsSeen, Sight};
 pub use tables::{table_goes_on, table_gone_goes_on};
+pub use touched::touched_is_whole;
 pub use users::{role_goes_on, role_gone_goes_on, user_gone_goes_on};
 pub use whole::{are_few, has_sys};
