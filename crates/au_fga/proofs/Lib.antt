@@ -1,0 +1,5 @@
+pub mod Found
+pub mod LawfulTables
+pub mod Sorted
+pub mod Tested
+pub mod Touched

@@ -1,0 +1,2 @@
+-- What only mirrors the code: tests of rows that are lent.
+pub mod Rows
