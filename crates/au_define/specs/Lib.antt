@@ -1,4 +1,6 @@
 pub mod Columns
+pub mod Deciding
+pub mod Granting
 pub mod Roles
 pub mod Rules
 pub mod Settings
