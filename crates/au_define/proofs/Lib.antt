@@ -1,0 +1,6 @@
+pub mod Answered
+pub mod Broken
+pub mod Counting
+pub mod Halving
+pub mod Members
+pub mod Places

@@ -1,0 +1,6 @@
+use Rattle.std.proofs.Common.{◌≡◌, map, take}
+use Rattle.au_define.specs.Granting.{change_of}
+use Rattle.au_define.proofs.granting.names.Given as goal
+
+abbrev pub invariant-loop-role : goal.invariant-loop-role
+invariant-loop-role l = l.names ≡ take l.role-index l.roles

@@ -1,0 +1,9 @@
+pub mod Columns
+pub mod Deciding
+pub mod Granting
+pub mod Roles
+pub mod Rules
+pub mod Settings
+pub mod Tables
+pub mod Users
+pub mod descent
