@@ -1,6 +1,10 @@
 pub mod Answered
 pub mod Broken
 pub mod Counting
+pub mod Going
 pub mod Halving
 pub mod Members
 pub mod Places
+pub mod Ruled
+pub mod Unchanged
+pub mod Unique

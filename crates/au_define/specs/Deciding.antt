@@ -21,6 +21,16 @@ is_definition (DropRole role) = true
 is_definition (Grant grant) = true
 is_definition _ = false
 
+-- the statement is GRANT or REVOKE
+abbrev pub is_grant : Statement → Bool
+is_grant (Grant grant) = true
+is_grant _ = false
+
+-- the statement is CREATE TABLE
+abbrev pub makes_table : Statement → Bool
+makes_table (CreateTable create) = true
+makes_table _ = false
+
 -- what is decided of it; of another statement nothing is
 abbrev pub Decides : Setting → Statement → Decision → Type 0
 Decides setting (CreateTable create) decision = DecidesCreateTable setting create decision

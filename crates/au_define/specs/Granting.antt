@@ -1,6 +1,6 @@
 -- How GRANT and REVOKE are decided here: as rights say, by the users, roles and tables that are there (SQL Language
 -- Reference, "GRANT" and "REVOKE").
-use Rattle.std.specs.Prelude.{◌≡◌, List, [], map, None}
+use Rattle.std.specs.Prelude.{◌≡◌, [], map, None}
 use Rattle.au_base.specs.declared.grant.GrantStatement.{GrantStatement}
 use Rattle.au_define.specs.Settings.{Setting}
 use Rattle.au_entries.specs.declared.change.Change.{Change}

@@ -10,6 +10,7 @@ use Rattle.au_base.specs.declared.numbers.ClientNo.{ClientNo}
 use Rattle.au_base.specs.declared.table.TableName.{TableName}
 use Rattle.au_define.specs.declared.case.Case.{Case}
 use Rattle.au_entries.specs.declared.decision.Busy.{Busy}
+use Rattle.au_entries.specs.declared.kept.Kept.{Kept}
 use Rattle.au_entries.specs.declared.table.Table.{Table}
 use Rattle.au_entries.specs.Changing.{table_fields}
 use Rattle.au_grants.specs.Rights.{Grants}
@@ -36,6 +37,11 @@ lent case = record {
   client = case.client;
   busy = case.busy.now;
 }
+
+-- what is kept, and a user whose statement it is
+abbrev pub setting_of : Kept → List ℕ → ClientNo → Busy → Setting
+setting_of kept user client busy =
+    record { users = kept.users; roles = kept.roles; tables = kept.tables; grants = kept.grants; user = user; client = client; busy = busy }
 
 -- each list stands in the byte order of its names, as in all that is kept
 pub record IsSorted (case : Case) : Type 0 where
