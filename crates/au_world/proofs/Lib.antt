@@ -1,0 +1,10 @@
+pub mod Answered
+pub mod Cells
+pub mod Counted
+pub mod Found
+pub mod TableKinds
+pub mod Long
+pub mod Members
+pub mod Seen
+pub mod Told
+pub mod Used

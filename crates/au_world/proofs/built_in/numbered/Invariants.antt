@@ -1,0 +1,9 @@
+use Rattle.std.proofs.Common.{◌≡◌, ◌++◌, ◌+◌, drop, map}
+use Rattle.std.specs.List.{enumerate_from}
+use Rattle.au_query.specs.Combos.{lines}
+use Rattle.au_world.specs.BuiltInTables.{numbered as numbered_rows, numbered_row}
+use Rattle.au_world.proofs.built_in.numbered.Given as goal
+
+abbrev pub invariant-loop-place : goal.invariant-loop-place
+invariant-loop-place l =
+    lines l.listed.items ++ map numbered_row (enumerate_from (l.place + 1) (drop l.place l.rows)) ≡ numbered_rows l.rows

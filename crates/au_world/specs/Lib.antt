@@ -1,0 +1,6 @@
+pub mod BuiltInTables
+pub mod Inside
+pub mod Sights
+pub mod Sound
+pub mod Rights
+pub mod Selecting

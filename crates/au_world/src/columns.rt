@@ -1,0 +1,45 @@
+//! The columns of a table.
+ghost use Rattle.std.specs.Prelude.{◌≡◌, IfOk};
+ghost use Rattle.std.specs.Option.{option_copied};
+ghost use Rattle.au_world.specs.Sights as spec;
+ghost use Rattle.au_world.specs.Sights.{columns_in};
+
+use crate::built_in::{TableKind, dual_columns, kind_of, trail_columns};
+use au_base::{Column, List, Memory, TableName, is_same_table};
+use au_entries::Table;
+use std::alloc::Global;
+
+/// The columns of the table.
+pub fn columns_of(
+    alloc: Global,
+    tables: &[Table],
+    table: &TableName,
+) -> Result<List<Column>, Memory>
+    ensures { IfOk result (λ columns. columns ≡ spec.columns_of tables.now table.now) }
+{
+    match kind_of(table) {
+        TableKind::Dual => dual_columns(alloc),
+        TableKind::Trail => trail_columns(alloc),
+        TableKind::Created => created_columns(alloc, tables, table),
+    }
+}
+
+fn created_columns(
+    alloc: Global,
+    tables: &[Table],
+    table: &TableName,
+) -> Result<List<Column>, Memory>
+    ensures { IfOk result (λ columns. columns ≡ columns_in (spec.table_named tables.now table.now)) }
+{
+    match table_named(tables, table) {
+        Some(found) => Ok(found.columns.clone()?),
+        None => Ok(List::new(alloc)),
+    }
+}
+
+/// The first table with this name, where there is one. It takes no memory.
+pub fn table_named<'a>(tables: &'a [Table], name: &TableName) -> Option<&'a Table>
+    ensures { option_copied result ≡ spec.table_named tables.now name.now }
+{
+    tables.iter().find(|table| is_same_table(&table.name, name))
+}
