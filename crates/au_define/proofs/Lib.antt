@@ -2,9 +2,11 @@ pub mod Answered
 pub mod Broken
 pub mod Counting
 pub mod Going
+pub mod Granted
 pub mod Halving
 pub mod Members
 pub mod Places
 pub mod Ruled
+pub mod Same
 pub mod Unchanged
 pub mod Unique
