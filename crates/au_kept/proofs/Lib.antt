@@ -1,3 +1,5 @@
+mod Among
+mod Built
 mod Counted
 mod Entries
 mod Frames
@@ -5,4 +7,5 @@ mod Held
 mod Images
 mod Lists
 mod Nothing
+mod OpenTables
 mod Spelled

@@ -1,3 +1,4 @@
+pub mod Building
 pub mod Frames
 pub mod Keeping
 pub mod Sound

@@ -25,14 +25,14 @@ use std::marker::Model;
 /// value, each client's changes, and for how much more there is room.
 #[derive(Drop)]
 pub struct Keeping {
-    catalog: Catalog,
-    grants: Grants,
+    pub(crate) catalog: Catalog,
+    pub(crate) grants: Grants,
     /// The committed rows, and each client's changes of rows.
-    desk: Desk,
+    pub(crate) desk: Desk,
     /// The records, oldest first.
-    trail: Vec<Record>,
-    last: Stamp,
-    instance: u32,
+    pub(crate) trail: Vec<Record>,
+    pub(crate) last: Stamp,
+    pub(crate) instance: u32,
 }
 
 impl Model for Keeping {

@@ -2,8 +2,11 @@
 //! journal leave them.
 #![tactic(auto)]
 
+mod building;
 mod keeping;
 mod laws;
+mod laying;
+mod one_change;
 
 pub use keeping::Keeping;
 pub use laws::{frames_hold, images_lead_back};
