@@ -36,10 +36,10 @@ pub record KeepsLaws : Type 0 where
       → PartsGoOn conditions image kept stamp changes → IsWhole (after_parts conditions.tree stamp purge changes records kept)
 
 -- a frame's parts can be written
-record AreSpellable (stamped : Stamp) (made : List Change) (told : List Record) : Type 0 where
-  moment : stamped.0 ≤ LAST_MOMENT
-  changes : AllByRecursion IsChangeSpellable made
-  records : AllByRecursion trail_record.IsSpellable told
+pub record AreSpellable (stamped : Stamp) (made : List Change) (told : List Record) : Type 0 where
+  pub moment : stamped.0 ≤ LAST_MOMENT
+  pub changes : AllByRecursion IsChangeSpellable made
+  pub records : AllByRecursion trail_record.IsSpellable told
 
 purged_spelled : (before : Option Stamp) (trail : List Record) → AllByRecursion trail_record.IsSpellable trail → AllByRecursion trail_record.IsSpellable (purged before trail)
 purged_spelled None trail all = tt
@@ -66,7 +66,7 @@ with_trail kept trail last p = record {
   instance = p.instance;
 }
 
-parts_spelled : (tree : List ℕ → Expr) (moment : Stamp) (purge : Option (Option Stamp)) (changes : List Change) (records : List Record) (kept : Kept)
+pub parts_spelled : (tree : List ℕ → Expr) (moment : Stamp) (purge : Option (Option Stamp)) (changes : List Change) (records : List Record) (kept : Kept)
     → AreSpellable moment changes records → IsSpelled kept → IsSpelled (after_parts tree moment purge changes records kept)
 parts_spelled tree moment purge changes records kept can h = record {
   entries = from_parts _ (with_trail (changed_all tree changes kept) (trail_left purge kept.trail ++ records) moment (all_spelled tree changes kept can.changes (to_parts kept h.entries)));
@@ -85,11 +85,11 @@ in_range : (moment : Stamp) → stamp.IsSpellable moment → moment.0 ≤ LAST_M
 unfolding stamp
 in_range moment h = let test = h.1 in grind (arith, nat_tests)
 
-body_spellable : (moment : Stamp) (changes : List Change) (records : List Record) → body.IsSpellable (moment, (changes, records)) → AreSpellable moment changes records
+pub body_spellable : (moment : Stamp) (changes : List Change) (records : List Record) → body.IsSpellable (moment, (changes, records)) → AreSpellable moment changes records
 unfolding body change
 body_spellable moment changes records h = record { moment = in_range moment h.0; changes = h.1.0.1; records = h.1.1.1 }
 
-purge_spellable : (moment : Stamp) (before : Option Stamp) (changes : List Change) (records : List Record) → purge.IsSpellable (moment, (before, (changes, records))) → AreSpellable moment changes records
+pub purge_spellable : (moment : Stamp) (before : Option Stamp) (changes : List Change) (records : List Record) → purge.IsSpellable (moment, (before, (changes, records))) → AreSpellable moment changes records
 unfolding purge change
 purge_spellable moment before changes records h = record { moment = in_range moment h.0; changes = h.1.1.0.1; records = h.1.1.1.1 }
 

@@ -54,7 +54,7 @@ front_none : (xs ys : List RowChange) → xs ++ ys ≡ [] → xs ≡ []
 front_none [] ys empty = refl
 front_none (x ∷ xs) ys empty = absurd (let e : x ∷ (xs ++ ys) ≡ [] = empty in cc)
 
-none_laid : (desk : Desk) → open_of desk replayer ≡ [] → desk.laid ≡ []
+pub none_laid : (desk : Desk) → open_of desk replayer ≡ [] → desk.laid ≡ []
 none_laid desk quiet = front_none desk.laid (changes_of replayer desk.logs) quiet
 
 -- the desk is the one that contracts see

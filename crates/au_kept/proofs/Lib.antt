@@ -6,6 +6,14 @@ mod Frames
 mod Held
 mod Images
 mod Lists
+mod Made
 mod Nothing
 mod OpenTables
+mod Rebuilt
+mod Replaying
+mod Settled
+mod Shortness
 mod Spelled
+mod Steps
+mod Tabled
+mod Written

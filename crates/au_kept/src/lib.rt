@@ -2,11 +2,21 @@
 //! journal leave them.
 #![tactic(auto)]
 
+mod anew;
 mod building;
 mod keeping;
 mod laws;
 mod laying;
 mod one_change;
+mod open_rows;
+mod parting;
+mod parts;
+mod reading;
+mod settling;
+mod staged;
+mod staging;
+mod tabling;
 
 pub use keeping::Keeping;
-pub use laws::{frames_hold, images_lead_back};
+pub use laws::{frames_hold, images_lead_back, spellings_are_short};
+pub use staged::{Staged, TableEdit};
