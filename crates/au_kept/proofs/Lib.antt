@@ -1,3 +1,5 @@
+mod Among
+mod Built
 mod Copies
 mod Counted
 mod Entries
@@ -8,10 +10,14 @@ mod Lists
 mod Made
 mod Nothing
 mod OpenKeys
+mod OpenTables
+mod Rebuilt
 mod Replayed
+mod Replaying
 mod Rowed
 mod RowsLaid
 mod Settled
+mod Shortness
 mod Shown
 mod Spelled
 mod Steps

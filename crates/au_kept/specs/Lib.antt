@@ -1,3 +1,5 @@
+pub mod Anew
+pub mod Building
 pub mod Frames
 pub mod Keeping
 pub mod Quick

@@ -3,12 +3,15 @@ ghost use Rattle.std.specs.Prelude.{◌≡◌, ◌≤◌, ◌<◌, ◌+◌, ◌*
 ghost use Rattle.std.specs.List.{AllByRecursion};
 ghost use Rattle.au_base.specs.BuiltIn.{sys};
 ghost use Rattle.au_base.specs.Limits.{CATALOG_OBJECTS, GRANTS};
+ghost use Rattle.au_entries.specs.declared.change.Change.{Change};
 ghost use Rattle.au_entries.specs.declared.kept.Kept.{Kept};
 ghost use Rattle.au_entries.specs.Imaging.{image_changes, nothing};
 ghost use Rattle.au_entries.specs.Replaying.{Conditions, has_user};
 ghost use Rattle.au_image.specs.Image.{image_of};
 ghost use Rattle.au_kept.specs.Frames.{IsReplayable, Replays, after_frame};
 ghost use Rattle.au_kept.specs.Sound.{IsKept};
+ghost use Rattle.au_replay.specs.Reading.{HasShortText};
+ghost use Rattle.rec_codec.specs.Changes.{IsChangeSpellable};
 ghost use Rattle.rec_codec.specs.declared.frame.Frame.{Frame};
 ghost use Rattle.rec_codec.specs.Frames.{IsSpellable};
 
@@ -38,3 +41,9 @@ pub fn images_lead_back()
 {
     au_entries::images_come_back();
 }
+
+/// The text of a condition that has a spelling is short enough to be read. It does nothing, and
+/// states the law for its callers.
+pub fn spellings_are_short()
+    ensures { (change : Change) → IsChangeSpellable change → HasShortText change }
+{}

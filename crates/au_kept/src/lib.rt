@@ -2,19 +2,25 @@
 //! journal leave them.
 #![tactic(auto)]
 
+mod anew;
+mod building;
 mod keeping;
 mod laws;
+mod laying;
 mod laying_rows;
+mod one_change;
 mod open_rows;
 mod parting;
+mod parts;
 mod quick;
 mod reading;
+mod replay;
 mod settling;
 mod staged;
 mod staging;
 mod tabling;
 
 pub use keeping::Keeping;
-pub use laws::{frames_hold, images_lead_back};
+pub use laws::{frames_hold, images_lead_back, spellings_are_short};
 pub use quick::is_of_rows;
 pub use staged::{Staged, TableEdit};

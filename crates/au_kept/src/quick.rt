@@ -78,18 +78,18 @@ impl Keeping {
                 stamp,
                 changes,
                 records,
-            } => self.replay_parts(alloc, stamp, None, changes, records),
+            } => self.replay_laid(alloc, stamp, None, changes, records),
             Frame::Purge {
                 stamp,
                 before,
                 changes,
                 records,
-            } => self.replay_parts(alloc, stamp, Some(before), changes, records),
+            } => self.replay_laid(alloc, stamp, Some(before), changes, records),
         }
     }
 
     // Replays a frame with these parts.
-    fn replay_parts(
+    fn replay_laid(
         &mut self,
         alloc: Global,
         stamp: Stamp,

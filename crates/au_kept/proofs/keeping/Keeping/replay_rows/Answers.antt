@@ -7,26 +7,26 @@ use Rattle.rec_codec.specs.Frames.{IsSpellable}
 use Rattle.rec_codec.specs.declared.frame.Frame.{Frame}
 use Rattle.au_kept.proofs.keeping.Keeping.replay_rows.Goals as goal
 
-pub replay_parts-requires-clause-moment : goal.replay_parts-requires-clause-moment
-replay_parts-requires-clause-moment c = (body_spellable c.in-Event.stamp c.in-Event.changes c.in-Event.records (subst IsSpellable c.in-Event.is c.requires.spelled)).moment
+pub replay_laid-requires-clause-moment : goal.replay_laid-requires-clause-moment
+replay_laid-requires-clause-moment c = (body_spellable c.in-Event.stamp c.in-Event.changes c.in-Event.records (subst IsSpellable c.in-Event.is c.requires.spelled)).moment
 
-pub replay_parts-requires-clause-spelled : goal.replay_parts-requires-clause-spelled
-replay_parts-requires-clause-spelled c = (body_spellable c.in-Event.stamp c.in-Event.changes c.in-Event.records (subst IsSpellable c.in-Event.is c.requires.spelled)).changes
+pub replay_laid-requires-clause-spelled : goal.replay_laid-requires-clause-spelled
+replay_laid-requires-clause-spelled c = (body_spellable c.in-Event.stamp c.in-Event.changes c.in-Event.records (subst IsSpellable c.in-Event.is c.requires.spelled)).changes
 
-pub replay_parts-requires-clause-told : goal.replay_parts-requires-clause-told
-replay_parts-requires-clause-told c = (body_spellable c.in-Event.stamp c.in-Event.changes c.in-Event.records (subst IsSpellable c.in-Event.is c.requires.spelled)).records
+pub replay_laid-requires-clause-told : goal.replay_laid-requires-clause-told
+replay_laid-requires-clause-told c = (body_spellable c.in-Event.stamp c.in-Event.changes c.in-Event.records (subst IsSpellable c.in-Event.is c.requires.spelled)).records
 
 pub returns-in-Event-clause-goes : goal.returns-in-Event-clause-goes
-returns-in-Event-clause-goes c = subst (λ (f : Frame). IfOk c.replay_parts.result (λ goes. IsTrue goes ↔ IsReplayable conditions c.args.self.now.kept f)) (sym c.in-Event.is) c.replay_parts.ensures.goes
+returns-in-Event-clause-goes c = subst (λ (f : Frame). IfOk c.replay_laid.result (λ goes. IsTrue goes ↔ IsReplayable conditions c.args.self.now.kept f)) (sym c.in-Event.is) c.replay_laid.ensures.goes
 
-pub replay_parts-requires-in-Purge-clause-moment : goal.replay_parts-requires-in-Purge-clause-moment
-replay_parts-requires-in-Purge-clause-moment c = (purge_spellable c.in-Purge.stamp c.in-Purge.before c.in-Purge.changes c.in-Purge.records (subst IsSpellable c.in-Purge.is c.requires.spelled)).moment
+pub replay_laid-requires-in-Purge-clause-moment : goal.replay_laid-requires-in-Purge-clause-moment
+replay_laid-requires-in-Purge-clause-moment c = (purge_spellable c.in-Purge.stamp c.in-Purge.before c.in-Purge.changes c.in-Purge.records (subst IsSpellable c.in-Purge.is c.requires.spelled)).moment
 
-pub replay_parts-requires-in-Purge-clause-spelled : goal.replay_parts-requires-in-Purge-clause-spelled
-replay_parts-requires-in-Purge-clause-spelled c = (purge_spellable c.in-Purge.stamp c.in-Purge.before c.in-Purge.changes c.in-Purge.records (subst IsSpellable c.in-Purge.is c.requires.spelled)).changes
+pub replay_laid-requires-in-Purge-clause-spelled : goal.replay_laid-requires-in-Purge-clause-spelled
+replay_laid-requires-in-Purge-clause-spelled c = (purge_spellable c.in-Purge.stamp c.in-Purge.before c.in-Purge.changes c.in-Purge.records (subst IsSpellable c.in-Purge.is c.requires.spelled)).changes
 
-pub replay_parts-requires-in-Purge-clause-told : goal.replay_parts-requires-in-Purge-clause-told
-replay_parts-requires-in-Purge-clause-told c = (purge_spellable c.in-Purge.stamp c.in-Purge.before c.in-Purge.changes c.in-Purge.records (subst IsSpellable c.in-Purge.is c.requires.spelled)).records
+pub replay_laid-requires-in-Purge-clause-told : goal.replay_laid-requires-in-Purge-clause-told
+replay_laid-requires-in-Purge-clause-told c = (purge_spellable c.in-Purge.stamp c.in-Purge.before c.in-Purge.changes c.in-Purge.records (subst IsSpellable c.in-Purge.is c.requires.spelled)).records
 
 pub returns-clause-goes : goal.returns-clause-goes
-returns-clause-goes c = subst (λ (f : Frame). IfOk c.replay_parts-in-Purge.result (λ goes. IsTrue goes ↔ IsReplayable conditions c.args.self.now.kept f)) (sym c.in-Purge.is) c.replay_parts-in-Purge.ensures.goes
+returns-clause-goes c = subst (λ (f : Frame). IfOk c.replay_laid-in-Purge.result (λ goes. IsTrue goes ↔ IsReplayable conditions c.args.self.now.kept f)) (sym c.in-Purge.is) c.replay_laid-in-Purge.ensures.goes
