@@ -6,7 +6,7 @@ use Rattle.au_entries.specs.Changing.{changed_all}
 use Rattle.au_entries.specs.Frames.{PartsGoOn}
 use Rattle.au_kept.proofs.Replayed.{IsGood, parts_after, parts_refused, parts_told}
 use Rattle.au_replay.specs.Reading.{conditions}
-use Rattle.au_kept.proofs.keeping.Keeping.replay_parts.Goals as goal
+use Rattle.au_kept.proofs.keeping.Keeping.replay_laid.Goals as goal
 
 pub returns-then-not-may_follow-clause-goes : goal.returns-then-not-may_follow-clause-goes
 returns-then-not-may_follow-clause-goes c =
