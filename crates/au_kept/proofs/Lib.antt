@@ -8,6 +8,7 @@ mod Lists
 mod Made
 mod Nothing
 mod OpenKeys
+mod Plain
 mod Replayed
 mod Rowed
 mod RowsLaid

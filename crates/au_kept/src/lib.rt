@@ -7,6 +7,7 @@ mod laws;
 mod laying_rows;
 mod open_rows;
 mod parting;
+mod plain_change;
 mod quick;
 mod reading;
 mod settling;
