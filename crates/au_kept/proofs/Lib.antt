@@ -11,6 +11,7 @@ mod Made
 mod Nothing
 mod OpenKeys
 mod OpenTables
+mod Plain
 mod Rebuilt
 mod Replayed
 mod Replaying

@@ -1,11 +1,13 @@
 -- What a sight shows, and what is kept.
-use Rattle.std.proofs.Common.{◌≡◌, Bool, true, List, [], refl, sym, ap, subst}
+use Rattle.std.proofs.Common.{◌≡◌, Bool, true, false, List, [], refl, sym, ap, subst}
 use Rattle.std.specs.Prelude.{◌↔◌, IfOk, IsTrue, Option, Some, None, Result, Ok, Err}
 use Rattle.std.specs.List.{Contains}
 use Rattle.au_entries.specs.declared.change.Change.{Change}
 use Rattle.au_entries.specs.declared.kept.Kept.{Kept}
 use Rattle.au_entries.specs.Changing.{KeptRow}
 use Rattle.au_entries.specs.Lawful.{IsFounded}
+use Rattle.au_entries.specs.Replaying.{Conditions, GoesOn}
+use Rattle.au_replay.specs.Reading.{conditions}
 use Rattle.au_replay.specs.Sights.{showable}
 use Rattle.au_replay.specs.Touched.{AreFew, IsWholeRow, IsWholeWhereTouched}
 
@@ -60,3 +62,15 @@ told_kept changes kept seen same (Err error) told = tt
 pub told_by : {E : Type 0} (P : Type 0) (goes : Bool) → (IsTrue goes ↔ P) → (answer : Result Bool E) → IfOk answer (λ same. same ≡ goes) → IfOk answer (λ told. IsTrue told ↔ P)
 told_by P goes is (Ok told) same = subst (λ (b : Bool). IsTrue b ↔ P) (sym same) is
 told_by P goes is (Err error) same = tt
+
+-- whether a change goes on from what is kept, as the law has it
+abbrev pub GoesAsShown : Type 0
+GoesAsShown = (conditions : Conditions) (image : Bool) (kept : Kept) (change : Change) → GoesOn conditions image (showable kept) change ↔ GoesOn conditions image kept change
+
+pub told_going : GoesAsShown → {E : Type 0} (kept seen : Kept) (change : Change) → seen ≡ showable kept → (answer : Result Bool E) → IfOk answer (λ goes. IsTrue goes ↔ GoesOn conditions false seen change)
+    → IfOk answer (λ goes. IsTrue goes ↔ GoesOn conditions false kept change)
+told_going law kept seen change same (Ok goes) told =
+    let is = subst (λ (k : Kept). IsTrue goes ↔ GoesOn conditions false k change) same told in
+    let kept_too = law conditions false kept change in
+    (λ holds. kept_too.0 (is.0 holds), λ on. is.1 (kept_too.1 on))
+told_going law kept seen change same (Err error) told = tt

@@ -12,6 +12,7 @@ mod one_change;
 mod open_rows;
 mod parting;
 mod parts;
+mod plain_change;
 mod quick;
 mod reading;
 mod replay;

@@ -120,7 +120,7 @@ impl Keeping {
     }
 
     // Whether a frame with this stamp may follow: it isn't under the last one, and SYS is a user.
-    fn may_follow(&self, stamp: Stamp) -> bool
+    pub(crate) fn may_follow(&self, stamp: Stamp) -> bool
         ensures { IsTrue result ↔ ((self.now.kept.last.0 ≤ stamp.0) × IsTrue (has_user self.now.kept sys)) }
     {
         au_replay::sights_suffice();
