@@ -1,13 +1,7 @@
 -- What a query gives over sources it gives over what they tell.
-use Rattle.std.proofs.Common.{◌≡◌, ◌∙◌, ◌+◌, ◌∷◌, [], ℕ, Bool, true, false, not, cond, ◌||◌, List, map, take, filter, refl, sym, ap, ap₂, subst}
+use Rattle.std.proofs.Common.{◌≡◌, ◌∙◌, ◌∷◌, [], List, map, sym, ap, subst}
 use Rattle.std.specs.Prelude.{Option, None, Some}
-use Rattle.std.specs.List.{enumerate_from, list_any, slice_get}
-use Rattle.std.proofs.lemmas.List.{take-map}
 use Rattle.au_base.specs.declared.code.Code.{Code}
-use Rattle.au_base.specs.declared.numbers.RowNo.{RowNo}
-use Rattle.au_base.specs.declared.table.Column.{Column}
-use Rattle.au_base.specs.declared.table.TableName.{TableName}
-use Rattle.au_base.specs.Sameness.{same_table}
 use Rattle.au_expr.specs.declared.placed.Placed.{Placed}
 use Rattle.au_expr.specs.Rows.{Range}
 use Rattle.au_expr.specs.Sessions.{Session}
@@ -15,14 +9,14 @@ use Rattle.au_query.specs.declared.selected.Selected.{Selected}
 use Rattle.au_query.specs.declared.source.Source.{Source}
 use Rattle.au_query.specs.Answers as answers
 use Rattle.au_query.specs.Answers.{Comes, IsReply, columns_at, is_named, takes_part, trees_of}
-use Rattle.au_query.specs.Combos.{Line, combos, rows_of, views}
+use Rattle.au_query.specs.Combos.{combos, rows_of, views}
 use Rattle.au_query.specs.Counts as counts
 use Rattle.au_query.specs.Counts.{condition_of, count_refusal, passing_rows}
 use Rattle.au_query.specs.Queries.{query_of}
 use Rattle.au_query.specs.Refusals.{select_refusal}
 use Rattle.au_world.specs.Inside.{told_by}
 use Rattle.au_world.proofs.Told.{named_told, touched_told, views_told}
-use Rattle.au_world.specs.Selecting.{IsCountedFrom, IsDone, IsSelectedFrom, IsTally, Seen, is_first, named_at, named_over, places_of, rows_of_seen, touched_at, touched_over}
+use Rattle.au_world.specs.Selecting.{IsCountedFrom, IsDone, IsSelectedFrom, IsTally, Seen, touched_over}
 use Rattle.sql_ast.specs.declared.query.Count.{Count}
 use Rattle.sql_ast.specs.declared.query.Select.{Select}
 

@@ -1,10 +1,10 @@
 -- Cells that are sound.
-use Rattle.std.proofs.Common.{◌≡◌, ◌≢◌, ◌≤◌, ◌+◌, ℕ, pos, List, [], ◌∷◌, Option, Some, None, map, refl, sym, ap, arith}
+use Rattle.std.proofs.Common.{◌≢◌, ◌≤◌, ◌+◌, ℕ, pos, List, [], ◌∷◌, Option, Some, None, map, arith}
 use Rattle.std.specs.List.{AllByRecursion, enumerate_from}
 use Rattle.std.proofs.lemmas.Int.{ints}
 use Rattle.au_audit.specs.TrailRows.{as_row, optional_cell}
 use Rattle.au_base.specs.declared.cell.Cell.{Cell}
-use Rattle.au_base.specs.declared.cell.Cell.TheVariants.{Null, Num, Text, Moment}
+use Rattle.au_base.specs.declared.cell.Cell.TheVariants.{Num}
 use Rattle.au_base.specs.Cells.{IsSoundCell, text_cell}
 use Rattle.au_entries.specs.declared.trail_record.Record.{Record}
 use Rattle.au_query.specs.Combos.{IsSoundLine}
@@ -32,7 +32,34 @@ numbered_sound n (row ∷ rows) all = (all.0, numbered_sound (n + 1) rows all.1)
 
 -- a record as a row has sound cells
 pub row_sound : (entry : Record) → IsSoundRecord entry → entry.entry ≤ 4_294_967_295 → entry.statement ≤ 4_294_967_295 → entry.code.0 ≤ 4_294_967_295 → AllByRecursion IsSoundCell (as_row entry)
-row_sound entry sound few_entries few_statements few_codes =
-    (text_sound _, (number_sound entry.session.0 sound.session, (number_sound entry.entry (omega (arith, few_entries)), (number_sound entry.statement (omega (arith, few_statements)),
-    (sound.stamp, (text_sound entry.user, (text_sound _, (optional_sound entry.schema, (optional_sound entry.object, (optional_sound entry.sql,
-    (text_sound _, (text_sound _, (optional_sound entry.fga, (number_sound entry.code.0 (omega (arith, few_codes)), tt))))))))))))))
+row_sound entry sound few_entries few_statements few_codes = (
+  text_sound _,
+  (
+    number_sound entry.session.0 sound.session,
+    (
+      number_sound entry.entry (omega (arith, few_entries)),
+      (
+        number_sound entry.statement (omega (arith, few_statements)),
+        (
+          sound.stamp,
+          (
+            text_sound entry.user,
+            (
+              text_sound _,
+              (
+                optional_sound entry.schema,
+                (
+                  optional_sound entry.object,
+                  (
+                    optional_sound entry.sql,
+                    (text_sound _, (text_sound _, (optional_sound entry.fga, (number_sound entry.code.0 (omega (arith, few_codes)), tt)))),
+                  ),
+                ),
+              ),
+            ),
+          ),
+        ),
+      ),
+    ),
+  ),
+)

@@ -1,12 +1,10 @@
 -- A COUNT without WHERE looks at the numbers of rows alone.
 use Rattle.std.proofs.Common.{◌≡◌, ◌∙◌, ◌∷◌, [], ℕ, ◌+◌, Bool, true, false, cond, nat_lt, List, map, length, filter, refl, sym, ap, subst}
-use Rattle.std.specs.Prelude.{Option, None, Some}
+use Rattle.std.specs.Prelude.{None}
 use Rattle.std.specs.Option.{option_to_list}
 use Rattle.std.specs.List.{AllByRecursion, enumerate_from}
 use Rattle.std.proofs.lemmas.List.{length-map}
 use Rattle.au_audit.specs.TrailRows.{as_row}
-use Rattle.au_base.specs.declared.cell.Cell.{Cell}
-use Rattle.au_base.specs.declared.numbers.RowNo.{RowNo}
 use Rattle.au_base.specs.declared.table.Column.{Column}
 use Rattle.au_base.specs.declared.table.TableName.{TableName}
 use Rattle.au_base.specs.Cells.{IsSoundCell}

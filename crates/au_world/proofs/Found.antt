@@ -5,7 +5,6 @@ use Rattle.std.specs.List.{AllByRecursion}
 use Rattle.std.proofs.lemmas.List.{length-map}
 use Rattle.au_audit.specs.Statements.{from_tables}
 use Rattle.au_base.specs.declared.table.TableName.{TableName}
-use Rattle.au_base.specs.declared.table.TableReference.{TableReference}
 use Rattle.au_base.specs.BuiltIn.{resolved_table}
 use Rattle.au_query.specs.declared.source.Source.{Source}
 use Rattle.au_world.specs.declared.from_table.FromTable.{FromTable}

@@ -1,12 +1,11 @@
 -- The rows that are seen have sound cells.
 use Rattle.std.proofs.Common.{◌≡◌, ◌≢◌, ◌∙◌, true, ◌⊎◌, inl, inr, List, map, refl, sym, subst}
-use Rattle.std.specs.Prelude.{IsTrue, Some}
-use Rattle.std.specs.List.{AllByRecursion, Contains, filter, list_any}
+use Rattle.std.specs.Prelude.{Some}
+use Rattle.std.specs.List.{AllByRecursion, Contains, list_any}
 use Rattle.au_base.specs.declared.table.TableName.{TableName}
-use Rattle.au_base.specs.Cells.{IsSoundCell}
 use Rattle.au_base.specs.Sameness.{same_table}
 use Rattle.au_entries.specs.declared.table.Table.{Table}
-use Rattle.au_query.specs.Combos.{IsSoundLine, Line}
+use Rattle.au_query.specs.Combos.{IsSoundLine}
 use Rattle.au_txn.specs.declared.change.RowChange.{RowChange}
 use Rattle.au_txn.specs.Desks.{contents_of}
 use Rattle.au_txn.specs.Rows.{Row, is_in}

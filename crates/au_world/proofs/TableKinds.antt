@@ -3,7 +3,6 @@ use Rattle.std.proofs.Common.{◌≡◌, ◌∙◌, Bool, true, false, if◌then
 use Rattle.au_base.specs.declared.table.TableName.{TableName}
 use Rattle.au_base.specs.BuiltIn.{dual, trail}
 use Rattle.au_base.specs.Sameness.{same_table}
-use Rattle.au_world.specs.declared.built_in.TableKind.{TableKind}
 use Rattle.au_world.specs.declared.built_in.TableKind.TheVariants.{Dual, Trail, Created}
 use Rattle.au_world.specs.BuiltInTables.{kind_of}
 

@@ -1,29 +1,18 @@
 -- What is told of sources is told of their tables and rows alone.
-use Rattle.std.proofs.Common.{◌≡◌, ◌∙◌, ◌+◌, ◌∷◌, [], ℕ, Bool, true, false, not, cond, ◌||◌, List, map, take, filter, refl, sym, ap, ap₂, subst}
-use Rattle.std.specs.Prelude.{Option, None, Some}
+use Rattle.std.proofs.Common.{◌≡◌, ◌∙◌, ◌+◌, ◌∷◌, [], ℕ, Bool, true, false, not, cond, ◌||◌, List, map, take, filter, refl, sym, ap, ap₂}
 use Rattle.std.specs.List.{enumerate_from, list_any, slice_get}
 use Rattle.std.proofs.lemmas.List.{take-map}
-use Rattle.au_base.specs.declared.code.Code.{Code}
-use Rattle.au_base.specs.declared.numbers.RowNo.{RowNo}
 use Rattle.au_base.specs.declared.table.Column.{Column}
 use Rattle.au_base.specs.declared.table.TableName.{TableName}
 use Rattle.au_base.specs.Sameness.{same_table}
 use Rattle.au_expr.specs.declared.placed.Placed.{Placed}
 use Rattle.au_expr.specs.Rows.{Range}
-use Rattle.au_expr.specs.Sessions.{Session}
-use Rattle.au_query.specs.declared.selected.Selected.{Selected}
 use Rattle.au_query.specs.declared.source.Source.{Source}
 use Rattle.au_query.specs.Answers as answers
 use Rattle.au_query.specs.Answers.{Comes, IsReply, columns_at, is_named, takes_part, trees_of}
 use Rattle.au_query.specs.Combos.{Line, combos, rows_of, views}
-use Rattle.au_query.specs.Counts as counts
-use Rattle.au_query.specs.Counts.{condition_of, count_refusal, passing_rows}
-use Rattle.au_query.specs.Queries.{query_of}
-use Rattle.au_query.specs.Refusals.{select_refusal}
 use Rattle.au_world.specs.Inside.{told_by}
-use Rattle.au_world.specs.Selecting.{IsCountedFrom, IsDone, IsSelectedFrom, IsTally, Seen, is_first, named_at, named_over, places_of, rows_of_seen, touched_at, touched_over}
-use Rattle.sql_ast.specs.declared.query.Count.{Count}
-use Rattle.sql_ast.specs.declared.query.Select.{Select}
+use Rattle.au_world.specs.Selecting.{Seen, is_first, named_at, named_over, places_of, rows_of_seen, touched_at, touched_over}
 
 -- what is made of the places that pass a test, where the test and what is made look at what is told alone
 picked_at : {C : Type 0} (b c : Bool) (x y : C) (xs ys : List C) → c ≡ b → y ≡ x → ys ≡ xs → cond c (y ∷ ys) ys ≡ cond b (x ∷ xs) xs

@@ -3,7 +3,7 @@
 -- is this project's profile.
 use Rattle.std.specs.Prelude.{ℕ, false, List, [], ◌∷◌, map, min, codes, if◌then◌else◌}
 use Rattle.std.specs.List.{enumerate_from}
-use Rattle.au_audit.specs.TrailRows.{as_row, trail_columns}
+use Rattle.au_audit.specs.TrailRows.{as_row}
 use Rattle.au_base.specs.declared.cell.Cell.{Cell}
 use Rattle.au_base.specs.declared.numbers.RowNo.{RowNo}
 use Rattle.au_base.specs.declared.table.Column.{Column}

@@ -14,7 +14,7 @@ use Rattle.au_expr.specs.Names.{first}
 use Rattle.au_grants.specs.declared.grants.Grants.{Grants}
 use Rattle.au_grants.specs.Rights.{Name}
 use Rattle.au_priv.specs.declared.allowed.Allowed.{Allowed}
-use Rattle.au_priv.specs.declared.allowed.Allowed.TheVariants.{Owner, Object, System, Refused}
+use Rattle.au_priv.specs.declared.allowed.Allowed.TheVariants.{System, Refused}
 use Rattle.au_priv.specs.Allowing.{AllowedIs}
 use Rattle.au_world.specs.declared.rights.TableRights.{TableRights}
 use Rattle.au_world.specs.Sights.{is_there}

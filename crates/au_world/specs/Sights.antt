@@ -1,6 +1,6 @@
 -- What a statement of a client sees of the world (Database Concepts, "Data Concurrency and Consistency"; the tables of
 -- SYS and AUDSYS that no catalogue has are this project's profile).
-use Rattle.std.specs.Prelude.{ℕ, Bool, true, List, [], map, Option, None, Some}
+use Rattle.std.specs.Prelude.{Bool, true, List, [], map, Option, None, Some}
 use Rattle.std.specs.List.{find, list_any}
 use Rattle.au_audit.specs.TrailRows.{trail_columns}
 use Rattle.au_base.specs.declared.numbers.ClientNo.{ClientNo}

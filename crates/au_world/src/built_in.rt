@@ -14,7 +14,9 @@ ghost use Rattle.au_world.specs.Sound.{IsSoundRecord};
 
 use au_audit::as_row;
 use au_base::limits::LAST_ROW_NUMBER;
-use au_base::{Cell, Column, ColumnKind, List, Memory, Name, RowNo, TableName, Text, same_is_equal};
+use au_base::{
+    Cell, Column, ColumnKind, List, Memory, Name, RowNo, TableName, Text, same_is_equal,
+};
 use au_entries::Record;
 use std::alloc::Global;
 

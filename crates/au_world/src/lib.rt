@@ -4,14 +4,14 @@
 mod built_in;
 mod columns;
 mod from_table;
-mod row_plan;
 mod query;
 mod rights;
+mod row_plan;
 mod sources;
 mod world;
 
 pub use au_query::Selected;
-pub use row_plan::RowPlan;
 pub use query::select;
 pub use rights::{TableRights, is_there, table_rights};
+pub use row_plan::RowPlan;
 pub use world::World;

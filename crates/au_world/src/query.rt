@@ -9,11 +9,10 @@ ghost use Rattle.au_world.specs.Sights.{sight_of};
 ghost use Rattle.au_world.specs.Sound.{IsSoundWorld};
 ghost use Rattle.sql_ast.specs.declared.statement.Statement.TheVariants as statements;
 
-use crate::World;
-use crate::built_in;
 use crate::built_in::{TableKind, numbered_records};
 use crate::from_table::{from_table, from_tables, range, ranges};
 use crate::sources::{source, sources};
+use crate::{World, built_in};
 use au_base::{ClientNo, Code, Memory, TableName};
 use au_expr::SessionFacts;
 use au_query::{Selected, Source};

@@ -1,9 +1,9 @@
-use Rattle.std.proofs.Common.{◌≡◌, ◌∙◌, ap, ap₂, map, sym, subst}
+use Rattle.std.proofs.Common.{◌∙◌, ap, ap₂, map, sym, subst}
 use Rattle.std.specs.Prelude.{IsTrue}
 use Rattle.std.specs.List.{AllByRecursion}
 use Rattle.au_query.specs.Combos.{AreSoundRows, views}
 use Rattle.au_world.specs.Inside.{IsFoundTable, told_by}
-use Rattle.au_world.specs.Selecting.{IsSelectedFrom, meant, range_of, ranges_of, seen_in, seen_of, tables_in}
+use Rattle.au_world.specs.Selecting.{IsSelectedFrom, meant, range_of, seen_in, seen_of, tables_in}
 use Rattle.au_world.specs.Sights.{is_there, sight_of}
 use Rattle.au_world.proofs.Found.{all_found, names_meant, names_of, same_length, seen_meant}
 use Rattle.au_world.proofs.Answered.{selected_told}
