@@ -1,7 +1,7 @@
 -- GRANT and REVOKE have one decision.
-use Rattle.std.proofs.Common.{◌≡◌, ◌∙◌, ◌<◌, suc, zero, Bool, true, false, ◌⊎◌, ◌&&◌, List, [], ◌∷◌, ◌++◌, Option, Some, None, ℕ, inl, inr, map, length, filter, refl, sym, ap, subst, arith}
+use Rattle.std.proofs.Common.{◌≡◌, ◌∙◌, suc, zero, Bool, true, false, ◌⊎◌, List, [], ◌∷◌, ◌++◌, Some, None, ℕ, inl, inr, map, length, filter, refl, sym, ap, subst, arith}
 use Rattle.std.specs.Prelude.{if◌then◌else◌, unwrap_or}
-use Rattle.std.specs.List.{AllByRecursion, flat_map, list_all, slice_get}
+use Rattle.std.specs.List.{AllByRecursion, list_all, slice_get}
 use Rattle.std.proofs.lemmas.Bool.{and_parts, cases_order}
 use Rattle.au_base.specs.BuiltIn.{resolved_table}
 use Rattle.au_base.specs.declared.code.Code.{Code}
@@ -25,7 +25,7 @@ use Rattle.au_priv.specs.declared.pair.Way.{Way}
 use Rattle.au_priv.specs.declared.pair.Way.TheVariants as way
 use Rattle.au_priv.specs.Deciding.{Decides, DecidesOnTable, DecidesPairs, DecidesRights, FirstRefused, IsUsed, IsUsedOnTable, NoneRefused, RefusesGrantee, RefusesRight, RefusesTable}
 use Rattle.au_priv.specs.Pairs.{Pair, object_pair, pairs, right_pair}
-use Rattle.au_priv.specs.Walking.{AllPass, ClosesCircle, IsOverLimit, RefusesPair, SomeRefused, made, made_all, missing_code}
+use Rattle.au_priv.specs.Walking.{AllPass, ClosesCircle, IsOverLimit, RefusesPair, SomeRefused, made, missing_code}
 
 -- ---- the first that is refused
 

@@ -1,5 +1,5 @@
 -- A statement on tables, users, roles or grants has one decision.
-use Rattle.std.proofs.Common.{◌≡◌, ◌∙◌, Bool, true, false, List, ℕ, inl, inr, refl, sym, ap}
+use Rattle.std.proofs.Common.{◌≡◌, ◌∙◌, Bool, List, sym, ap}
 use Rattle.au_base.specs.BuiltIn.{resolved_table}
 use Rattle.au_base.specs.declared.code.Code.{Code}
 use Rattle.au_base.specs.declared.table.TableName.{TableName}
@@ -14,8 +14,6 @@ use Rattle.au_define.specs.Users.{alter_user, create_user, drop_user}
 use Rattle.au_define.proofs.Granted.{granted_one}
 use Rattle.au_define.proofs.Same.{same_refusal, same_test}
 use Rattle.au_entries.specs.declared.decision.Decision.{Decision}
-use Rattle.au_grants.specs.Rights.{Grants}
-use Rattle.au_priv.specs.Allowing.{IsRefusal}
 use Rattle.sql_ast.specs.declared.statement.Statement.{Statement}
 use Rattle.sql_ast.specs.declared.statement.Statement.TheVariants.{Select, Count, Insert, Update, Delete, Commit, Rollback, CreateTable, DropTable, CreateUser, AlterUser, DropUser, CreateRole, DropRole, Grant, CreatePolicy, DropPolicy, Audit, Noaudit, Call}
 use Rattle.sql_ast.specs.declared.table.Element.{Element}

@@ -1,5 +1,4 @@
-use Rattle.std.proofs.Common.{◌≡◌, map, take}
-use Rattle.au_define.specs.Granting.{change_of}
+use Rattle.std.proofs.Common.{◌≡◌, take}
 use Rattle.au_define.proofs.granting.names.Given as goal
 
 abbrev pub invariant-loop-role : goal.invariant-loop-role

@@ -1,5 +1,4 @@
 use Rattle.std.proofs.Common.{◌≡◌, map, take}
-use Rattle.au_define.specs.Granting.{change_of}
 use Rattle.au_define.proofs.granting.user_names.Given as goal
 
 abbrev pub invariant-loop-user : goal.invariant-loop-user
