@@ -8,6 +8,7 @@ ghost use Rattle.au_txn.specs.Logs.{changes_of};
 ghost use Rattle.rec_codec.specs.Frames.{IsSpellable};
 
 use crate::Keeping;
+use crate::laws::spellings_are_short;
 use crate::quick::is_of_rows;
 use au_base::Memory;
 use rec_codec::Frame;
@@ -17,7 +18,8 @@ impl Keeping {
     /// Replays the frame where it goes on from what is kept: true exactly there, and then what is
     /// kept is what the frame makes of it. Else, or where there is no memory, it is as it was. An
     /// image goes on a blank keeping, and no client has changes. A frame whose changes are all of
-    /// rows takes as long as it is long, another one as long as the image of what is kept.
+    /// rows, or are one change that can be made in place, takes as long as it is long; another one as
+    /// long as the image of what is kept.
     pub fn replay(&mut self, alloc: Global, frame: Frame) -> Result<bool, Memory>
         requires spelled { IsSpellable frame }
         requires first { IsImage frame → self.old.kept ≡ nothing }
@@ -30,6 +32,10 @@ impl Keeping {
     {
         if is_of_rows(&frame) {
             return self.replay_rows(alloc, frame);
+        }
+        spellings_are_short();
+        if self.is_of_one(&frame) {
+            return self.replay_one(alloc, frame);
         }
         self.replay_anew(alloc, frame)
     }
