@@ -1,11 +1,11 @@
 //! Lines that ask.
 
 use crate::case::Case;
-use crate::fault::Fault;
 use crate::showing::{change_text, final_text, joined, row_text};
 use au_base::ClientNo;
 use au_txn::Desk;
 use std::alloc::Global;
+use trials_lines::{Fault, yes_or_no};
 
 /// What comes of a line that asks, if the case is one.
 pub fn asked(alloc: Global, desk: &Desk, case: &Case<'_>) -> Result<Option<String>, Fault> {
@@ -38,10 +38,6 @@ pub fn asked(alloc: Global, desk: &Desk, case: &Case<'_>) -> Result<Option<Strin
         }
         _ => Ok(None),
     }
-}
-
-fn yes_or_no(alloc: Global, test: bool) -> Result<String, Fault> {
-    Ok(String::from_str(alloc, if test { "yes" } else { "no" })?)
 }
 
 fn viewed(alloc: Global, desk: &Desk, case: &Case<'_>) -> Result<String, Fault> {

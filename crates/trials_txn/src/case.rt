@@ -1,8 +1,8 @@
 //! The lines of standard input.
 
-use crate::fault::Fault;
 use au_base::{Cell, ClientNo, List, Name, RowNo, TableName, Text};
 use std::alloc::Global;
+use trials_lines::Fault;
 
 /// A call, and what it is given.
 #[derive(Drop)]

@@ -1,14 +1,14 @@
 //! Lines that change the desk.
-ghost use Rattle.std.specs.Prelude.{◌≡◌, ◌≢◌, ◌≤◌, ◌⊎◌, IfOk, IsSome, IsTrue, map};
+ghost use Rattle.std.specs.Prelude.{◌≡◌, ◌≢◌, ◌≤◌, ◌⊎◌, IfOk, IsSome, IsTrue, false, map};
 ghost use Rattle.au_txn.specs.Desks.{is_open, open_of, spare_of};
 ghost use Rattle.au_txn.specs.Rows.{row_at};
 ghost use Rattle.au_txn.specs.Transactions.{IsRowLocked, laid_over};
 
 use crate::case::Case;
-use crate::fault::Fault;
 use au_base::{Cell, ClientNo, List, RowNo, TableName};
 use au_txn::{Desk, RowChange, laid_rows_answer};
 use std::alloc::Global;
+use trials_lines::Fault;
 
 /// A copy of cells.
 pub fn copy_of(alloc: Global, cells: &[Cell]) -> Result<Vec<Cell>, Fault>
@@ -179,6 +179,120 @@ pub fn change_two(
     };
     write_two(alloc, desk, client, first, second)?;
     Ok("done")
+}
+
+/// A copy of a content.
+fn copied(alloc: Global, content: &Option<List<Cell>>) -> Result<Option<List<Cell>>, Fault>
+    ensures { IfOk result (λ copy. copy ≡ content.now) }
+{
+    match content {
+        Some(cells) => Ok(Some(List::from_vec(copy_of(alloc, cells.as_slice())?))),
+        None => Ok(None),
+    }
+}
+
+/// Writes three changes of one row at once, each of what the one before it left.
+fn write_three(
+    alloc: Global,
+    desk: &mut Desk,
+    client: ClientNo,
+    first: RowChange,
+    second: RowChange,
+    third: RowChange,
+) -> Result<(), Fault>
+    requires one_table { (second.table ≡ first.table) × (third.table ≡ first.table) }
+    requires one_row { (second.row ≡ first.row) × (third.row ≡ first.row) }
+    requires there { IsTrue (is_open first.table desk.old.tables) }
+    requires free { ¬ IsRowLocked (open_of desk.old) client first.table first.row }
+    requires numbered { 1 ≤ first.row.0 }
+    requires first_content { IsSome first.old ⊎ IsSome first.new }
+    requires second_content { IsSome first.new ⊎ IsSome second.new }
+    requires third_content { IsSome second.new ⊎ IsSome third.new }
+    requires first_old { first.old ≡ row_at first.table first.row (laid_over desk.old.rows (open_of desk.old client)) }
+    requires second_old { second.old ≡ first.new }
+    requires third_old { third.old ≡ second.new }
+    requires spare { 3 ≤ spare_of client desk.old }
+{
+    laid_rows_answer();
+    let mut contents = Vec::new(alloc);
+    if let Some(cells) = &first.new {
+        contents.push(copy_of(alloc, cells.as_slice())?)?;
+    }
+    if let Some(cells) = &second.new {
+        contents.push(copy_of(alloc, cells.as_slice())?)?;
+    }
+    if let Some(cells) = &third.new {
+        contents.push(copy_of(alloc, cells.as_slice())?)?;
+    }
+    let mut changes = Vec::new(alloc);
+    changes.push(first)?;
+    changes.push(second)?;
+    changes.push(third)?;
+    desk.write(client, changes, contents);
+    Ok(())
+}
+
+/// The contents that a row is to have one after another, none where it is to go.
+#[derive(Drop)]
+pub struct Steps {
+    pub first: Option<List<Cell>>,
+    pub second: Option<List<Cell>>,
+    pub third: Option<List<Cell>>,
+}
+
+impl Steps {
+    /// Whether a step takes away a row that isn't there.
+    fn misses(&self, is_there: bool) -> bool
+        ensures first { result ≡ false → IsTrue is_there ⊎ IsSome self.now.first }
+        ensures second { result ≡ false → IsSome self.now.first ⊎ IsSome self.now.second }
+        ensures third { result ≡ false → IsSome self.now.second ⊎ IsSome self.now.third }
+    {
+        let (first, second) = (self.first.is_some(), self.second.is_some());
+        !(is_there || first) || !(first || second) || !(second || self.third.is_some())
+    }
+}
+
+/// Makes the client's three changes of the row in one write, and says what came.
+pub fn change_three(
+    alloc: Global,
+    desk: &mut Desk,
+    client: ClientNo,
+    (table, row): (TableName, RowNo),
+    steps: Steps,
+) -> Result<&'static str, Fault> {
+    desk.reserve(alloc, client, 3)?;
+    if row.0 == 0 || !desk.is_open(&table) {
+        return Ok("no table");
+    }
+    if desk.locked_row(client, &table, row) {
+        return Ok("locked");
+    }
+    let old = seen(alloc, desk, client, &table, row)?;
+    if steps.misses(old.is_some()) {
+        return Ok("no row");
+    }
+    let first = change_of(&table, row, old, copied(alloc, &steps.first)?)?;
+    let second = change_of(&table, row, steps.first, copied(alloc, &steps.second)?)?;
+    let third = change_of(&table, row, steps.second, steps.third)?;
+    write_three(alloc, desk, client, first, second, third)?;
+    Ok("done")
+}
+
+/// A change of the row.
+fn change_of(
+    table: &TableName,
+    row: RowNo,
+    old: Option<List<Cell>>,
+    new: Option<List<Cell>>,
+) -> Result<RowChange, Fault>
+    ensures { IfOk result (λ change. change ≡ record { table = table.now; row = row; old = old; new = new }) }
+{
+    Ok(RowChange {
+        table: table.clone()?,
+        row,
+        old,
+        new,
+    })
 }
 
 /// Lays the row for replay, and says what came.

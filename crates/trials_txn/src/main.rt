@@ -7,6 +7,7 @@
 //! - `put|CLIENT|TABLE|ROW|CELLS`, `gone|CLIENT|TABLE|ROW`: a change of the client
 //! - `two|CLIENT|TABLE|ROW|CELLS|ROW|CELLS`: two changes in one write, `gone` for the cells of a row
 //!   that goes
+//! - `three|CLIENT|TABLE|ROW|CELLS|CELLS|CELLS`: three changes of one row in one write
 //! - `many|CLIENT|TABLE|COUNT`, `many from|CLIENT|TABLE|FIRST|COUNT`: so many rows, from number 1 or
 //!   the first on, in one transaction; `many gone|CLIENT|TABLE|FIRST|COUNT`: so many that go
 //! - `commit|CLIENT`, `roll back|CLIENT`, `forget|CLIENT`
@@ -25,16 +26,15 @@ ghost use Rattle.std.specs.Prelude.{◌+◌, ◌<◌, ◌^◌};
 mod asking;
 mod case;
 mod changing;
-mod fault;
 mod showing;
 
 use au_base::{Cell, List};
 use au_txn::Desk;
 use case::Case;
-use changing::Wanted;
-use fault::Fault;
+use changing::{Steps, Wanted};
 use std::alloc::Global;
 use std::io;
+use trials_lines::Fault;
 
 // What comes of a line that changes the desk, if the case is one.
 fn changed(alloc: Global, desk: &mut Desk, case: &Case<'_>) -> Result<Option<&'static str>, Fault> {
@@ -54,6 +54,7 @@ fn changed(alloc: Global, desk: &mut Desk, case: &Case<'_>) -> Result<Option<&'s
             Ok(Some(changing::change(alloc, desk, client, table, case.row(2)?, None)?))
         }
         "two" => Ok(Some(two(alloc, desk, case)?)),
+        "three" => Ok(Some(three(alloc, desk, case)?)),
         "lay" => {
             let (table, row) = (case.table(alloc, 0)?, case.row(1)?);
             let content = content_at(alloc, case, 2)?.map(List::into_vec);
@@ -99,6 +100,17 @@ fn two(alloc: Global, desk: &mut Desk, case: &Case<'_>) -> Result<&'static str, 
     let second = wanted_at(alloc, case, 4)?;
     let (client, table) = (case.client(0)?, case.table(alloc, 1)?);
     changing::change_two(alloc, desk, client, table, (first, second))
+}
+
+// What comes of three changes of one row in one write.
+fn three(alloc: Global, desk: &mut Desk, case: &Case<'_>) -> Result<&'static str, Fault> {
+    let steps = Steps {
+        first: content_at(alloc, case, 3)?,
+        second: content_at(alloc, case, 4)?,
+        third: content_at(alloc, case, 5)?,
+    };
+    let row = (case.table(alloc, 1)?, case.row(2)?);
+    changing::change_three(alloc, desk, case.client(0)?, row, steps)
 }
 
 // What comes of a line that ends a client's changes, if the case is one.

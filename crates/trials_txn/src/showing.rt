@@ -1,9 +1,9 @@
 //! What is said of rows, changes and finals.
 
-use crate::fault::Fault;
 use au_base::{Cell, List};
 use au_txn::{Final, RowChange};
 use std::alloc::Global;
+use trials_lines::Fault;
 
 /// A row's number and cells, as `2:5,abc`.
 pub fn row_text(alloc: Global, number: u32, cells: &[Cell]) -> Result<String, Fault> {
