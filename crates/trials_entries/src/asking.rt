@@ -1,11 +1,12 @@
 //! The calls.
 
-use crate::fault::Fault;
-use crate::{reading, record, writing};
+use crate::trial::Trial;
+use crate::{matching, reading, record, writing};
 use au_audit::{audited, noaudited};
 use au_base::Code;
 use au_entries::{Enabled, enabled_for};
 use std::alloc::Global;
+use trials_lines::{Fault, name, said, yes_or_no};
 
 /// The field of a line at a place from 0; the empty text past the last.
 pub fn field(line: &str, place: usize) -> &str {
@@ -13,17 +14,17 @@ pub fn field(line: &str, place: usize) -> &str {
 }
 
 /// What comes of a line.
-pub fn answer(alloc: Global, enabled: &mut Enabled, line: &str) -> Result<String, Fault> {
+pub fn answer(alloc: Global, trial: &mut Trial, line: &str) -> Result<String, Fault> {
     match field(line, 0) {
         "off" => {
-            *enabled = Enabled::Off;
-            Ok(String::from_str(alloc, "done")?)
+            trial.enabled = Enabled::Off;
+            said(alloc, "done")
         }
-        "audit" => audit(alloc, enabled, line),
-        "noaudit" => noaudit(alloc, enabled, line),
-        "enabled" => is_enabled(alloc, enabled, line),
+        "audit" => audit(alloc, &mut trial.enabled, line),
+        "noaudit" => noaudit(alloc, &mut trial.enabled, line),
+        "enabled" => is_enabled(alloc, &trial.enabled, line),
         "row" => record::row(alloc, line),
-        _ => Err(Fault::NoCase),
+        _ => matching::answer(alloc, trial, line),
     }
 }
 
@@ -52,7 +53,7 @@ fn put(alloc: Global, enabled: &mut Enabled, made: Result<Enabled, Code>) -> Res
 }
 
 fn is_enabled(alloc: Global, enabled: &Enabled, line: &str) -> Result<String, Fault> {
-    let user = reading::name(alloc, field(line, 1))?;
+    let user = name(alloc, field(line, 1))?;
     let code = Code(reading::number(field(line, 2))?);
-    writing::yes_or_no(alloc, enabled_for(enabled, &user, code))
+    yes_or_no(alloc, enabled_for(enabled, &user, code))
 }

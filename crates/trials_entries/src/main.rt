@@ -6,6 +6,11 @@
 //!   empty, `successful` or `not successful`; `noaudit|USERS`: NOAUDIT, with `by A,B` or without.
 //!   The enablement that is made, or the code of the refusal, which leaves the enablement
 //! - `enabled|USER|CODE`: whether the policy is enabled for a statement of the user with the code
+//! - `policy|PRIVILEGES|ACTIONS|ROLES`: from here on the policy has these parts; an action is a name,
+//!   with ` ON OWNER.NAME` behind it or without
+//! - `grant|GRANTEE|PRIVILEGE`, `grant role|GRANTEE|ROLE`: from here on this is granted too
+//! - `matches|ACTION|TABLES|USED`: whether some part of the policy meets a statement of the user A with
+//!   this action, which names these tables and used these system privileges
 //! - `row|KIND|SESSION|ENTRY|STATEMENT|MOMENT|USER|ACTION|SCHEMA|OBJECT|TEXT|USED|POLICIES|FGA|CODE`:
 //!   such a record as a row, the cells in brackets; an empty field is one that the record hasn't
 //!
@@ -13,28 +18,35 @@
 #![tactic(auto)]
 
 mod asking;
-mod fault;
+mod matching;
 mod reading;
 mod record;
+mod trial;
 mod writing;
 
-use au_entries::Enabled;
-use fault::Fault;
 use std::io;
+use trial::Trial;
+use trials_lines::Fault;
 
-fn main(rt: HostRuntime) -> io::Result<()> {
-    let mut enabled = Enabled::Off;
+fn tried(rt: HostRuntime, trial: &mut Trial) -> io::Result<()> {
     for line in rt.lines(rt.alloc()) {
         let line = line?;
         if line.is_empty() || line.starts_with('#') {
             println!(rt; "{line}")?;
             continue;
         }
-        match asking::answer(rt.alloc(), &mut enabled, line.as_str()) {
+        match asking::answer(rt.alloc(), trial, line.as_str()) {
             Ok(text) => println!(rt; "{line} = {text}")?,
             Err(Fault::Memory) => println!(rt; "{line}: out of memory")?,
             Err(Fault::NoCase) => println!(rt; "{line}: no such case")?,
         }
     }
     Ok(())
+}
+
+fn main(rt: HostRuntime) -> io::Result<()> {
+    match Trial::new(rt.alloc()) {
+        Ok(mut trial) => tried(rt, &mut trial),
+        Err(_) => println!(rt; "out of memory"),
+    }
 }

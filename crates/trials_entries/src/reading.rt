@@ -1,14 +1,9 @@
 //! The fields of a line.
 
-use crate::fault::Fault;
-use au_base::{Action, List, Name, Privilege, Text};
+use au_base::{Action, List, Name, Privilege, TableName, Text};
 use sql_ast::{AuditedUsers, Whenever};
 use std::alloc::Global;
-
-/// A name.
-pub fn name(alloc: Global, text: &str) -> Result<Name, Fault> {
-    Name::make(alloc, text.as_bytes())?.ok_or(Fault::NoCase)
-}
+use trials_lines::{Fault, name};
 
 /// Names with commas between them. The empty text lists none.
 pub fn names(alloc: Global, text: &str) -> Result<List<Name>, Fault> {
@@ -42,6 +37,46 @@ pub fn privileges(alloc: Global, text: &str) -> Result<List<Privilege>, Fault> {
 /// An action.
 pub fn action(text: &str) -> Result<Action, Fault> {
     Action::from_name(text.as_bytes()).ok_or(Fault::NoCase)
+}
+
+/// Actions with commas between them, each on a table where one is named. The empty text lists none.
+pub fn actions(alloc: Global, text: &str) -> Result<List<(Action, Option<TableName>)>, Fault> {
+    let mut listed = List::new(alloc);
+    if text.is_empty() {
+        return Ok(listed);
+    }
+    for part in text.split(',') {
+        listed.push(action_part(alloc, part)?)?;
+    }
+    Ok(listed)
+}
+
+fn action_part(alloc: Global, text: &str) -> Result<(Action, Option<TableName>), Fault> {
+    match text.split_once(" ON ") {
+        None => Ok((action(text)?, None)),
+        Some((named, on)) => Ok((action(named)?, Some(table(alloc, on)?))),
+    }
+}
+
+/// Tables with commas between them. The empty text lists none.
+pub fn tables(alloc: Global, text: &str) -> Result<List<TableName>, Fault> {
+    let mut listed = List::new(alloc);
+    if text.is_empty() {
+        return Ok(listed);
+    }
+    for part in text.split(',') {
+        listed.push(table(alloc, part)?)?;
+    }
+    Ok(listed)
+}
+
+// A table, by its owner and its name with a point between them.
+fn table(alloc: Global, text: &str) -> Result<TableName, Fault> {
+    let (owner, table) = text.split_once('.').ok_or(Fault::NoCase)?;
+    Ok(TableName {
+        owner: name(alloc, owner)?,
+        name: name(alloc, table)?,
+    })
 }
 
 /// The users of AUDIT.
@@ -79,11 +114,6 @@ pub fn whenever(text: &str) -> Result<Option<Whenever>, Fault> {
 
 /// A number.
 pub fn number(text: &str) -> Result<u32, Fault> {
-    text.parse().map_err(|_| Fault::NoCase)
-}
-
-/// A number of up to 20 digits.
-pub fn wide_number(text: &str) -> Result<u64, Fault> {
     text.parse().map_err(|_| Fault::NoCase)
 }
 

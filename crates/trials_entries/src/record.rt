@@ -1,12 +1,12 @@
 //! Records as rows.
 
 use crate::asking::field;
-use crate::fault::Fault;
 use crate::{reading, writing};
 use au_audit::as_row;
 use au_base::{Code, SessionNo, Stamp};
 use au_entries::{Record, RecordKind};
 use std::alloc::Global;
+use trials_lines::{Fault, name, number};
 
 /// The record of a line as a row.
 pub fn row(alloc: Global, line: &str) -> Result<String, Fault> {
@@ -21,11 +21,11 @@ pub fn row(alloc: Global, line: &str) -> Result<String, Fault> {
 fn record_of(alloc: Global, line: &str) -> Result<Record, Fault> {
     Ok(Record {
         kind: kind(field(line, 1))?,
-        session: SessionNo(reading::wide_number(field(line, 2))?),
+        session: SessionNo(number(field(line, 2))?),
         entry: reading::number(field(line, 3))?,
         statement: reading::number(field(line, 4))?,
-        stamp: Stamp(reading::wide_number(field(line, 5))?),
-        user: reading::name(alloc, field(line, 6))?,
+        stamp: Stamp(number(field(line, 5))?),
+        user: name(alloc, field(line, 6))?,
         action: reading::action(field(line, 7))?,
         schema: reading::optional_name(alloc, field(line, 8))?,
         object: reading::optional_name(alloc, field(line, 9))?,

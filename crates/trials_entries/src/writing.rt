@@ -1,14 +1,9 @@
 //! What calls answer, as texts.
 
-use crate::fault::Fault;
 use au_base::{Cell, Code, Name};
 use au_entries::{Enabled, Outcomes};
 use std::alloc::Global;
-
-/// `yes` or `no`.
-pub fn yes_or_no(alloc: Global, holds: bool) -> Result<String, Fault> {
-    Ok(String::from_str(alloc, if holds { "yes" } else { "no" })?)
-}
+use trials_lines::Fault;
 
 /// A code, by its number.
 pub fn code(alloc: Global, code: Code) -> Result<String, Fault> {
