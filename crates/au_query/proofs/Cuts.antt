@@ -60,11 +60,11 @@ module _ (suffice : (tree : Placed) (session : Session) (one other : List (List 
   stopped session trees tree among (view ∷ views) front unmet off =
       none_of (λ line. gathered (passes session trees) (front ++ line ∷ []) views)
       (λ line.
-        let n = length_push front line in
-        let here = ap (λ k. names_range k tree) (count_of front) ∙ off (length front) (omega arith) (omega arith) in
-        stopped session trees tree among views (front ++ line ∷ [])
-        (ap is_met (ap (λ rows. value_at rows session tree) (cells_behind front line) ∙ same_value session tree (cells_of front) line.1 here) ∙ unmet)
-        (λ range above below. off range (omega (arith, n, above)) (omega (arith, n, below))))
+      let n = length_push front line in
+      let here = ap (λ k. names_range k tree) (count_of front) ∙ off (length front) (omega arith) (omega arith) in
+      stopped session trees tree among views (front ++ line ∷ [])
+      (ap is_met (ap (λ rows. value_at rows session tree) (cells_behind front line) ∙ same_value session tree (cells_of front) line.1 here) ∙ unmet)
+      (λ range above below. off range (omega (arith, n, above)) (omega (arith, n, below))))
       view
 
   and_true : (a b : Bool) → IsTrue (a && b) → IsTrue a × IsTrue b
@@ -130,16 +130,18 @@ placed_and ranges parts = ap (placed ranges) (sym (expr.rolls-And parts)) ∙ fo
 
 -- the parts of an AND are those of the one condition
 pub parts_of : ((parts : List Placed) (session : Session) (rows : List (List Cell))
-        → is_met (value_at rows session (tree.And parts)) ≡ list_all (λ (part : Placed). is_met (value_at rows session part)) parts)
+    → is_met (value_at rows session (tree.And parts)) ≡ list_all (λ (part : Placed). is_met (value_at rows session part)) parts)
     → (ranges : List Range) (parts : List Expr) (condition : Expr) (found : List Placed) → condition ≡ expr.And parts → found ≡ map (placed ranges) parts
     → ArePartsOf (placed ranges condition ∷ []) found
-parts_of met ranges parts condition found is those =
-    (placed ranges condition, refl,
-    λ session rows.
-        ap (list_all (λ (tree : Placed). is_met (value_at rows session tree))) those
-        ∙ sym (met (map (placed ranges) parts) session rows)
-        ∙ ap (λ z. is_met (value_at rows session z)) (sym (placed_and ranges parts) ∙ ap (placed ranges) (sym is))
-        ∙ sym (and_itself (is_met (value_at rows session (placed ranges condition)))))
+parts_of met ranges parts condition found is those = (
+  placed ranges condition,
+  refl,
+  λ session rows.
+      ap (list_all (λ (tree : Placed). is_met (value_at rows session tree))) those
+      ∙ sym (met (map (placed ranges) parts) session rows)
+      ∙ ap (λ z. is_met (value_at rows session z)) (sym (placed_and ranges parts) ∙ ap (placed ranges) (sym is))
+      ∙ sym (and_itself (is_met (value_at rows session (placed ranges condition)))),
+)
 
 pub some_other : {X : Type 0} (P Q : X → Type 0) → ((x : X) → P x → Q x) → (found : Option X) → IfSome found P → IfSome found Q
 some_other P Q f None e = e

@@ -13,5 +13,5 @@ use Rattle.au_query.proofs.query.passing.Goals as goal
 pub returns : goal.returns
 returns c =
     let same = ap (λ tests. combos c.args.session.now (trees_in_tests tests) (views c.args.sources.now)) c.as_slice-2.ensures.value
-        ∙ same_combos c.args.session.now (trees_in_tests c.in_ok-tests.tests.items) c.args.plan.now.conditions.items (λ session rows. c.in_ok-tests.ensures.together session rows ∙ ap (λ z. list_all (λ (tree : Placed). is_met (value_at rows session tree)) z) c.as_slice.ensures.value) (views c.args.sources.now) in
+    ∙ same_combos c.args.session.now (trees_in_tests c.in_ok-tests.tests.items) c.args.plan.now.conditions.items (λ session rows. c.in_ok-tests.ensures.together session rows ∙ ap (λ z. list_all (λ (tree : Placed). is_met (value_at rows session tree)) z) c.as_slice.ensures.value) (views c.args.sources.now) in
     subst (λ combinations. MatchOption c.in_ok-found.found (REPLY_ROWS < length combinations) (λ kept. (kept.items ≡ combinations) × (length combinations ≤ REPLY_ROWS))) same c.in_ok-found.ensures
