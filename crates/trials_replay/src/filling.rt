@@ -54,21 +54,36 @@ fn list_many(
 fn list(alloc: Global, changes: &mut Vec<Change>, world: &World, line: &str) -> Result<(), Fault>
     requires { IsOrdered world.now.catalog }
 {
-    push_going(alloc, changes, world, change(alloc, line)?)
+    push_change(changes, change(alloc, line)?)?;
+    keep_going(alloc, changes, world)
 }
 
-fn push_going(
-    alloc: Global,
-    changes: &mut Vec<Change>,
-    world: &World,
-    change: Change,
-) -> Result<(), Fault>
+fn push_change(changes: &mut Vec<Change>, change: Change) -> Result<(), Fault> {
+    changes.push(change)?;
+    Ok(())
+}
+
+// Takes the last change away where it doesn't go on.
+fn keep_going(alloc: Global, changes: &mut Vec<Change>, world: &World) -> Result<(), Fault>
     requires { IsOrdered world.now.catalog }
 {
-    if goes_from(alloc, &sight(world), false, &change)? {
-        changes.push(change)?;
+    if !last_goes(alloc, changes.as_slice(), world)? {
+        drop_last(changes);
     }
     Ok(())
+}
+
+fn last_goes(alloc: Global, changes: &[Change], world: &World) -> Result<bool, Fault>
+    requires { IsOrdered world.now.catalog }
+{
+    match changes.last() {
+        Some(change) => goes_from(alloc, &sight(world), false, change),
+        None => Ok(false),
+    }
+}
+
+fn drop_last(changes: &mut Vec<Change>) {
+    let _last = changes.pop();
 }
 
 /// A draft of the grants in which the line's grant was made so many times.

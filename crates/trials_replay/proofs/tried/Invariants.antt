@@ -1,5 +1,5 @@
 use Rattle.au_catalog.specs.Staging.{IsOrdered}
-use Rattle.trials_replay.proofs.main.tried.Given as goal
+use Rattle.trials_replay.proofs.tried.Given as goal
 
 abbrev pub invariant-loop-line : goal.invariant-loop-line
 invariant-loop-line l = IsOrdered l.world.catalog
