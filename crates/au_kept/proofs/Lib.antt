@@ -18,6 +18,7 @@ mod Replaying
 mod Rowed
 mod RowsLaid
 mod Settled
+mod ShortFrames
 mod Shortness
 mod Shown
 mod Spelled

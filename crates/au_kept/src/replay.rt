@@ -8,7 +8,6 @@ ghost use Rattle.au_txn.specs.Logs.{changes_of};
 ghost use Rattle.rec_codec.specs.Frames.{IsSpellable};
 
 use crate::Keeping;
-use crate::laws::spellings_are_short;
 use crate::quick::is_of_rows;
 use au_base::Memory;
 use rec_codec::Frame;
@@ -33,7 +32,6 @@ impl Keeping {
         if is_of_rows(&frame) {
             return self.replay_rows(alloc, frame);
         }
-        spellings_are_short();
         if self.is_of_one(&frame) {
             return self.replay_one(alloc, frame);
         }
