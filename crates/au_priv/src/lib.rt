@@ -18,4 +18,4 @@ pub use au_grants::{
 };
 pub use decided::{Decided, Known};
 pub use deciding::decide;
-pub use laws::rights_have_one_answer;
+pub use laws::{decisions_keep_limits, rights_have_one_answer};
