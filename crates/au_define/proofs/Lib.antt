@@ -3,10 +3,17 @@ pub mod Broken
 pub mod Counting
 pub mod Going
 pub mod Granted
+pub mod GrantsGo
 pub mod Halving
 pub mod Members
+pub mod NewTable
 pub mod Places
+pub mod ReadTables
 pub mod Ruled
 pub mod Same
+pub mod Spelled
+pub mod Staying
+pub mod StaysWhole
+pub mod Told
 pub mod Unchanged
 pub mod Unique

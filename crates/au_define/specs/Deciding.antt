@@ -1,13 +1,17 @@
 -- What is decided of the statements on tables, users, roles and grants.
-use Rattle.std.specs.Prelude.{Bool, true, false}
+use Rattle.std.specs.Prelude.{◌≤◌, ⊤, Bool, true, false, length}
+use Rattle.std.specs.List.{AllByRecursion}
 use Rattle.au_define.specs.Granting.{DecidesGrant}
 use Rattle.au_define.specs.Roles.{DecidesCreateRole, DecidesDropRole}
 use Rattle.au_define.specs.Settings.{Setting}
 use Rattle.au_define.specs.Tables.{DecidesCreateTable, DecidesDropTable}
 use Rattle.au_define.specs.Users.{DecidesAlterUser, DecidesCreateUser, DecidesDropUser}
 use Rattle.au_entries.specs.declared.decision.Decision.{Decision}
+use Rattle.au_entries.specs.Replaying.{IsSizeOf}
 use Rattle.sql_ast.specs.declared.statement.Statement.{Statement}
 use Rattle.sql_ast.specs.declared.statement.Statement.TheVariants.{CreateTable, DropTable, CreateUser, AlterUser, DropUser, CreateRole, DropRole, Grant}
+use Rattle.sql_ast.specs.declared.table.Element.{Element}
+use Rattle.sql_ast.specs.declared.table.Element.TheVariants.{Column, PrimaryKey}
 
 -- the statement is one on tables, users, roles or grants
 abbrev pub is_definition : Statement → Bool
@@ -21,15 +25,15 @@ is_definition (DropRole role) = true
 is_definition (Grant grant) = true
 is_definition _ = false
 
--- the statement is GRANT or REVOKE
-abbrev pub is_grant : Statement → Bool
-is_grant (Grant grant) = true
-is_grant _ = false
+-- the size of a column is in its kind's range; a key that is written by itself names a column
+abbrev pub IsSized : Element → Type 0
+IsSized (Column column key) = IsSizeOf column.kind column.size
+IsSized (PrimaryKey names) = 1 ≤ length names
 
--- the statement is CREATE TABLE
-abbrev pub makes_table : Statement → Bool
-makes_table (CreateTable create) = true
-makes_table _ = false
+-- What CREATE TABLE defines has at least one column or key, each sized. The grammar has no other statements.
+abbrev pub IsWellFormed : Statement → Type 0
+IsWellFormed (CreateTable create) = (1 ≤ length create.elements) × AllByRecursion IsSized create.elements
+IsWellFormed _ = ⊤
 
 -- what is decided of it; of another statement nothing is
 abbrev pub Decides : Setting → Statement → Decision → Type 0

@@ -1,6 +1,7 @@
 pub mod Columns
 pub mod Deciding
 pub mod Granting
+pub mod Names
 pub mod Roles
 pub mod Rules
 pub mod Settings

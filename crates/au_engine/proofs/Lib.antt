@@ -1,15 +1,12 @@
 pub mod Abandoning
 pub mod Apart
-pub mod Beginnings
 pub mod Events
-pub mod Following
-pub mod Imaged
 pub mod Mapped
-pub mod Replays
+pub mod Opens
 pub mod Results
 pub mod Returns
 pub mod Rights
-pub mod Rising
+pub mod Settles
 pub mod Stages
 pub mod Stepping
 pub mod Texts

@@ -19,7 +19,7 @@ use Rattle.au_base.specs.declared.privilege.Privilege.{Privilege}
 use Rattle.au_base.specs.declared.privilege.Privilege.TheVariants.{AuditSystem}
 use Rattle.au_base.specs.declared.reply.Reply.{Reply}
 use Rattle.au_base.specs.Actions as actions
-use Rattle.au_base.specs.BuiltIn.{sys, dual, trail}
+use Rattle.au_base.specs.BuiltIn.{sys, dual, p_all, trail}
 use Rattle.au_base.specs.Naming.{IsName}
 use Rattle.au_entries.specs.declared.change.Change.{Change}
 use Rattle.au_entries.specs.declared.change.Change.TheVariants.{Enable}
@@ -30,13 +30,14 @@ use Rattle.au_entries.specs.declared.policy.Enabled.{Enabled}
 use Rattle.au_entries.specs.declared.policy.Enabled.TheVariants.{Off, By, Except}
 use Rattle.au_entries.specs.declared.policy.Outcomes.{Outcomes}
 use Rattle.au_entries.specs.declared.trail_record.Record.{Record}
-use Rattle.au_entries.specs.Changing.{put_in_order, with_enablement}
+use Rattle.au_entries.specs.Replaying.{AllGoOn, has_user, named_users}
 use Rattle.au_entries.specs.Demand.{demanded}
 use Rattle.au_entries.specs.Enabling.{audited, both_outcomes, noaudited, with_outcomes}
 use Rattle.au_priv.specs.declared.allowed.Allowed.{Allowed}
 use Rattle.au_priv.specs.declared.allowed.Allowed.TheVariants.{Owner, Object, System, Refused}
 use Rattle.au_grants.specs.declared.grants.Grants.{Grants}
 use Rattle.au_priv.specs.Allowing.{AllowedOnTrail}
+use Rattle.au_replay.specs.Reading.{conditions}
 use Rattle.rec_codec.specs.Changes.{IsChangeSpellable, IsEnabledSpellable, enabled, enablement}
 use Rattle.rec_parts.specs.Parts.{names, outcomes, privilege, privileges_in_order}
 use Rattle.rec_codec.specs.Records.{trail_record}
@@ -52,19 +53,15 @@ use Rattle.au_engine.specs.Deciding as g
 use Rattle.au_engine.specs.Deciding.{Decides, DecidesEnabling, DecidesSelect, Enables, MayAudit, by_right, done, refused}
 use Rattle.au_engine.specs.Forms.{action_of, object_of}
 use Rattle.au_engine.specs.Framing.{IsText}
-use Rattle.au_engine.specs.Image.{enablement_change}
-use Rattle.au_engine.specs.Lawful.{CanBeWritten, IsLawful, IsLawfulSession, IsLawfulState}
-use Rattle.au_engine.specs.Opening.{p_all}
+use Rattle.au_engine.specs.Lawful.{IsLawful, IsLawfulSession, IsLawfulState}
 use Rattle.sql_ast.specs.declared.statement.Statement.{Statement}
 use Rattle.sql_parse.specs.Statements.{IsStatement}
 use Rattle.au_engine.specs.Reading.{ReadsForm}
-use Rattle.au_engine.specs.Replaying.{AllGoOn, has_user, named_users}
-use Rattle.au_engine.specs.Staging.{ChangeEnablements, enabled_after}
 use Rattle.au_engine.specs.State.{State}
 use Rattle.au_engine.specs.Step.{Logged, LoggedStep, LocalStep, SessionStep, StatementStep, after_logon, after_refused_logon, after_statement, facts_of, is_crowded, is_idle, kept_after, last_after, logon_facts, logon_place, logon_records, next_number, no_session, nothing_logged, recorded, session_of, statement_logged, statement_place, with_counts}
 use Rattle.au_engine.proofs.Texts.{no_statement, tokens_some}
-use Rattle.au_engine.proofs.Apart.{all_joined, all_kept}
-use Rattle.au_engine.proofs.Stages.{decided_changes, staged}
+use Rattle.au_engine.proofs.Apart.{all_joined}
+use Rattle.au_engine.proofs.Stages.{ChangeEnablements, decided_changes}
 use Rattle.au_engine.proofs.Written.{CanBeRecorded, IsObject, audsys_name, dual_name, name_written, p_all_name, records_written, sys_name, trail_name}
 
 -- a text that is some form has a byte at least
@@ -177,14 +174,14 @@ decided_logged grants policies standing user AuditAll decision d = enabling_logg
 decided_logged grants policies standing user NoauditAll decision d = enabling_logged grants policies standing user noaudited decision (record { made = noaudited_made; refused = noaudited_refused }) d
 
 -- the changes of a decision go on from what it was decided by
-right_goes : (kept : Kept) (answer : Allowed) → AllGoOn false kept (by_right answer).changes
+right_goes : (kept : Kept) (answer : Allowed) → AllGoOn conditions false kept (by_right answer).changes
 right_goes kept Owner = tt
 right_goes kept Object = tt
 right_goes kept (System privilege) = tt
 right_goes kept (Refused code) = tt
 
-at_goes : (kept : Kept) (a b : Decision) → a ≡ b → AllGoOn false kept b.changes → AllGoOn false kept a.changes
-at_goes kept a b is h = subst (λ (d : Decision). AllGoOn false kept d.changes) (sym is) h
+at_goes : (kept : Kept) (a b : Decision) → a ≡ b → AllGoOn conditions false kept b.changes → AllGoOn conditions false kept a.changes
+at_goes kept a b is h = subst (λ (d : Decision). AllGoOn conditions false kept d.changes) (sym is) h
 
 audited_users : (standing next : Enabled) → audited standing ≡ Ok next → named_users next ≡ []
 audited_users Off next is = let e : next ≡ Except [] both_outcomes = cc in ap named_users e
@@ -197,18 +194,18 @@ noaudited_users (By users) next is = absurd (let e : Err NOT_ENABLED_SO ≡ Ok n
 noaudited_users (Except users o) next is = let e : next ≡ Off = cc in ap named_users e
 
 enables_goes : (kept : Kept) (makes : Enabled → Result Enabled Code) (used : List Privilege) (decision : Decision) → ((standing next : Enabled) → makes standing ≡ Ok next → named_users next ≡ [])
-    → Enables kept.policies kept.enabled p_all makes used decision → AllGoOn false kept decision.changes
+    → Enables kept.policies kept.enabled p_all makes used decision → AllGoOn conditions false kept decision.changes
 enables_goes kept makes used decision users (g.no_policy absent is) = at_goes kept decision _ is tt
 enables_goes kept makes used decision users (g.wrong_mode present made is) = at_goes kept decision _ is tt
 enables_goes kept makes used decision users (g.same present made is) = at_goes kept decision _ is tt
 enables_goes kept makes used decision users (g.changed present made differs is) = at_goes kept decision _ is ((present, ap (list_all (has_user kept)) (users _ _ made)), tt)
 
 enabling_goes : (kept : Kept) (user : List ℕ) (makes : Enabled → Result Enabled Code) (decision : Decision) → ((standing next : Enabled) → makes standing ≡ Ok next → named_users next ≡ [])
-    → DecidesEnabling kept.grants kept.policies kept.enabled user p_all makes decision → AllGoOn false kept decision.changes
+    → DecidesEnabling kept.grants kept.policies kept.enabled user p_all makes decision → AllGoOn conditions false kept decision.changes
 enabling_goes kept user makes decision users (inl (may, is)) = at_goes kept decision _ is tt
 enabling_goes kept user makes decision users (inr (used, may, enables)) = enables_goes kept makes used decision users enables
 
-decided_goes : (kept : Kept) (user : List ℕ) (form : BuiltForm) (decision : Decision) → Decides kept.grants kept.policies kept.enabled user form decision → AllGoOn false kept decision.changes
+decided_goes : (kept : Kept) (user : List ℕ) (form : BuiltForm) (decision : Decision) → Decides kept.grants kept.policies kept.enabled user form decision → AllGoOn conditions false kept decision.changes
 decided_goes kept user (SelectNumber number) decision (answer, allowed, is) = at_goes kept decision (by_right answer) is (right_goes kept answer)
 decided_goes kept user CountTrail decision (answer, allowed, is) = at_goes kept decision (by_right answer) is (right_goes kept answer)
 decided_goes kept user AuditAll decision d = enabling_goes kept user audited decision audited_users d
@@ -264,52 +261,15 @@ few_naming facts place (policy ∷ policies) = omega arith
 few_records : (kept : Kept) (facts : Facts) (place : Place) → length (records_of kept.grants kept.policies kept.enabled facts place) ≤ 1
 few_records kept facts place = few_naming facts place (demanded holds_always kept.grants kept.enabled kept.policies facts)
 
--- what is kept stays lawful
-put_written : (order : List ℕ × Enabled → Ordering) (entry : List ℕ × Enabled) (entries : List (List ℕ × Enabled)) → IsChangeSpellable (enablement_change entry)
-    → CanBeWritten enablement_change entries → CanBeWritten enablement_change (put_in_order order entry entries)
-put_written order entry entries here all =
-    let P : List ℕ × Enabled → Type 0 = λ x. IsChangeSpellable (enablement_change x) in
-    all_joined P _ _ (all_kept P _ entries all) (here, all_kept P _ entries all)
+-- the last stamp after a step is a moment
+last_moment_at : (idle : Bool) (last : Stamp) (stamp : ℕ) → last.0 ≤ LAST_MOMENT → stamp ≤ LAST_MOMENT → (if idle then last else record { 0 = stamp }).0 ≤ LAST_MOMENT
+last_moment_at true last stamp before moment = before
+last_moment_at false last stamp before moment = moment
 
-pub with_enablement_written : (policy : List ℕ) (e : Enabled) (entries : List (List ℕ × Enabled)) → IsChangeSpellable (Enable policy e)
-    → CanBeWritten enablement_change entries → CanBeWritten enablement_change (with_enablement policy e entries)
-with_enablement_written policy Off entries here all = all_kept (λ (x : List ℕ × Enabled). IsChangeSpellable (enablement_change x)) _ entries all
-with_enablement_written policy (By []) entries here all = all_kept (λ (x : List ℕ × Enabled). IsChangeSpellable (enablement_change x)) _ entries all
-with_enablement_written policy (By (user ∷ users)) entries here all = put_written _ (policy, By (user ∷ users)) entries here all
-with_enablement_written policy (Except users o) entries here all = put_written _ (policy, Except users o) entries here all
+pub last_moment : (kept : Kept) (stamp : ℕ) (logged : Logged) → kept.last.0 ≤ LAST_MOMENT → stamp ≤ LAST_MOMENT → (last_after kept.last stamp logged.changes logged.records).0 ≤ LAST_MOMENT
+last_moment kept stamp logged before moment = last_moment_at (is_idle logged.changes logged.records) kept.last stamp before moment
 
-enabled_written : (changes : List Change) (entries : List (List ℕ × Enabled)) → ChangeEnablements changes → AllByRecursion IsChangeSpellable changes
-    → CanBeWritten enablement_change entries → CanBeWritten enablement_change (enabled_after changes entries)
-enabled_written [] entries only spelled all = all
-enabled_written (Enable policy e ∷ changes) entries only spelled all =
-    enabled_written changes (with_enablement policy e entries) only.1 spelled.1 (with_enablement_written policy e entries spelled.0 all)
-enabled_written (_ ∷ changes) entries only spelled all = absurd only.0
-
-last_lawful_at : (idle : Bool) (last : Stamp) (stamp : ℕ) → last.0 ≤ LAST_MOMENT → stamp ≤ LAST_MOMENT → (if idle then last else record { 0 = stamp }).0 ≤ LAST_MOMENT
-last_lawful_at true last stamp before moment = before
-last_lawful_at false last stamp before moment = moment
-
-pub kept_after_lawful : (kept : Kept) (stamp : ℕ) (changes : List Change) (records : List Record) → IsLawful kept → stamp ≤ LAST_MOMENT → ChangeEnablements changes
-    → AllByRecursion IsChangeSpellable changes → AllByRecursion trail_record.IsSpellable records → IsLawful (kept_after kept stamp changes records)
-kept_after_lawful kept stamp changes records lawful moment only spelled recorded =
-    let next : Kept → Kept = λ k. record k { trail = kept.trail ++ records; last = last_after kept.last stamp changes records } in
-    subst (λ (k : Kept). IsLawful (next k)) (sym (staged changes kept only)) (record {
-      last = last_lawful_at (is_idle changes records) kept.last stamp lawful.last moment;
-      instance = lawful.instance;
-      users = lawful.users;
-      roles = lawful.roles;
-      system = lawful.system;
-      role_grants = lawful.role_grants;
-      policies = lawful.policies;
-      enabled = enabled_written changes kept.enabled only spelled lawful.enabled;
-      trail = all_joined trail_record.IsSpellable kept.trail records lawful.trail recorded;
-      grants = lawful.grants;
-      plain = lawful.plain;
-      ordered = lawful.ordered;
-      few = lawful.few;
-      unreserved = lawful.unreserved;
-    })
-
+-- what is kept after a step that leaves nothing
 pub kept_after_idle : (kept : Kept) (stamp : ℕ) → kept_after kept stamp [] [] ≡ kept
 kept_after_idle kept stamp = ap (λ (t : List Record). record kept { trail = t }) (append-nil kept.trail)
 
@@ -326,18 +286,18 @@ counts_lawful client statements entries (session ∷ sessions) all =
 
 -- what is so of a step from a lawful state
 pub record IsLawfulStep (m : State) (stamp : ℕ) (logged : Logged) (n : State) : Type 0 where
-  pub next : IsLawfulState n
+  pub sessions : AllByRecursion IsLawfulSession n.sessions
   pub changes : AllByRecursion IsChangeSpellable logged.changes
   pub few_changes : length logged.changes ≤ 1
   pub records : AllByRecursion trail_record.IsSpellable logged.records
   pub few_records : length logged.records ≤ 1
   pub only : ChangeEnablements logged.changes
-  pub goes : AllGoOn false m.kept logged.changes
+  pub goes : AllGoOn conditions false m.kept logged.changes
   pub kept : n.kept ≡ kept_after m.kept stamp logged.changes logged.records
 
 idle_step : (m : State) (stamp : ℕ) → IsLawfulState m → IsLawfulStep m stamp nothing_logged m
 idle_step m stamp lawful = record {
-  next = lawful;
+  sessions = lawful.sessions;
   changes = tt;
   few_changes = omega arith;
   records = tt;
@@ -361,7 +321,7 @@ refused_logon_lawful : (m : State) (user : List ℕ) (code : Code) (stamp : ℕ)
 refused_logon_lawful m user code stamp lawful named small moment =
     let written = logon_records_written m.kept user code no_session stamp lawful.kept named small (omega arith) moment in
     record {
-      next = record { kept = kept_after_lawful m.kept stamp [] _ lawful.kept moment tt tt written; sessions = lawful.sessions };
+      sessions = lawful.sessions;
       changes = tt;
       few_changes = omega arith;
       records = written;
@@ -372,7 +332,7 @@ refused_logon_lawful m user code stamp lawful named small moment =
     }
 
 number_small : (m : State) → IsLawful m.kept → m.drawn < INSTANCE_SESSIONS → (next_number m).0 ≤ 999_999_999_999_999_999
-number_small m lawful drawn = omega (arith, lawful.instance, drawn)
+number_small m lawful drawn = omega (arith, lawful.lawful.instance, drawn)
 
 logon_lawful : (m : State) (client : ClientNo) (user : List ℕ) (stamp : ℕ) → IsLawfulState m → IsName user → m.drawn < INSTANCE_SESSIONS → stamp ≤ LAST_MOMENT
     → IsLawfulStep m stamp (recorded (logon_records m.kept user DONE (next_number m) stamp)) (after_logon m client user stamp)
@@ -380,10 +340,7 @@ logon_lawful m client user stamp lawful named drawn moment =
     let number = number_small m lawful.kept drawn in
     let written = logon_records_written m.kept user DONE (next_number m) stamp lawful.kept named (omega arith) number moment in
     record {
-      next = record {
-        kept = kept_after_lawful m.kept stamp [] _ lawful.kept moment tt tt written;
-        sessions = all_joined IsLawfulSession m.sessions _ lawful.sessions (record { user = named; number = number }, tt);
-      };
+      sessions = all_joined IsLawfulSession m.sessions _ lawful.sessions (record { user = named; number = number }, tt);
       changes = tt;
       few_changes = omega arith;
       records = written;
@@ -418,10 +375,7 @@ statement_lawful m session form text stamp reply logged n step reads utf8 own la
     let only = decided_changes m.kept.grants m.kept.policies m.kept.enabled session.user form step.decision step.decides in
     let written = records_written m.kept (facts_of session form step.decision) (statement_place session stamp form text) lawful.kept (statement_recorded session stamp form text step.decision own moment reads utf8 can) in
     at_outcome m stamp logged (statement_logged m session stamp form text step.decision) n (after_statement m session stamp form text step.decision) step.logs step.next (record {
-      next = record {
-        kept = kept_after_lawful m.kept stamp step.decision.changes _ lawful.kept moment only can.changes written;
-        sessions = counts_lawful session.client _ _ m.sessions lawful.sessions;
-      };
+      sessions = counts_lawful session.client _ _ m.sessions lawful.sessions;
       changes = can.changes;
       few_changes = can.few;
       records = written;

@@ -1,5 +1,5 @@
 -- Which records can be written.
-use Rattle.std.proofs.Common.{◌≡◌, ◌≢◌, ℕ, ◌≤◌, ◌<◌, ◌^◌, Bool, true, false, List, [], ◌∷◌, length, get_or, refl, arith}
+use Rattle.std.proofs.Common.{◌≡◌, ◌≢◌, ℕ, ◌≤◌, ◌<◌, ◌^◌, Bool, true, false, List, [], ◌∷◌, ◌++◌, map, length, get_or, refl, arith}
 use Rattle.std.specs.Prelude.{Option, Some, None, IsAscii, IsUtf8, nat_lt, if◌then◌else◌}
 use Rattle.std.specs.List.{AllByRecursion, filter, list_all}
 use Rattle.std.proofs.lemmas.Bool.{le-leb, and_from}
@@ -13,12 +13,14 @@ use Rattle.au_base.specs.declared.limits.TheConstants.{CATALOG_OBJECTS}
 use Rattle.au_base.specs.declared.numbers.Stamp.{Stamp}
 use Rattle.au_base.specs.declared.numbers.SessionNo.{SessionNo}
 use Rattle.au_base.specs.Actions as actions
-use Rattle.au_base.specs.BuiltIn.{sys, dual, trail}
+use Rattle.au_base.specs.BuiltIn.{sys, dual, ora_mandatory, p_all, trail}
 use Rattle.au_base.specs.Naming.{IsName}
+use Rattle.au_entries.specs.declared.change.Change.{Change}
 use Rattle.au_entries.specs.declared.facts.Facts.{Facts}
 use Rattle.au_entries.specs.declared.kept.Kept.{Kept}
 use Rattle.au_entries.specs.declared.policy.AuditPolicy.{AuditPolicy}
 use Rattle.au_entries.specs.Demand.{demanded, demands, is_mandatory, placed}
+use Rattle.au_entries.specs.Imaging.{image_changes, object_change, policy_change, role_change, role_grant_change, row_change, system_change, table_change, user_change}
 use Rattle.rec_codec.specs.Changes.{IsChangeSpellable, policy}
 use Rattle.rec_parts.specs.Parts.{name, text, stamp, session, action, return_code, names, privileges_in_order, kind}
 use Rattle.rec_codec.specs.Records as records
@@ -26,10 +28,8 @@ use Rattle.rec_codec.specs.Records.{done_action, statement_text, origin, deed, g
 use Rattle.rec_parts.specs.Spelling.{IsOptionSpellable}
 use Rattle.au_engine.specs.declared.place.Place.{Place}
 use Rattle.au_engine.specs.Auditing.{holds_always, object_name, record_of, records_naming, records_of, schema_of}
-use Rattle.au_engine.specs.Image.{policy_change}
-use Rattle.au_engine.specs.Lawful.{IsLawful, ora_mandatory, policy_names}
-use Rattle.au_engine.specs.Opening.{p_all}
-use Rattle.au_engine.proofs.Apart.{AreApart, all_kept, all_mapped, all_placed, all_unmapped, all_weaker, apart_in_order, kept_apart, length_kept, length_placed, no_repeats, placed_apart}
+use Rattle.au_engine.specs.Lawful.{IsLawful}
+use Rattle.au_engine.proofs.Apart.{AreApart, all_behind, all_front, all_kept, all_mapped, all_placed, all_unmapped, all_weaker, apart_in_order, kept_apart, length_kept, length_placed, no_repeats, placed_apart}
 
 -- a byte of ASCII
 abbrev pub is_ascii : ℕ → Bool
@@ -152,6 +152,24 @@ policy_name : (p : AuditPolicy) → IsChangeSpellable (policy_change p) → IsNa
 unfolding policy name
 policy_name p h = h.0.1
 
+abbrev policy_names : List AuditPolicy → List (List ℕ)
+policy_names policies = map (λ policy. policy.name) policies
+
+behind : {X : Type 0} (f : X → Change) (xs : List X) (rest : List Change) → AllByRecursion IsChangeSpellable (map f xs ++ rest) → AllByRecursion IsChangeSpellable rest
+behind f xs rest all = all_behind IsChangeSpellable (map f xs) rest all
+
+-- each policy of what is kept can be written, where all of it can
+policies_written : (kept : Kept) → AllByRecursion IsChangeSpellable (image_changes kept) → AllByRecursion (λ (p : AuditPolicy). IsChangeSpellable (policy_change p)) kept.policies
+policies_written kept all =
+    let a = behind user_change kept.users _ all in
+    let b = behind role_change kept.roles _ a in
+    let c = behind system_change kept.grants.system _ b in
+    let d = behind role_grant_change kept.grants.role _ c in
+    let e = behind table_change kept.tables _ d in
+    let f = behind row_change kept.rows _ e in
+    let g = behind object_change kept.grants.object _ f in
+    all_unmapped IsChangeSpellable policy_change kept.policies (all_front IsChangeSpellable (map policy_change kept.policies) _ g)
+
 length_names : (policies : List AuditPolicy) → length (policy_names policies) ≡ length policies
 length_names [] = refl
 length_names (p ∷ policies) = let more = length_names policies in omega arith
@@ -176,9 +194,9 @@ naming_written facts place (policy ∷ policies) can are = (record_written facts
 -- the policies that demand a record of something, among lawful ones
 some_demanding : (kept : Kept) (test : AuditPolicy → Bool) → IsLawful kept → AreDemanding (policy_names (filter test kept.policies))
 some_demanding kept test lawful = record {
-  each = all_mapped IsName (λ (p : AuditPolicy). p.name) (filter test kept.policies) (all_kept (λ (p : AuditPolicy). IsName p.name) test kept.policies (all_weaker (λ (p : AuditPolicy). IsChangeSpellable (policy_change p)) (λ (p : AuditPolicy). IsName p.name) policy_name kept.policies lawful.policies));
-  apart = kept_apart (λ (p : AuditPolicy). p.name) test kept.policies (apart_in_order (policy_names kept.policies) lawful.ordered);
-  few = few_named kept.policies test lawful.few;
+  each = all_mapped IsName (λ (p : AuditPolicy). p.name) (filter test kept.policies) (all_kept (λ (p : AuditPolicy). IsName p.name) test kept.policies (all_weaker (λ (p : AuditPolicy). IsChangeSpellable (policy_change p)) (λ (p : AuditPolicy). IsName p.name) policy_name kept.policies (policies_written kept lawful.spelled.entries)));
+  apart = kept_apart (λ (p : AuditPolicy). p.name) test kept.policies (apart_in_order (policy_names kept.policies) lawful.lawful.ordered.policies);
+  few = few_named kept.policies test lawful.whole.few.policies;
 }
 
 all_demanded_at : (kept : Kept) (test : AuditPolicy → Bool) (mandatory : Bool) → IsLawful kept
@@ -188,11 +206,11 @@ all_demanded_at kept test true lawful =
     let some = some_demanding kept test lawful in
     let names = policy_names (filter test kept.policies) in
     let new = all_mapped (λ (n : List ℕ). n ≢ ora_mandatory) (λ (p : AuditPolicy). p.name) (filter test kept.policies)
-    (all_kept (λ (p : AuditPolicy). p.name ≢ ora_mandatory) test kept.policies (all_unmapped (λ (n : List ℕ). n ≢ ora_mandatory) (λ (p : AuditPolicy). p.name) kept.policies lawful.unreserved)) in
+    (all_kept (λ (p : AuditPolicy). p.name ≢ ora_mandatory) test kept.policies lawful.lawful.ordered.unreserved) in
     record {
       each = all_placed IsName ora_mandatory names mandatory_name some.each;
       apart = placed_apart ora_mandatory names some.apart new;
-      few = few_placed kept.policies test lawful.few;
+      few = few_placed kept.policies test lawful.whole.few.policies;
     }
 
 -- what lawful policies demand of such an event can be written

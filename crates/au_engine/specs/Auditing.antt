@@ -9,7 +9,8 @@ use Rattle.au_entries.specs.Demand.{demanded}
 use Rattle.au_grants.specs.declared.grants.Grants.{Grants}
 use Rattle.au_engine.specs.declared.place.Place.{Place}
 
--- No statement makes a policy with a condition yet. Until conditions are evaluated, such a policy demands nothing.
+-- No statement that is built makes a policy with a condition. One that a journal holds is kept and written back, and demands
+-- nothing until conditions are evaluated.
 abbrev pub holds_always : AuditPolicy → Bool
 holds_always policy = is_none policy.when
 

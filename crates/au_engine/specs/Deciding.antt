@@ -10,7 +10,7 @@ use Rattle.au_base.specs.Codes.{DONE, NO_SUCH_POLICY, PRIVILEGE_MISSING}
 use Rattle.au_base.specs.declared.privilege.Privilege.{Privilege}
 use Rattle.au_base.specs.declared.privilege.Privilege.TheVariants.{AuditSystem}
 use Rattle.au_base.specs.declared.table.TableName.{TableName}
-use Rattle.au_base.specs.BuiltIn.{audit_admin, dual, trail}
+use Rattle.au_base.specs.BuiltIn.{audit_admin, dual, p_all, trail}
 use Rattle.au_entries.specs.declared.change.Change.{Change}
 use Rattle.au_entries.specs.declared.change.Change.TheVariants.{Enable}
 use Rattle.au_entries.specs.declared.policy.AuditPolicy.{AuditPolicy}
@@ -29,7 +29,6 @@ use Rattle.au_engine.specs.declared.deciding.Verb.{Verb}
 use Rattle.au_engine.specs.declared.deciding.Verb.TheVariants.{Audit, Noaudit}
 use Rattle.au_engine.specs.declared.form.BuiltForm.{BuiltForm}
 use Rattle.au_engine.specs.declared.form.BuiltForm.TheVariants.{SelectNumber, CountTrail, AuditAll, NoauditAll}
-use Rattle.au_engine.specs.Opening.{p_all}
 
 -- refused with this code, after these privileges were used
 abbrev pub refused : Code → List Privilege → Decision

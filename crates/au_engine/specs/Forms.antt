@@ -3,10 +3,9 @@ use Rattle.std.specs.Prelude.{ℕ, List, [], ◌∷◌, Option, Some, None}
 use Rattle.au_base.specs.declared.action.Action.{Action}
 use Rattle.au_base.specs.declared.action.Action.TheVariants as action
 use Rattle.au_base.specs.declared.table.TableName.{TableName}
-use Rattle.au_base.specs.BuiltIn.{dual, trail}
+use Rattle.au_base.specs.BuiltIn.{dual, p_all, trail}
 use Rattle.au_engine.specs.declared.form.BuiltForm.{BuiltForm}
 use Rattle.au_engine.specs.declared.form.BuiltForm.TheVariants.{SelectNumber, CountTrail, AuditAll, NoauditAll}
-use Rattle.au_engine.specs.Opening.{p_all}
 
 -- the action as which it is audited
 abbrev pub action_of : BuiltForm → Action

@@ -4,7 +4,6 @@ use Rattle.au_base.specs.declared.ask.Ask.{Ask}
 use Rattle.au_base.specs.declared.ask.Ask.TheVariants.{Sql}
 use Rattle.au_base.specs.declared.numbers.ClientNo.{ClientNo}
 use Rattle.au_base.specs.declared.reply.Reply.{Reply}
-use Rattle.au_entries.specs.declared.change.Change.{Change}
 use Rattle.au_entries.specs.declared.trail_record.Record.{Record}
 use Rattle.rec_codec.specs.declared.frame.Frame.{Frame}
 use Rattle.rec_codec.specs.declared.frame.Frame.TheVariants.{Image, Event, Purge}
@@ -27,12 +26,7 @@ abbrev pub IsText : Ask → Type 0
 IsText (Sql text) = IsUtf8 text
 IsText _ = ⊤
 
--- the changes and the records of a frame
-abbrev pub changes_in : Frame → List Change
-changes_in (Image last changes records) = changes
-changes_in (Event stamp changes records) = changes
-changes_in (Purge stamp before changes records) = changes
-
+-- the records of a frame
 abbrev pub records_in : Frame → List Record
 records_in (Image last changes records) = records
 records_in (Event stamp changes records) = records

@@ -2,17 +2,13 @@ pub mod Abandoning
 pub mod Answering
 pub mod Auditing
 pub mod Deciding
-pub mod Drafting
 pub mod Forms
 pub mod Framing
-pub mod Image
 pub mod Lawful
-pub mod Opening
 pub mod Prepared
 pub mod Reading
 pub mod Replaying
 pub mod Returning
 pub mod Runs
-pub mod Staging
 pub mod State
 pub mod Step

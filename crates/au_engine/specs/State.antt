@@ -1,14 +1,10 @@
 -- The whole state, and the stamps of its events.
 use Rattle.std.specs.Prelude.{◌≡◌, ℕ, ◌+◌, min, max, Bool, List, []}
 use Rattle.au_base.specs.Limits.{LAST_MOMENT}
-use Rattle.au_base.specs.declared.cell.Cell.{Cell}
-use Rattle.au_base.specs.declared.numbers.RowNo.{RowNo}
 use Rattle.au_base.specs.declared.numbers.Stamp.{Stamp}
-use Rattle.au_base.specs.declared.table.TableName.{TableName}
-use Rattle.au_catalog.specs.declared.catalog.Catalog.{Catalog}
 use Rattle.au_entries.specs.declared.kept.Kept.{Kept}
-use Rattle.au_entries.specs.declared.trail_record.Record.{Record}
-use Rattle.au_grants.specs.declared.grants.Grants.{Grants}
+use Rattle.au_kept.specs.Keeping.{Contents}
+use Rattle.au_txn.specs.Logs.{Changes}
 use Rattle.au_engine.specs.declared.session.Session.{Session}
 
 -- what outlives the instance, the sessions, how many sessions the instance has drawn, and the results that are kept of
@@ -19,31 +15,18 @@ pub record State : Type 0 where
   pub drawn : ℕ
   pub results : List (List ℕ × Bool)
 
--- a committed row: its table, its number and its cells
-abbrev pub Row : Type 0
-Row = TableName × RowNo × List Cell
-
--- what is kept, from its parts
-abbrev pub kept_of : Catalog → Grants → List Row → List Record → Stamp → ℕ → Kept
-kept_of catalog grants rows trail last instance = record {
-  users = catalog.users;
-  roles = catalog.roles;
-  grants = grants;
-  tables = catalog.tables;
-  rows = rows;
-  policies = catalog.policies;
-  enabled = catalog.enabled;
-  fga = catalog.fga;
-  trail = trail;
-  archive = catalog.archive;
-  last = last;
-  instance = instance;
-}
-
--- a state, and for how many more records and sessions its engine has room
+-- a state; each client's changes of rows that aren't committed; and for how many more rows and tables, records and
+-- sessions its engine has room
 pub record Reserved : Type 0 where
   pub state : State
+  pub logs : List Changes
+  pub spare : ℕ
   pub room : ℕ
+  pub seats : ℕ
+
+-- what is kept of it, as its keeping sees it
+abbrev pub contents_of : Reserved → Contents
+contents_of engine = record { kept = engine.state.kept; logs = engine.logs; spare = engine.spare; room = engine.room }
 
 -- a reading of the clock past the last moment of the year 9999 counts as that moment
 abbrev pub moment_of : ℕ → ℕ

@@ -16,8 +16,7 @@ use Rattle.au_entries.specs.declared.facts.Facts.{Facts}
 use Rattle.au_entries.specs.declared.kept.Kept.{Kept}
 use Rattle.au_entries.specs.declared.trail_record.Record.{Record}
 use Rattle.au_entries.specs.Changing.{changed_all}
-use Rattle.sql_ast.specs.declared.expression.Expr.{Expr}
-use Rattle.sql_ast.specs.declared.expression.Expr.TheVariants.{Null}
+use Rattle.au_replay.specs.Reading.{conditions}
 use Rattle.au_engine.specs.declared.decision.Decision.{Decision}
 use Rattle.au_engine.specs.declared.form.BuiltForm.{BuiltForm}
 use Rattle.au_engine.specs.declared.place.Place.{Place}
@@ -54,10 +53,6 @@ abbrev pub with_counts : ClientNo → ℕ → ℕ → Session → Session
 with_counts client statements entries session =
     if session.client.0 == client.0 then record session { statements = statements; entries = entries } else session
 
--- conditions are part of no change that is built
-abbrev pub unread_condition : List ℕ → Expr
-unread_condition text = Null
-
 -- nothing was changed and nothing recorded
 abbrev pub is_idle : List Change → List Record → Bool
 is_idle [] [] = true
@@ -70,7 +65,7 @@ last_after last stamp changes records = if is_idle changes records then last els
 -- what is kept after the changes, with the records at the trail's end
 abbrev pub kept_after : Kept → ℕ → List Change → List Record → Kept
 kept_after kept stamp changes records =
-    let next = changed_all unread_condition changes kept in
+    let next = changed_all conditions.tree changes kept in
     record next { trail = kept.trail ++ records; last = last_after kept.last stamp changes records }
 
 -- what the policies are asked about a statement

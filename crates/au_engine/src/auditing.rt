@@ -1,5 +1,5 @@
 //! What an event leaves in the trail.
-ghost use Rattle.std.specs.Prelude.{◌≡◌, ◌++◌, IfOk, OnOk, not, option_to_list};
+ghost use Rattle.std.specs.Prelude.{◌≡◌, ◌≤◌, ◌++◌, IfOk, OnOk, length, not, option_to_list};
 ghost use Rattle.std.specs.List.{filter};
 ghost use Rattle.au_entries.specs.Demand.{comes_before, demanded, demanding, demands, is_mandatory, placed};
 ghost use Rattle.au_engine.specs.Auditing.{holds_always, record_of, records_naming, records_of};
@@ -25,6 +25,35 @@ pub fn record_for(
     let policies = catalog.policies.as_slice();
     let names = demanded(alloc, grants, policies, catalog.enabled.as_slice(), &facts)?;
     Ok(record_naming(facts, place, names))
+}
+
+/// The same, as a list: it has one record at most.
+pub(crate) fn records_for(
+    alloc: Global,
+    catalog: &Catalog,
+    grants: &Grants,
+    facts: Facts,
+    place: Place,
+) -> Result<List<Record>, Memory>
+    ensures records { IfOk result (λ records. records ≡ records_of grants.now catalog.now.policies catalog.now.enabled facts place) }
+    ensures few { IfOk result (λ records. length records ≤ 1) }
+{
+    let entry = record_for(alloc, catalog, grants, facts, place)?;
+    listed(alloc, entry)
+}
+
+fn listed(alloc: Global, entry: Option<Record>) -> Result<List<Record>, Memory>
+    ensures records { IfOk result (λ records. records ≡ option_to_list entry) }
+    ensures few { IfOk result (λ records. length records ≤ 1) }
+{
+    let mut records = List::new(alloc);
+    match entry {
+        None => Ok(records),
+        Some(entry) => {
+            records.push(entry)?;
+            Ok(records)
+        }
+    }
 }
 
 // The record that names these policies, where there are some.

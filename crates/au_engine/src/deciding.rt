@@ -1,10 +1,10 @@
 //! Deciding statements.
 ghost use Rattle.std.specs.Prelude.{◌≡◌, ◌≢◌, ◌∷◌, [], Ok, Err, IfOk, MatchOption};
+ghost use Rattle.au_base.specs.BuiltIn.{p_all};
 ghost use Rattle.au_base.specs.Naming.{IsNameLong};
 ghost use Rattle.au_entries.specs.Demand.{enablement_of};
 ghost use Rattle.au_entries.specs.Enabling.{audited, both_outcomes, noaudited};
 ghost use Rattle.au_engine.specs.Deciding.{Decides, DecidesEnabling, DecidesSelect, Enables, IsMade, MayAudit, MayNotAudit, by_right, done, has_policy, made_by, refused};
-ghost use Rattle.au_engine.specs.Opening.{p_all};
 
 use crate::decision::Decision;
 use crate::enablement::entry_of;

@@ -1,124 +1,106 @@
 //! The engine: the whole state, and its steps.
-ghost use Rattle.std.specs.Prelude.{◌≡◌, ◌↔◌, ◌≤◌, ◌<◌, [], codes, IfOk, IsTrue, MatchOption, OnErr, OnOk, if◌then◌else◌, is_some, option_to_list};
-ghost use Rattle.au_base.specs.Limits.{GRANTS, INSTANCES, INSTANCE_SESSIONS};
-ghost use Rattle.au_entries.specs.Changing.{changed_all};
-ghost use Rattle.rec_codec.specs.Frames.{IsSpellable, body, framed};
-ghost use Rattle.au_grants.specs.Rights.{grant_count};
+ghost use Rattle.std.specs.Prelude.{◌≡◌, ◌↔◌, ◌≤◌, ◌<◌, [], IfOk, IsTrue, OnErr, OnOk, if◌then◌else◌, is_some, length};
+ghost use Rattle.au_base.specs.Limits.{INSTANCES, INSTANCE_SESSIONS};
+ghost use Rattle.au_entries.specs.Imaging.{nothing};
+ghost use Rattle.au_image.specs.Image.{image_of};
+ghost use Rattle.au_opening.specs.Opening.{opening};
+ghost use Rattle.rec_codec.specs.Frames.{IsSpellable, framed};
 ghost use Rattle.au_engine.specs.Abandoning.{abandoned};
-ghost use Rattle.au_engine.specs.Answering.{code_reply};
-ghost use Rattle.au_engine.specs.Drafting.{drafted};
+ghost use Rattle.au_engine.specs.Answering.{code_reply, reply_of};
+ghost use Rattle.au_engine.specs.Auditing.{records_of};
+ghost use Rattle.au_engine.specs.Deciding.{Decides};
 ghost use Rattle.au_engine.specs.Framing.{Writes};
-ghost use Rattle.au_engine.specs.Image.{image_of, nothing};
-ghost use Rattle.au_engine.specs.Lawful.{IsLawful, IsLawfulState};
-ghost use Rattle.au_engine.specs.Opening.{opening};
-ghost use Rattle.au_engine.specs.Prepared.{Fits, after, drawn_after, logged_of};
+ghost use Rattle.au_engine.specs.Lawful.{IsLawfulState};
+ghost use Rattle.au_engine.specs.Prepared.{Fits, after, drawn_after, left_by, made_of};
 ghost use Rattle.au_engine.specs.Reading.{IsReadAs, IsReadOf};
-ghost use Rattle.au_engine.specs.Replaying.{EndsWell, IsReplayable, PartsGoOn, after_frame, kept_with, with_records};
+ghost use Rattle.au_engine.specs.Replaying.{EndsWell, IsImage, IsReplayable, after_frame};
 ghost use Rattle.au_engine.specs.Returning.{start_frame};
-ghost use Rattle.au_engine.specs.Staging.{ChangeEnablements};
-ghost use Rattle.au_engine.specs.State.{IsStampOf, resting, stamp_of, start};
-ghost use Rattle.au_engine.specs.Step.{IsAsked, LocalStep, LoggedStep, SessionStep, SqlStep, StatementStep, StepAt, after_logon, after_refused_logon, concluded, logon_records, next_number, no_session, nothing_logged, recorded, session_of, unread_condition};
+ghost use Rattle.au_engine.specs.State.{IsStampOf, resting, stamp_of};
+ghost use Rattle.au_engine.specs.Step.{IsAsked, LocalStep, LoggedStep, SessionStep, SqlStep, StatementStep, StepAt, after_logon, after_refused_logon, concluded, last_after, logon_records, next_number, no_session, nothing_logged, recorded, session_of};
 
 use crate::answer::{code_reply, reply};
-use crate::auditing::record_for;
+use crate::auditing::records_for;
 use crate::deciding::decide;
 use crate::decision::Decision;
-use crate::draft::{Draft, draft_of};
-use crate::enablement::{enabled_after, put_enabled};
 use crate::facts::{logon_facts, logon_place, statement_facts, statement_place};
 use crate::form::BuiltForm;
 use crate::framing::{asks_are_text, with_frame};
-use crate::imaging::image;
-use crate::opening_state::{kept_nothing, opening};
-use crate::prepared::{Prepared, SessionChange};
+use crate::outcome::{Outcome, SessionChange};
+use crate::place::Place;
+use crate::prepared::Prepared;
 use crate::reading::built;
-use crate::replaying::{ended, ends_well, follow};
 use crate::session::Session;
 use crate::sessions::{counted, drawn_after, end_session, entries_after, session_of, settle};
-use crate::trail::{last_after, push_entry};
+use crate::trail::last_after;
 use au_base::built_in::SYS;
 use au_base::limits::{INSTANCE_SESSIONS, OPEN_SESSIONS};
 use au_base::{
-    Ask, Cell, ClientNo, Code, LAST_MOMENT, List, Memory, Name, Reply, RowNo, SessionNo, Stamp,
-    TableName, Text,
+    Ask, ClientNo, Code, LAST_MOMENT, List, Memory, Name, Reply, SessionNo, Stamp, Text,
 };
-use au_catalog::{Catalog, Change, Kept, Record};
-use au_grants::{Grants, changes_keep_order};
+use au_catalog::{Change, Facts, Kept, Record};
+use au_kept::Keeping;
+use au_opening::opening_changes;
 use rec_codec::Frame;
 use sql_ast::Statement;
 use std::alloc::Global;
 use std::marker::Model;
 
-/// The whole state. Contracts see it beside a number of records and sessions for which room is
-/// reserved.
-#[derive(Debug, Drop)]
+/// The whole state. Contracts see it beside each client's changes of rows, of which there are none
+/// yet, and the numbers of rows, records and sessions for which room is reserved.
+#[derive(Drop)]
 pub struct Engine {
-    catalog: Catalog,
-    grants: Grants,
-    /// The committed rows, by table and number.
-    rows: List<(TableName, RowNo, List<Cell>)>,
-    /// The records, oldest first.
-    trail: Vec<Record>,
-    last: Stamp,
-    instance: u32,
+    keeping: Keeping,
     sessions: Vec<Session>,
     /// How many sessions the instance has drawn.
     drawn: u32,
     /// The results that are kept of conditions which are evaluated once an instance.
     results: List<(Name, bool)>,
-    /// For so many more records, and as many more sessions, there is room.
-    room: usize,
+    /// For so many more sessions there is room.
+    seats: usize,
 }
 
 impl Model for Engine {
-    ghost use Rattle.std.specs.Prelude.{◌+◌, ◌≤◌, vec_len, vec_capacity};
-    ghost use Rattle.au_base.specs.Limits.{INSTANCE_SESSIONS};
+    ghost use Rattle.std.specs.Prelude.{◌≡◌, ◌+◌, ◌≤◌, [], vec_len, vec_capacity};
+    ghost use Rattle.std.specs.List.{AllByRecursion};
     ghost use Rattle.std.specs.Coded.{codes as value_codes};
+    ghost use Rattle.au_base.specs.Limits.{INSTANCE_SESSIONS};
+    ghost use Rattle.au_base.specs.declared.numbers.ClientNo.{ClientNo as Client};
+    ghost use Rattle.au_txn.specs.Logs.{changes_of};
     ghost use Rattle.sql_ast.specs.contracts.expression.Expr as expression;
-    ghost use Rattle.au_engine.specs.Image.{image_of, nothing};
-    ghost use Rattle.au_engine.specs.Lawful.{IsLawfulState};
-    ghost use Rattle.au_engine.specs.State.{Reserved, kept_of};
+    ghost use Rattle.au_engine.specs.Lawful.{IsLawfulSession};
+    ghost use Rattle.au_engine.specs.State.{Reserved};
 
     ghost Value = { Reserved };
 
     ghost coded = { Prim.hlevel (value_codes, expression.the_row.coded) };
 
     ghost view = { λ e. record {
-      state = record {
-        kept = kept_of e.catalog e.grants e.rows e.trail.items e.last e.instance;
-        sessions = e.sessions.items;
-        drawn = e.drawn;
-        results = e.results;
-      };
-      room = e.room;
+      state = record { kept = e.keeping.kept; sessions = e.sessions.items; drawn = e.drawn; results = e.results };
+      logs = e.keeping.logs;
+      spare = e.keeping.spare;
+      room = e.keeping.room;
+      seats = e.seats;
     } };
 
-    ghost invariant = { λ e. (vec_len e.trail + e.room ≤ vec_capacity e.trail) × (vec_len e.sessions + e.room ≤ vec_capacity e.sessions) × (e.drawn ≤ INSTANCE_SESSIONS) × IsLawfulState (record { kept = kept_of e.catalog e.grants e.rows e.trail.items e.last e.instance; sessions = e.sessions.items; drawn = e.drawn; results = e.results }) };
+    ghost invariant = { λ e. (vec_len e.sessions + e.seats ≤ vec_capacity e.sessions) × (e.drawn ≤ INSTANCE_SESSIONS) × AllByRecursion IsLawfulSession e.sessions.items × ((client : Client) → changes_of client e.keeping.logs ≡ []) };
 }
 
 impl Engine {
-    /// The first instance over a new store, whose SYS has the password `p`, at this reading of the
-    /// clock.
-    pub fn empty(alloc: Global, reading: u64) -> Result<Engine, Memory>
-        ensures { IfOk result (λ engine. engine.state ≡ start (opening (codes "p")) reading) }
-    {
-        let kept = opening(alloc, b"p".as_slice())?;
-        Ok(Engine::begin(alloc, kept, reading))
-    }
-
     /// An engine that keeps nothing, on which the frames of a journal are replayed.
-    pub fn blank(alloc: Global) -> Engine
-        ensures { result.state ≡ resting nothing }
+    pub fn empty(alloc: Global) -> Result<Engine, Memory>
+        ensures { IfOk result (λ engine. engine.state ≡ resting nothing) }
     {
-        Engine::keeping(alloc, kept_nothing(alloc))
+        let keeping = Keeping::blank(alloc)?;
+        Ok(Engine::over(alloc, keeping))
     }
 
     /// An engine of what a new store keeps, whose SYS has this password. No instance has begun.
     pub fn of_new_store(alloc: Global, password: &[u8]) -> Result<Engine, Memory>
         ensures { IfOk result (λ engine. engine.state ≡ resting (opening password.now)) }
     {
-        let kept = opening(alloc, password)?;
-        Ok(Engine::keeping(alloc, kept))
+        let mut engine = Engine::empty(alloc)?;
+        engine.take_opening(alloc, password)?;
+        Ok(engine)
     }
 
     /// The stamp of an event at this reading of the clock: the larger of the reading and the last
@@ -126,63 +108,47 @@ impl Engine {
     pub fn stamp(&self, reading: u64) -> Stamp
         ensures { result.0 ≡ stamp_of self.now.state reading }
     {
-        Stamp(reading.min(LAST_MOMENT).max(self.last.0))
+        let last = self.keeping.last();
+        Stamp(reading.min(LAST_MOMENT).max(last.0))
     }
 
     /// The number of the instance.
     pub fn instance(&self) -> u32
         ensures { result ≡ self.now.state.kept.instance }
     {
-        self.instance
+        self.keeping.instance()
     }
 
     /// The records of the trail, oldest first.
     pub fn trail(&self) -> &[Record]
         ensures { result.now ≡ self.now.state.kept.trail }
     {
-        &self.trail
+        self.keeping.trail()
     }
 
     /// The framed image of what is kept: the body's length in eight bytes, the body, and a closed
-    /// gate. What has more changes or records than an image can count, 4,294,967,295, answers
-    /// `Memory`.
+    /// gate. It leads from nothing to what is kept, and goes on from nothing where SYS is a user. What
+    /// has more changes or records than an image can count, 4,294,967,295, answers `Memory`.
     pub fn image(&self, alloc: Global) -> Result<Vec<u8>, Memory>
         ensures bytes { IfOk result (λ bytes. bytes.items ≡ framed (image_of self.now.state.kept)) }
         ensures spellable { IfOk result (λ bytes. IsSpellable (image_of self.now.state.kept)) }
+        ensures back { after_frame nothing (image_of self.now.state.kept) ≡ self.now.state.kept }
+        ensures goes { EndsWell self.now.state.kept → IsReplayable nothing (image_of self.now.state.kept) }
     {
-        let last = self.last;
-        image(
-            alloc,
-            &self.catalog,
-            &self.grants,
-            &self.trail,
-            last,
-            self.instance,
-        )
+        self.keeping.image(alloc)
     }
 
     /// Replays a frame: `true` exactly where it goes on from what is kept, which is then what it
-    /// makes of it. Where it doesn't, all stays as it was.
+    /// makes of it. Where it doesn't, all stays as it was. An image comes to an engine that keeps
+    /// nothing.
     pub fn replay(&mut self, alloc: Global, frame: Frame) -> Result<bool, Memory>
-        requires { IsSpellable frame }
+        requires spelled { IsSpellable frame }
+        requires first { IsImage frame → self.old.state.kept ≡ nothing }
         ensures rule { IfOk result (λ done. IsTrue done ↔ IsReplayable self.old.state.kept frame) }
         ensures state { IfOk result (λ done. self.new.state ≡ (if done then record self.old.state { kept = after_frame self.old.state.kept frame } else self.old.state)) }
         ensures err { OnErr result (self.new.state ≡ self.old.state) }
     {
-        match frame {
-            Frame::Image {
-                last,
-                changes,
-                records,
-            } => self.follow(alloc, true, last, changes, records),
-            Frame::Event {
-                stamp,
-                changes,
-                records,
-            } => self.follow(alloc, false, stamp, changes, records),
-            // a purge doesn't go on yet
-            Frame::Purge { .. } => Ok(false),
-        }
+        self.keeping.replay(alloc, frame)
     }
 
     /// The event with which the next instance begins, at this reading of the clock.
@@ -193,7 +159,7 @@ impl Engine {
     {
         self.can_start(reading);
         let mut changes = List::new(alloc);
-        changes.push(Change::Start(self.instance + 1))?;
+        changes.push(Change::Start(self.instance() + 1))?;
         Ok(Frame::Event {
             stamp: self.stamp(reading),
             changes,
@@ -220,9 +186,9 @@ impl Engine {
         ensures fits { IfOk result (λ prepared. Fits prepared self.new) }
     {
         self.reserve()?;
-        let prepared = self.step(alloc, client, ask, read, stamp)?;
-        let prepared = self.framed(alloc, client, ask, stamp, prepared)?;
-        Ok(prepared)
+        let outcome = self.step(alloc, client, ask, read, stamp)?;
+        let outcome = self.framed(alloc, client, ask, stamp, outcome)?;
+        self.ready(alloc, client, ask, stamp, outcome)
     }
 
     /// Makes a step that was worked out. It takes no memory and can't fail.
@@ -235,16 +201,15 @@ impl Engine {
             reply,
             sessions,
             changes: _,
-            enabled,
-            entry,
+            staged,
+            records,
             last,
             framed: _,
         } = prepared;
-        self.room -= 1;
-        self.last = last;
+        self.seats -= 1;
         self.drawn = drawn_after(&sessions, self.drawn);
-        put_enabled(&mut self.catalog, enabled);
-        push_entry(&mut self.trail, entry);
+        self.keeping
+            .settle(staged, None, records.into_vec(), None, last);
         settle(&mut self.sessions, sessions);
         reply
     }
@@ -264,144 +229,53 @@ impl Engine {
         end_session(&mut self.sessions, client);
     }
 
-    /// What is kept, without the instance. It takes no memory.
-    pub fn into_kept(self) -> Kept
-        ensures { result ≡ self.state.kept }
+    /// What is kept, without the instance. It copies all rows, and is for exports and trials.
+    pub fn into_kept(self, alloc: Global) -> Result<Kept, Memory>
+        ensures { IfOk result (λ kept. kept ≡ self.state.kept) }
     {
-        let Engine {
-            catalog,
-            grants,
-            rows,
-            trail,
-            last,
-            instance,
-            sessions: _,
-            drawn: _,
-            results: _,
-            room: _,
-        } = self;
-        let Catalog {
-            users,
-            roles,
-            tables,
-            policies,
-            enabled,
-            fga,
-            archive,
-        } = catalog;
-        Kept {
-            users,
-            roles,
-            grants,
-            tables,
-            rows,
-            policies,
-            enabled,
-            fga,
-            trail: List::from_vec(trail),
-            archive,
-            last,
-            instance,
-        }
+        self.keeping.into_kept(alloc)
     }
 
-    // No instance runs, and this is kept.
-    fn keeping(alloc: Global, kept: Kept) -> Engine
-        requires { IsLawful kept }
-        ensures { result.state ≡ resting kept }
+    /// What is kept is lawful, and so is each session. It does nothing, and states the law for its
+    /// callers.
+    pub fn lawful(&self)
+        ensures { IsLawfulState self.now.state }
     {
-        let Kept {
-            users,
-            roles,
-            grants,
-            tables,
-            rows,
-            policies,
-            enabled,
-            fga,
-            trail,
-            archive,
-            last,
-            instance,
-        } = kept;
-        let catalog = Catalog {
-            users,
-            roles,
-            tables,
-            policies,
-            enabled,
-            fga,
-            archive,
-        };
+        self.keeping.holds_together();
+    }
+
+    // No instance runs over what is kept, which is nothing.
+    fn over(alloc: Global, keeping: Keeping) -> Engine
+        requires kept { keeping.kept ≡ nothing }
+        requires logs { keeping.logs ≡ [] }
+        ensures { result.state ≡ resting nothing }
+    {
         Engine {
-            catalog,
-            grants,
-            rows,
-            trail: trail.into_vec(),
-            last,
-            instance,
+            keeping,
             sessions: Vec::new(alloc),
             drawn: 0,
             results: List::new(alloc),
-            room: 0,
+            seats: 0,
         }
     }
 
-    // The next instance over what is kept.
-    fn begin(alloc: Global, kept: Kept, reading: u64) -> Engine
-        requires lawful { IsLawful kept }
-        requires instance { kept.instance < INSTANCES }
-        ensures { result.state ≡ start kept reading }
+    // Replays the image of what a new store keeps.
+    fn take_opening(&mut self, alloc: Global, password: &[u8]) -> Result<(), Memory>
+        requires { self.old.state ≡ resting nothing }
+        ensures { OnOk result (self.new.state ≡ resting (opening password.now)) }
     {
-        let last = Stamp(reading.min(LAST_MOMENT).max(kept.last.0));
-        let instance = kept.instance + 1;
-        Engine::keeping(
-            alloc,
-            Kept {
-                last,
-                instance,
-                ..kept
-            },
-        )
-    }
-
-    // Makes room for a record and a session.
-    fn reserve(&mut self) -> Result<(), Memory>
-        ensures keeps { self.new.state ≡ self.old.state }
-        ensures room { OnOk result (0 < self.new.room) }
-    {
-        self.trail.reserve(1)?;
-        self.sessions.reserve(1)?;
-        self.room = 1;
-        Ok(())
-    }
-
-    // Replays a frame with these parts, of an image or of an event.
-    fn follow(
-        &mut self,
-        alloc: Global,
-        image: bool,
-        stamp: Stamp,
-        changes: List<Change>,
-        records: List<Record>,
-    ) -> Result<bool, Memory>
-        requires { body.IsSpellable (stamp, (changes, records)) }
-        ensures rule { IfOk result (λ done. IsTrue done ↔ PartsGoOn image self.old.state.kept stamp changes) }
-        ensures state { IfOk result (λ done. self.new.state ≡ (if done then record self.old.state { kept = kept_with self.old.state.kept stamp changes records } else self.old.state)) }
-        ensures err { OnErr result (self.new.state ≡ self.old.state) }
-    {
-        if changes.is_empty() {
-            let done = self.extend(stamp, records)?;
-            return Ok(done);
+        let changes = opening_changes(alloc, password)?;
+        let frame = Frame::Image {
+            last: Stamp(0),
+            changes,
+            records: List::new(alloc),
+        };
+        au_opening::opening_is_kept();
+        au_kept::images_lead_back();
+        if self.replay(alloc, frame)? {
+            return Ok(());
         }
-        match self.draft(alloc, image, stamp, changes.as_slice())? {
-            None => Ok(false),
-            Some(draft) => {
-                changes_keep_order();
-                self.take(stamp, draft, records)?;
-                Ok(true)
-            }
-        }
+        unreachable!()
     }
 
     // The event with which the next instance begins can be written.
@@ -412,116 +286,78 @@ impl Engine {
         self.lawful();
     }
 
-    // Replays a frame with this stamp and these records and no changes.
-    fn extend(&mut self, stamp: Stamp, records: List<Record>) -> Result<bool, Memory>
-        requires { body.IsSpellable (stamp, ([], records)) }
-        ensures rule { IfOk result (λ done. IsTrue done ↔ ((self.old.state.kept.last.0 ≤ stamp.0) × EndsWell self.old.state.kept)) }
-        ensures state { IfOk result (λ done. self.new.state ≡ (if done then record self.old.state { kept = with_records self.old.state.kept stamp records } else self.old.state)) }
-        ensures err { OnErr result (self.new.state ≡ self.old.state) }
+    // Makes room for a session.
+    fn reserve(&mut self) -> Result<(), Memory>
+        ensures keeps { self.new.state ≡ self.old.state }
+        ensures seat { OnOk result (0 < self.new.seats) }
     {
-        if !self.goes_on_at(stamp) {
-            return Ok(false);
-        }
-        changes_keep_order();
-        self.append(stamp, records)?;
-        Ok(true)
-    }
-
-    // Whether a frame with this stamp and no changes goes on from what is kept.
-    fn goes_on_at(&self, stamp: Stamp) -> bool
-        ensures goes { IsTrue result ↔ ((self.now.state.kept.last.0 ≤ stamp.0) × EndsWell self.now.state.kept) }
-        ensures lawful { IsLawful self.now.state.kept }
-    {
-        self.last.0 <= stamp.0 && ends_well(&self.catalog, &self.grants)
-    }
-
-    // Takes the records at the trail's end, and this as the last stamp.
-    fn append(&mut self, stamp: Stamp, records: List<Record>) -> Result<(), Memory>
-        requires { IsLawful (with_records self.old.state.kept stamp records) }
-        ensures ok { OnOk result (self.new.state ≡ record self.old.state { kept = with_records self.old.state.kept stamp records }) }
-        ensures err { OnErr result (self.new.state ≡ self.old.state) }
-    {
-        let mut records = records.into_vec();
-        self.trail.append(&mut records)?;
-        self.room = 0;
-        self.last = stamp;
+        self.sessions.reserve(1)?;
+        self.seats = 1;
         Ok(())
     }
 
-    // The draft after the changes, where a frame with this stamp and them goes on from what is kept.
-    fn draft(
-        &self,
-        alloc: Global,
-        image: bool,
-        stamp: Stamp,
-        changes: &[Change],
-    ) -> Result<Option<Draft>, Memory>
-        ensures made { IfOk result (λ found. MatchOption found (¬ PartsGoOn image self.now.state.kept stamp changes.now) (λ draft. PartsGoOn image self.now.state.kept stamp changes.now × (drafted draft self.now.state.kept ≡ changed_all unread_condition changes.now self.now.state.kept))) }
-        ensures lawful { IsLawful self.now.state.kept }
-    {
-        if stamp.0 < self.last.0 {
-            return Ok(None);
-        }
-        let draft = draft_of(alloc, &self.catalog, &self.grants, self.instance)?;
-        let found = follow(alloc, image, draft, changes)?;
-        Ok(ended(found))
-    }
-
-    // Takes what was drafted, with the records at the trail's end, as what is kept from this stamp on.
-    fn take(&mut self, stamp: Stamp, draft: Draft, records: List<Record>) -> Result<(), Memory>
-        requires lawful { IsLawful (with_records (drafted draft self.old.state.kept) stamp records) }
-        requires few { grant_count draft.grants ≤ GRANTS }
-        ensures ok { OnOk result (self.new.state ≡ record self.old.state { kept = with_records (drafted draft self.old.state.kept) stamp records }) }
-        ensures err { OnErr result (self.new.state ≡ self.old.state) }
-    {
-        let mut records = records.into_vec();
-        self.trail.append(&mut records)?;
-        let Draft {
-            users,
-            roles,
-            grants,
-            policies,
-            enabled,
-            instance,
-        } = draft;
-        self.room = 0;
-        self.last = stamp;
-        self.instance = instance;
-        self.grants = grants.into_grants();
-        self.catalog.users = users;
-        self.catalog.roles = roles;
-        self.catalog.policies = policies;
-        self.catalog.enabled = enabled;
-        Ok(())
-    }
-
-    /// What is kept is lawful, and so is each session. It does nothing, and states the law for its
-    /// callers.
-    pub fn lawful(&self)
-        ensures { IsLawfulState self.now.state }
-    {
-        let _ = &self.room;
-    }
-
-    // The prepared step with the framed bytes of what it writes.
+    // The step with the framed bytes of what it writes.
     fn framed(
         &self,
         alloc: Global,
         client: ClientNo,
         ask: &Ask,
         stamp: Stamp,
-        prepared: Prepared,
-    ) -> Result<Prepared, Memory>
+        outcome: Outcome,
+    ) -> Result<Outcome, Memory>
         requires stamp { IsStampOf self.now.state stamp.0 }
-        requires step { LoggedStep self.now.state client ask.now stamp.0 prepared.reply (logged_of prepared) (after prepared self.now.state) }
-        ensures made { IfOk result (λ made. made ≡ record prepared { framed = made.framed }) }
-        ensures writes { IfOk result (λ made. Writes self.now.state client ask.now stamp.0 (after made self.now.state) made.framed) }
-        ensures lawful { IfOk result (λ made. IsLawfulState (after made self.now.state)) }
+        requires step { LoggedStep self.now.state client ask.now stamp.0 outcome.reply (left_by outcome) (made_of outcome self.now.state) }
+        ensures made { IfOk result (λ made. made ≡ record outcome { framed = made.framed }) }
+        ensures writes { IfOk result (λ made. Writes self.now.state client ask.now stamp.0 (made_of made self.now.state) made.framed) }
     {
         self.lawful();
         asks_are_text(ask);
-        let made = with_frame(alloc, stamp, prepared)?;
+        let made = with_frame(alloc, stamp, outcome)?;
         Ok(made)
+    }
+
+    // The step with its changes ready to be made, and with room for its records.
+    fn ready(
+        &mut self,
+        alloc: Global,
+        client: ClientNo,
+        ask: &Ask,
+        stamp: Stamp,
+        outcome: Outcome,
+    ) -> Result<Prepared, Memory>
+        requires stamp { IsStampOf self.old.state stamp.0 }
+        requires step { LoggedStep self.old.state client ask.now stamp.0 outcome.reply (left_by outcome) (made_of outcome self.old.state) }
+        requires seat { 0 < self.old.seats }
+        requires drawn { drawn_after outcome.sessions self.old.state.drawn ≤ INSTANCE_SESSIONS }
+        ensures reply { IfOk result (λ prepared. prepared.reply ≡ outcome.reply) }
+        ensures after { IfOk result (λ prepared. after prepared self.old.state ≡ made_of outcome self.old.state) }
+        ensures framed { IfOk result (λ prepared. prepared.framed ≡ outcome.framed) }
+        ensures keeps { self.new.state ≡ self.old.state }
+        ensures fits { IfOk result (λ prepared. Fits prepared self.new) }
+    {
+        self.lawful();
+        asks_are_text(ask);
+        au_kept::spellings_are_short();
+        let staged = self
+            .keeping
+            .stage(alloc, outcome.changes.as_slice(), outcome.records.len())?;
+        let Outcome {
+            reply,
+            sessions,
+            changes,
+            records,
+            last,
+            framed,
+        } = outcome;
+        Ok(Prepared {
+            reply,
+            sessions,
+            changes,
+            staged,
+            records,
+            last,
+            framed,
+        })
     }
 
     fn step(
@@ -531,11 +367,11 @@ impl Engine {
         ask: &Ask,
         read: &Result<Statement, Code>,
         stamp: Stamp,
-    ) -> Result<Prepared, Memory>
+    ) -> Result<Outcome, Memory>
         requires asked { IsAsked ask.now }
         requires read { IsReadOf ask.now read.now }
-        ensures step { IfOk result (λ prepared. LoggedStep self.now.state client ask.now stamp.0 prepared.reply (logged_of prepared) (after prepared self.now.state)) }
-        ensures drawn { IfOk result (λ prepared. drawn_after prepared.sessions self.now.state.drawn ≤ INSTANCE_SESSIONS) }
+        ensures step { IfOk result (λ outcome. LoggedStep self.now.state client ask.now stamp.0 outcome.reply (left_by outcome) (made_of outcome self.now.state)) }
+        ensures drawn { IfOk result (λ outcome. drawn_after outcome.sessions self.now.state.drawn ≤ INSTANCE_SESSIONS) }
     {
         match ask {
             Ask::Local => self.local(alloc, client, stamp),
@@ -545,9 +381,9 @@ impl Engine {
     }
 
     // A logon of SYS without a password.
-    fn local(&self, alloc: Global, client: ClientNo, stamp: Stamp) -> Result<Prepared, Memory>
-        ensures step { IfOk result (λ prepared. LocalStep self.now.state client stamp.0 prepared.reply (logged_of prepared) (after prepared self.now.state)) }
-        ensures drawn { IfOk result (λ prepared. drawn_after prepared.sessions self.now.state.drawn ≤ INSTANCE_SESSIONS) }
+    fn local(&self, alloc: Global, client: ClientNo, stamp: Stamp) -> Result<Outcome, Memory>
+        ensures step { IfOk result (λ outcome. LocalStep self.now.state client stamp.0 outcome.reply (left_by outcome) (made_of outcome self.now.state)) }
+        ensures drawn { IfOk result (λ outcome. drawn_after outcome.sessions self.now.state.drawn ≤ INSTANCE_SESSIONS) }
     {
         if session_of(&self.sessions, client).is_some() {
             return Ok(self.unchanged(alloc, code_reply(alloc, Code::SESSION_PRESENT)));
@@ -560,19 +396,18 @@ impl Engine {
     }
 
     // A step that answers this and changes nothing.
-    fn unchanged(&self, alloc: Global, reply: Reply) -> Prepared
+    fn unchanged(&self, alloc: Global, reply: Reply) -> Outcome
         ensures reply { result.reply ≡ reply }
-        ensures logged { logged_of result ≡ nothing_logged }
-        ensures same { after result self.now.state ≡ self.now.state }
+        ensures logged { left_by result ≡ nothing_logged }
+        ensures same { made_of result self.now.state ≡ self.now.state }
         ensures drawn { drawn_after result.sessions self.now.state.drawn ≤ INSTANCE_SESSIONS }
     {
-        Prepared {
+        Outcome {
             reply,
             sessions: SessionChange::Nothing,
             changes: List::new(alloc),
-            enabled: None,
-            entry: None,
-            last: self.last,
+            records: List::new(alloc),
+            last: self.keeping.last(),
             framed: None,
         }
     }
@@ -584,22 +419,22 @@ impl Engine {
         user: Name,
         code: Code,
         stamp: Stamp,
-    ) -> Result<Prepared, Memory>
-        ensures reply { IfOk result (λ prepared. prepared.reply ≡ code_reply code) }
-        ensures logged { IfOk result (λ prepared. logged_of prepared ≡ recorded (logon_records self.now.state.kept user code no_session stamp.0)) }
-        ensures next { IfOk result (λ prepared. after prepared self.now.state ≡ after_refused_logon self.now.state user code stamp.0) }
-        ensures drawn { IfOk result (λ prepared. drawn_after prepared.sessions self.now.state.drawn ≤ INSTANCE_SESSIONS) }
+    ) -> Result<Outcome, Memory>
+        ensures reply { IfOk result (λ outcome. outcome.reply ≡ code_reply code) }
+        ensures logged { IfOk result (λ outcome. left_by outcome ≡ recorded (logon_records self.now.state.kept user code no_session stamp.0)) }
+        ensures next { IfOk result (λ outcome. made_of outcome self.now.state ≡ after_refused_logon self.now.state user code stamp.0) }
+        ensures drawn { IfOk result (λ outcome. drawn_after outcome.sessions self.now.state.drawn ≤ INSTANCE_SESSIONS) }
     {
+        self.has_drawn_few();
         let facts = logon_facts(alloc, user, code);
         let place = logon_place(SessionNo(0), stamp);
-        let entry = record_for(alloc, &self.catalog, &self.grants, facts, place)?;
-        Ok(Prepared {
+        let records = self.records_for(alloc, facts, place)?;
+        Ok(Outcome {
             reply: code_reply(alloc, code),
             sessions: SessionChange::Nothing,
             changes: List::new(alloc),
-            enabled: None,
-            last: last_after(self.last, stamp, &[], &entry),
-            entry,
+            last: self.last_after(stamp, &[], records.as_slice()),
+            records,
             framed: None,
         })
     }
@@ -611,32 +446,31 @@ impl Engine {
         client: ClientNo,
         user: Name,
         stamp: Stamp,
-    ) -> Result<Prepared, Memory>
+    ) -> Result<Outcome, Memory>
         requires { self.now.state.drawn < INSTANCE_SESSIONS }
-        ensures reply { IfOk result (λ prepared. prepared.reply ≡ code_reply Code.DONE) }
-        ensures logged { IfOk result (λ prepared. logged_of prepared ≡ recorded (logon_records self.now.state.kept user Code.DONE (next_number self.now.state) stamp.0)) }
-        ensures next { IfOk result (λ prepared. after prepared self.now.state ≡ after_logon self.now.state client user stamp.0) }
-        ensures drawn { IfOk result (λ prepared. drawn_after prepared.sessions self.now.state.drawn ≤ INSTANCE_SESSIONS) }
+        ensures reply { IfOk result (λ outcome. outcome.reply ≡ code_reply Code.DONE) }
+        ensures logged { IfOk result (λ outcome. left_by outcome ≡ recorded (logon_records self.now.state.kept user Code.DONE (next_number self.now.state) stamp.0)) }
+        ensures next { IfOk result (λ outcome. made_of outcome self.now.state ≡ after_logon self.now.state client user stamp.0) }
+        ensures drawn { IfOk result (λ outcome. drawn_after outcome.sessions self.now.state.drawn ≤ INSTANCE_SESSIONS) }
     {
         let number = self.next_number();
         let facts = logon_facts(alloc, user.clone()?, Code::DONE);
         let place = logon_place(number, stamp);
-        let entry = record_for(alloc, &self.catalog, &self.grants, facts, place)?;
+        let records = self.records_for(alloc, facts, place)?;
         let session = Session {
             client,
             user,
             number,
             statements: 0,
-            entries: u32::from(entry.is_some()),
+            entries: records.len() as u32,
             results: List::new(alloc),
         };
-        Ok(Prepared {
+        Ok(Outcome {
             reply: code_reply(alloc, Code::DONE),
             sessions: SessionChange::Begins(session),
             changes: List::new(alloc),
-            enabled: None,
-            last: last_after(self.last, stamp, &[], &entry),
-            entry,
+            last: self.last_after(stamp, &[], records.as_slice()),
+            records,
             framed: None,
         })
     }
@@ -645,7 +479,7 @@ impl Engine {
         requires { self.now.state.drawn < INSTANCE_SESSIONS }
         ensures { result ≡ next_number self.now.state }
     {
-        SessionNo(u64::from(self.instance) * 1_000_000_000 + (u64::from(self.drawn) + 1))
+        SessionNo(u64::from(self.instance()) * 1_000_000_000 + (u64::from(self.drawn) + 1))
     }
 
     // A text of a client.
@@ -656,10 +490,10 @@ impl Engine {
         text: &Text,
         read: &Result<Statement, Code>,
         stamp: Stamp,
-    ) -> Result<Prepared, Memory>
+    ) -> Result<Outcome, Memory>
         requires { IsReadAs text.now read.now }
-        ensures step { IfOk result (λ prepared. SqlStep self.now.state client text.now stamp.0 prepared.reply (logged_of prepared) (after prepared self.now.state)) }
-        ensures drawn { IfOk result (λ prepared. drawn_after prepared.sessions self.now.state.drawn ≤ INSTANCE_SESSIONS) }
+        ensures step { IfOk result (λ outcome. SqlStep self.now.state client text.now stamp.0 outcome.reply (left_by outcome) (made_of outcome self.now.state)) }
+        ensures drawn { IfOk result (λ outcome. drawn_after outcome.sessions self.now.state.drawn ≤ INSTANCE_SESSIONS) }
     {
         match session_of(&self.sessions, client) {
             None => Ok(self.unchanged(alloc, code_reply(alloc, Code::NOT_LOGGED_ON))),
@@ -675,15 +509,15 @@ impl Engine {
         text: &Text,
         read: &Result<Statement, Code>,
         stamp: Stamp,
-    ) -> Result<Prepared, Memory>
+    ) -> Result<Outcome, Memory>
         requires { IsReadAs text.now read.now }
-        ensures step { IfOk result (λ prepared. SessionStep self.now.state session.now text.now stamp.0 prepared.reply (logged_of prepared) (after prepared self.now.state)) }
-        ensures drawn { IfOk result (λ prepared. drawn_after prepared.sessions self.now.state.drawn ≤ INSTANCE_SESSIONS) }
+        ensures step { IfOk result (λ outcome. SessionStep self.now.state session.now text.now stamp.0 outcome.reply (left_by outcome) (made_of outcome self.now.state)) }
+        ensures drawn { IfOk result (λ outcome. drawn_after outcome.sessions self.now.state.drawn ≤ INSTANCE_SESSIONS) }
     {
         match built(text, read) {
             Ok(form) => {
-                let prepared = self.statement(alloc, session, form, text, stamp)?;
-                Ok(prepared)
+                let outcome = self.statement(alloc, session, form, text, stamp)?;
+                Ok(outcome)
             }
             Err(code) => Ok(self.unchanged(alloc, code_reply(alloc, code))),
         }
@@ -697,52 +531,99 @@ impl Engine {
         form: BuiltForm,
         text: &Text,
         stamp: Stamp,
-    ) -> Result<Prepared, Memory>
-        ensures step { IfOk result (λ prepared. StatementStep self.now.state session.now form text.now stamp.0 prepared.reply (logged_of prepared) (after prepared self.now.state)) }
-        ensures drawn { IfOk result (λ prepared. drawn_after prepared.sessions self.now.state.drawn ≤ INSTANCE_SESSIONS) }
+    ) -> Result<Outcome, Memory>
+        ensures step { IfOk result (λ outcome. StatementStep self.now.state session.now form text.now stamp.0 outcome.reply (left_by outcome) (made_of outcome self.now.state)) }
+        ensures drawn { IfOk result (λ outcome. drawn_after outcome.sessions self.now.state.drawn ≤ INSTANCE_SESSIONS) }
     {
-        let decision = decide(alloc, &self.catalog, &self.grants, &session.user, form)?;
+        let decision = self.decide(alloc, &session.user, form)?;
         let Decision {
             code,
             used,
             changes,
         } = decision;
-        let reply = reply(alloc, self.trail.len(), form, code)?;
+        let reply = self.reply(alloc, form, code)?;
         let facts = statement_facts(alloc, &session.user, form, used, code)?;
         let place = statement_place(alloc, session, form, text, stamp)?;
-        let entry = record_for(alloc, &self.catalog, &self.grants, facts, place)?;
-        let prepared = self.concluded(alloc, reply, session, changes, entry, stamp)?;
-        Ok(prepared)
+        let records = self.records_for(alloc, facts, place)?;
+        let outcome = self.concluded(reply, session, changes, records, stamp);
+        Ok(outcome)
     }
 
-    // A statement of the session with these changes and this record.
+    // A statement of the session with these changes and records.
     fn concluded(
         &self,
-        alloc: Global,
         reply: Reply,
         session: &Session,
         changes: List<Change>,
-        entry: Option<Record>,
+        records: List<Record>,
         stamp: Stamp,
-    ) -> Result<Prepared, Memory>
-        requires { ChangeEnablements changes }
-        ensures reply { IfOk result (λ prepared. prepared.reply ≡ reply) }
-        ensures logged { IfOk result (λ prepared. logged_of prepared ≡ record { changes = changes; records = option_to_list entry }) }
-        ensures next { IfOk result (λ prepared. after prepared self.now.state ≡ concluded self.now.state session.now stamp.0 changes (option_to_list entry)) }
-        ensures drawn { IfOk result (λ prepared. drawn_after prepared.sessions self.now.state.drawn ≤ INSTANCE_SESSIONS) }
+    ) -> Outcome
+        ensures reply { result.reply ≡ reply }
+        ensures logged { left_by result ≡ record { changes = changes; records = records } }
+        ensures next { made_of result self.now.state ≡ concluded self.now.state session.now stamp.0 changes records }
+        ensures drawn { drawn_after result.sessions self.now.state.drawn ≤ INSTANCE_SESSIONS }
     {
-        Ok(Prepared {
+        self.has_drawn_few();
+        Outcome {
             reply,
             sessions: SessionChange::Counts {
                 client: session.client,
                 statements: counted(session.statements),
-                entries: entries_after(session.entries, &entry),
+                entries: entries_after(session.entries, records.len()),
             },
-            enabled: enabled_after(alloc, &self.catalog.enabled, changes.as_slice())?,
-            last: last_after(self.last, stamp, changes.as_slice(), &entry),
+            last: self.last_after(stamp, changes.as_slice(), records.as_slice()),
             changes,
-            entry,
+            records,
             framed: None,
-        })
+        }
+    }
+
+    // The instance has drawn no more sessions than there are numbers of them. It does nothing, and
+    // states the law for its callers.
+    fn has_drawn_few(&self)
+        ensures { self.now.state.drawn ≤ INSTANCE_SESSIONS }
+    {
+        let _drawn = self.drawn;
+    }
+
+    // What is decided of a built statement of the user.
+    fn decide(&self, alloc: Global, user: &Name, form: BuiltForm) -> Result<Decision, Memory>
+        ensures { IfOk result (Decides self.now.state.kept.grants self.now.state.kept.policies self.now.state.kept.enabled user.now form) }
+    {
+        decide(
+            alloc,
+            self.keeping.catalog(),
+            self.keeping.grants(),
+            user,
+            form,
+        )
+    }
+
+    // The reply to a statement with this code.
+    fn reply(&self, alloc: Global, form: BuiltForm, code: Code) -> Result<Reply, Memory>
+        ensures { IfOk result (λ reply. reply ≡ reply_of (length self.now.state.kept.trail) form code) }
+    {
+        reply(alloc, self.keeping.trail().len(), form, code)
+    }
+
+    // What an event leaves in the trail.
+    fn records_for(&self, alloc: Global, facts: Facts, place: Place) -> Result<List<Record>, Memory>
+        ensures records { IfOk result (λ records. records ≡ records_of self.now.state.kept.grants self.now.state.kept.policies self.now.state.kept.enabled facts place) }
+        ensures few { IfOk result (λ records. length records ≤ 1) }
+    {
+        records_for(
+            alloc,
+            self.keeping.catalog(),
+            self.keeping.grants(),
+            facts,
+            place,
+        )
+    }
+
+    // The last stamp after an event with these changes and records.
+    fn last_after(&self, stamp: Stamp, changes: &[Change], records: &[Record]) -> Stamp
+        ensures { result ≡ last_after self.now.state.kept.last stamp.0 changes.now records.now }
+    {
+        last_after(self.keeping.last(), stamp, changes, records)
     }
 }

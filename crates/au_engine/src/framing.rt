@@ -1,12 +1,13 @@
 //! The frame that a step writes.
-ghost use Rattle.std.specs.Prelude.{◌≡◌, ◌≤◌, IfOk, OnOk, IsUtf8, Option, length, option_to_list};
+ghost use Rattle.std.specs.Prelude.{◌≡◌, IfOk, Option};
+ghost use Rattle.au_kept.specs.Quick.{changes_in};
 ghost use Rattle.rec_codec.specs.declared.frame.Frame.{Frame as AnyFrame};
 ghost use Rattle.rec_codec.specs.Frames.{IsSpellable, framed, spelled};
-ghost use Rattle.au_engine.specs.Framing.{IsText, IsWritable, changes_in, event_of, framed_option, records_in};
-ghost use Rattle.au_engine.specs.Prepared.{logged_of};
+ghost use Rattle.au_engine.specs.Framing.{IsText, IsWritable, event_of, framed_option, records_in};
+ghost use Rattle.au_engine.specs.Prepared.{left_by};
 ghost use Rattle.au_engine.specs.Step.{is_idle};
 
-use crate::prepared::Prepared;
+use crate::outcome::Outcome;
 use au_base::{Ask, List, Memory, Stamp};
 use au_catalog::{Change, Record};
 use rec_codec::{Frame, write_framed};
@@ -17,63 +18,60 @@ use std::alloc::Global;
 struct EventBytes {
     bytes: Vec<u8>,
     changes: List<Change>,
-    entry: Option<Record>,
+    records: List<Record>,
 }
 
-/// The prepared step with the framed bytes of the event at this stamp, where it leaves something to
-/// be kept.
-pub fn with_frame(alloc: Global, stamp: Stamp, prepared: Prepared) -> Result<Prepared, Memory>
-    requires { IsWritable (event_of stamp.0 (logged_of prepared)) }
-    ensures { IfOk result (λ made. made ≡ record prepared { framed = framed_option (event_of stamp.0 (logged_of prepared)) }) }
+/// The step with the framed bytes of the event at this stamp, where it leaves something to be kept.
+pub(crate) fn with_frame(alloc: Global, stamp: Stamp, outcome: Outcome) -> Result<Outcome, Memory>
+    requires { IsWritable (event_of stamp.0 (left_by outcome)) }
+    ensures { IfOk result (λ made. made ≡ record outcome { framed = framed_option (event_of stamp.0 (left_by outcome)) }) }
 {
-    if is_idle(&prepared.changes, &prepared.entry) {
-        return Ok(without_frame(prepared));
+    if is_idle(&outcome.changes, &outcome.records) {
+        return Ok(without_frame(outcome));
     }
-    with_event(alloc, stamp, prepared)
+    with_event(alloc, stamp, outcome)
 }
 
-fn is_idle(changes: &List<Change>, entry: &Option<Record>) -> bool
-    ensures { result ≡ is_idle changes.now (option_to_list entry.now) }
+fn is_idle(changes: &List<Change>, records: &List<Record>) -> bool
+    ensures { result ≡ is_idle changes.now records.now }
 {
-    changes.is_empty() && entry.is_none()
+    changes.is_empty() && records.is_empty()
 }
 
-fn with_event(alloc: Global, stamp: Stamp, prepared: Prepared) -> Result<Prepared, Memory>
-    requires { IsSpellable (AnyFrame.Event stamp prepared.changes (option_to_list prepared.entry)) }
-    ensures { IfOk result (λ made. made ≡ record prepared { framed = Option.Some (framed (AnyFrame.Event stamp prepared.changes (option_to_list prepared.entry))) }) }
+fn with_event(alloc: Global, stamp: Stamp, outcome: Outcome) -> Result<Outcome, Memory>
+    requires { IsSpellable (AnyFrame.Event stamp outcome.changes outcome.records) }
+    ensures { IfOk result (λ made. made ≡ record outcome { framed = Option.Some (framed (AnyFrame.Event stamp outcome.changes outcome.records)) }) }
 {
-    let Prepared {
+    let Outcome {
         reply,
         sessions,
         changes,
-        enabled,
-        entry,
+        records,
         last,
         framed: _,
-    } = prepared;
-    let written = write_event(alloc, stamp, changes, entry)?;
+    } = outcome;
+    let written = write_event(alloc, stamp, changes, records)?;
     let EventBytes {
         bytes,
         changes,
-        entry,
+        records,
     } = written;
-    Ok(Prepared {
+    Ok(Outcome {
         reply,
         sessions,
         changes,
-        enabled,
-        entry,
+        records,
         last,
         framed: Some(List::from_vec(bytes)),
     })
 }
 
-fn without_frame(prepared: Prepared) -> Prepared
-    ensures { result ≡ record prepared { framed = Option.None } }
+fn without_frame(outcome: Outcome) -> Outcome
+    ensures { result ≡ record outcome { framed = Option.None } }
 {
-    Prepared {
+    Outcome {
         framed: None,
-        ..prepared
+        ..outcome
     }
 }
 
@@ -81,38 +79,25 @@ fn write_event(
     alloc: Global,
     stamp: Stamp,
     changes: List<Change>,
-    entry: Option<Record>,
+    records: List<Record>,
 ) -> Result<EventBytes, Memory>
-    requires { IsSpellable (AnyFrame.Event stamp changes (option_to_list entry)) }
-    ensures bytes { IfOk result (λ written. written.bytes.items ≡ framed (AnyFrame.Event stamp changes (option_to_list entry))) }
+    requires { IsSpellable (AnyFrame.Event stamp changes records) }
+    ensures bytes { IfOk result (λ written. written.bytes.items ≡ framed (AnyFrame.Event stamp changes records)) }
     ensures changes { IfOk result (λ written. written.changes ≡ changes) }
-    ensures entry { IfOk result (λ written. written.entry ≡ entry) }
+    ensures records { IfOk result (λ written. written.records ≡ records) }
 {
     let frame = Frame::Event {
         stamp,
         changes,
-        records: records_of(alloc, entry)?,
+        records,
     };
     let bytes = write_framed(alloc, &frame)?;
     let (changes, records) = parts_of(frame);
     Ok(EventBytes {
         bytes,
         changes,
-        entry: only(records),
+        records,
     })
-}
-
-fn records_of(alloc: Global, entry: Option<Record>) -> Result<List<Record>, Memory>
-    ensures { IfOk result (λ records. records ≡ option_to_list entry) }
-{
-    let mut records = List::new(alloc);
-    match entry {
-        None => Ok(records),
-        Some(entry) => {
-            records.push(entry)?;
-            Ok(records)
-        }
-    }
 }
 
 fn parts_of(frame: Frame) -> (List<Change>, List<Record>)
@@ -135,14 +120,6 @@ fn parts_of(frame: Frame) -> (List<Change>, List<Record>)
             ..
         } => (changes, records),
     }
-}
-
-// The one record of a list that has one.
-fn only(records: List<Record>) -> Option<Record>
-    requires { length records ≤ 1 }
-    ensures { option_to_list result ≡ records }
-{
-    records.into_vec().pop()
 }
 
 /// What stands between the length and the gate of framed bytes.

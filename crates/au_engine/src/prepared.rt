@@ -7,36 +7,23 @@ ghost use Rattle.rec_codec.specs.Frames.{spelled};
 ghost use Rattle.au_engine.specs.Framing.{framed_option};
 
 use crate::framing::body_in;
-use crate::session::Session;
-use au_base::{ClientNo, List, Name, Reply, Stamp};
-use au_catalog::{Change, Enabled, Record};
+use crate::outcome::SessionChange;
+use au_base::{List, Reply, Stamp};
+use au_catalog::{Change, Record};
+use au_kept::Staged;
 
-/// What becomes of the sessions.
-#[derive(Debug, Drop, PartialEq, Eq)]
-pub enum SessionChange {
-    Nothing,
-    /// This session begins, as the instance's next one.
-    Begins(Session),
-    /// The client's session has these counts of statements and records.
-    Counts {
-        client: ClientNo,
-        statements: u32,
-        entries: u32,
-    },
-}
-
-/// A step that is worked out and not made yet: what it makes otherwise, without a copy of the
-/// rest.
-#[derive(Debug, Drop, PartialEq, Eq)]
+/// A step that is worked out and not made yet: what it makes otherwise, ready to be made without
+/// memory.
+#[derive(Debug, Drop)]
 pub struct Prepared {
     pub reply: Reply,
     pub sessions: SessionChange,
     /// What it changes of what is kept, in the order in which it happens.
     pub changes: List<Change>,
-    /// The enablements after the step, where it changes them.
-    pub enabled: Option<List<(Name, Enabled)>>,
-    /// The record that it leaves, where one is demanded.
-    pub entry: Option<Record>,
+    /// The same changes, ready to be made.
+    pub staged: Staged,
+    /// The records that it leaves.
+    pub records: List<Record>,
     /// The last stamp after the step.
     pub last: Stamp,
     /// The framed bytes of the event that it writes, where it leaves something to be kept.

@@ -1,16 +1,15 @@
 //! The list of sessions.
-ghost use Rattle.std.specs.Prelude.{◌≡◌, ◌≤◌, ◌<◌, ◌+◌, length, map, option_to_list, vec_len, vec_capacity};
+ghost use Rattle.std.specs.Prelude.{◌≡◌, ◌≤◌, ◌<◌, ◌+◌, map, vec_len, vec_capacity};
 ghost use Rattle.std.specs.Option.{option_copied};
 ghost use Rattle.au_base.specs.Limits.{INSTANCE_SESSIONS};
 ghost use Rattle.au_engine.specs.Abandoning.{sessions_without};
 ghost use Rattle.au_engine.specs.Prepared.{drawn_after, sessions_after};
 ghost use Rattle.au_engine.specs.Step.{counted, session_of, with_counts, with_more};
 
-use crate::prepared::SessionChange;
+use crate::outcome::SessionChange;
 use crate::session::Session;
 use au_base::ClientNo;
 use au_base::limits::SESSION_COUNT;
-use au_catalog::Record;
 
 /// The client's session.
 pub fn session_of(sessions: &[Session], client: ClientNo) -> Option<&Session>
@@ -26,14 +25,12 @@ pub fn counted(count: u32) -> u32
     count.saturating_add(1).min(SESSION_COUNT)
 }
 
-/// How many records the session has after this one, where there is one.
-pub fn entries_after(entries: u32, entry: &Option<Record>) -> u32
-    ensures { result ≡ with_more entries (length (option_to_list entry.now)) }
+/// How many records the session has after so many more.
+pub fn entries_after(entries: u32, more: usize) -> u32
+    ensures { result ≡ with_more entries more }
 {
-    match entry {
-        Some(_) => counted(entries),
-        None => entries.min(SESSION_COUNT),
-    }
+    let all = u64::from(entries).saturating_add(more as u64);
+    all.min(u64::from(SESSION_COUNT)) as u32
 }
 
 /// How many sessions the instance has drawn after the change.

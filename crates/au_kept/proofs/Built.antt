@@ -1,28 +1,26 @@
 -- What changes make of a building.
-use Rattle.std.proofs.Common.{◌≡◌, ◌≢◌, ◌≤◌, ◌∙◌, ℕ, Bool, true, false, not, ◌&&◌, ◌||◌, ◌↔◌, ◌⊎◌, inl, inr, cond, List, [], ◌∷◌, ◌++◌, map, refl, sym, ap, subst, Option, Some, None, Result, Ok, Err, arith}
-use Rattle.std.specs.Prelude.{◌==◌, ⊤, IfOk, IsTrue, OnOk, is_some, if◌then◌else◌}
-use Rattle.std.specs.List.{AllByRecursion, Contains, list_any}
-use Rattle.std.specs.Str.{bytes_eq}
+use Rattle.std.proofs.Common.{◌≡◌, ◌∙◌, ℕ, Bool, true, false, not, ◌||◌, ◌↔◌, List, [], ◌∷◌, ◌++◌, map, refl, sym, ap, subst, Option, Some, None, Result, Ok, Err, arith}
+use Rattle.std.specs.Prelude.{◌==◌, IfOk, IsTrue, OnOk, is_some, if◌then◌else◌}
+use Rattle.std.specs.List.{list_any}
 use Rattle.std.proofs.lemmas.Bool.{and_parts}
 use Rattle.std.proofs.lemmas.Bool.Decides.{nat_tests}
 use Rattle.au_base.specs.BuiltIn.{sys}
 use Rattle.au_base.specs.Sameness.{same_table}
 use Rattle.au_base.specs.declared.cell.Cell.{Cell}
-use Rattle.au_base.specs.declared.numbers.ClientNo.{ClientNo}
 use Rattle.au_base.specs.declared.numbers.RowNo.{RowNo}
 use Rattle.au_base.specs.declared.table.TableName.{TableName}
 use Rattle.au_catalog.specs.declared.catalog.Catalog.{Catalog}
 use Rattle.au_catalog.specs.Settling.{catalog_after}
 use Rattle.au_entries.specs.declared.change.Change.{Change}
-use Rattle.au_entries.specs.declared.change.Change.TheVariants.{User, UserGone, Role, RoleGone, SysGrant, SysRevoke, RoleGrant, RoleRevoke, ObjGrant, ObjRevoke, Table as MakesTable, TableGone, Put, Gone, Policy, PolicyGone, Enable, Fga, FgaGone, Archive, Start}
+use Rattle.au_entries.specs.declared.change.Change.TheVariants.{Table as MakesTable, TableGone, Put, Gone}
 use Rattle.au_entries.specs.declared.kept.Kept.{Kept}
 use Rattle.au_entries.specs.declared.table.Table.{Table}
 use Rattle.au_entries.specs.Changing.{KeptRow, changed, changed_all, grants_after, instance_after, is_row, rows_after}
 use Rattle.au_entries.specs.Imaging.{nothing}
-use Rattle.au_entries.specs.Lawful.{IsFounded, IsLawful, IsRowFounded}
+use Rattle.au_entries.specs.Lawful.{IsFounded, IsRowFounded}
 use Rattle.au_entries.specs.Replaying.{AllGoOn, GoesOn, IsKeptTable, has_table, has_user}
 use Rattle.au_grants.specs.Rights.{Grants}
-use Rattle.au_image.specs.Image.{kept_of, open_table}
+use Rattle.au_image.specs.Image.{kept_of}
 use Rattle.au_kept.specs.declared.building.Building.{Building}
 use Rattle.au_kept.specs.Building.{CanTake, IsFirm, IsQuiet, kept_in}
 use Rattle.au_kept.specs.Sound.{IsKept}
@@ -30,7 +28,7 @@ use Rattle.au_kept.proofs.Among.{all_at, any_from, any_to}
 use Rattle.au_kept.proofs.OpenTables.{IsNewIn, open_there, same_name, same_name_to}
 use Rattle.au_replay.specs.Reading.{conditions}
 use Rattle.au_replay.specs.Sights.{showable}
-use Rattle.au_replay.specs.Touched.{AreFew, IsWholeRow, IsWholeWhereTouched}
+use Rattle.au_replay.specs.Touched.{IsWholeRow, IsWholeWhereTouched}
 use Rattle.au_txn.specs.declared.change.RowChange.{RowChange}
 use Rattle.au_txn.specs.Desks.{Contents as Desk, is_open, open_of, replayer}
 use Rattle.au_txn.specs.Logs.{changes_of}

@@ -1,5 +1,5 @@
 -- What can be written of an entry can be written with another admin option, and where names of it are gone.
-use Rattle.std.proofs.Common.{◌≡◌, ◌∙◌, ℕ, ◌≤◌, ◌<◌, ◌^◌, Bool, true, false, not, cond, if◌then◌else◌, List, [], ◌∷◌, length, map, refl, sym, ap, arith}
+use Rattle.std.proofs.Common.{◌≡◌, ◌∙◌, ℕ, ◌≤◌, ◌<◌, ◌^◌, Bool, true, false, not, cond, if◌then◌else◌, List, [], ◌∷◌, length, map, sym, ap, arith}
 use Rattle.std.specs.Prelude.{◌==◌, nat_le}
 use Rattle.std.specs.Cmp.Lexicographic.{nat_list_eq_equiv}
 use Rattle.std.specs.List.{AllByRecursion, IsDistinct, filter, list_any}
@@ -19,8 +19,7 @@ use Rattle.au_entries.specs.Changing.{without_user}
 use Rattle.au_entries.specs.Enabling.{for_users}
 use Rattle.au_entries.specs.Imaging.{enablement_change, role_grant_change, system_change}
 use Rattle.au_grants.specs.Changing.{with_admin, with_grant, without}
-use Rattle.au_grants.specs.Rights.{RoleEntry, SystemEntry}
-use Rattle.rec_codec.specs.Changes.{IsChangeSpellable, IsEnabledSpellable, are_users, enabled, enablement, role_grant, system_grant, users}
+use Rattle.rec_codec.specs.Changes.{IsChangeSpellable, IsEnabledSpellable, enabled, enablement, role_grant, system_grant, users}
 use Rattle.rec_parts.specs.Parts.{name, names, outcomes, truth}
 use Rattle.rec_parts.specs.Spelling.{is_without_repeats, pair}
 use Rattle.au_kept.proofs.Lists.{all_kept, all_made, all_mapped, all_placed, all_unmapped}

@@ -5,16 +5,17 @@ use Rattle.au_base.specs.declared.numbers.ClientNo.{ClientNo}
 use Rattle.au_base.specs.declared.table.TableName.{TableName}
 use Rattle.au_entries.specs.declared.kept.Kept.{Kept}
 use Rattle.au_entries.specs.Imaging.{nothing}
-use Rattle.au_image.specs.Image.{IsDeskOf, IsWritable, kept_rows, open_table}
+use Rattle.au_image.specs.Image.{IsWritable, kept_rows, open_table}
 use Rattle.au_rows.specs.declared.table.Table.{Table as OpenTable}
 use Rattle.au_txn.specs.declared.change.RowChange.{RowChange}
 use Rattle.au_txn.specs.Desks.{Contents as Desk, key_of, open_of, replayer}
 use Rattle.au_txn.specs.Logs.{changes_of}
 use Rattle.au_txn.specs.Keys.{IsKeyedDesk, KeysDiffer}
 use Rattle.au_txn.specs.Rows.{Row, of_triple, triple_of}
-use Rattle.au_kept.specs.Keeping.{Contents, HoldsTogether, desk_of}
+use Rattle.au_kept.specs.Keeping.{HoldsTogether, desk_of}
 use Rattle.au_replay.specs.Reading.{conditions}
 use Rattle.au_kept.specs.Sound.{IsKept}
+use Rattle.au_kept.proofs.Sounds.{quiet_sound}
 
 -- a desk without anything
 abbrev bare : Desk
@@ -39,6 +40,7 @@ bare_holds keyed kept = record {
   kept_is = kept;
   desk_is = record { tables_are = refl; quiet = refl };
   keyed = keyed bare bare_open (λ table. tt);
+  changes = quiet_sound nothing bare bare_open refl kept.lawful.founded.rows kept.whole.few.rows;
 }
 
 -- where nothing is kept and the desk is bare, they hold together
@@ -72,3 +74,7 @@ keyed_seen back kept desk room rows_are h = subst IsKeyedDesk (desk_seen back ke
 pub quiet_seen : ((rows : List Row) → map of_triple (map triple_of rows) ≡ rows) → (kept : Kept) (desk : Desk) (room : ℕ) → kept.rows ≡ kept_rows desk → HoldsTogether kept desk
     → open_of (desk_of (record { kept = kept; logs = desk.logs; spare = desk.spare; room = room })) replayer ≡ []
 quiet_seen back kept desk room rows_are h = subst (λ (d : Desk). open_of d replayer ≡ []) (desk_seen back kept desk room rows_are h) h.desk_is.quiet
+
+pub together_seen : ((rows : List Row) → map of_triple (map triple_of rows) ≡ rows) → (kept : Kept) (desk : Desk) (room : ℕ) → kept.rows ≡ kept_rows desk → HoldsTogether kept desk
+    → HoldsTogether kept (desk_of (record { kept = kept; logs = desk.logs; spare = desk.spare; room = room }))
+together_seen back kept desk room rows_are h = subst (HoldsTogether kept) (desk_seen back kept desk room rows_are h) h

@@ -1,7 +1,6 @@
 -- The image of what is kept is a frame, and makes of nothing what was kept.
-use Rattle.std.proofs.Common.{◌≡◌, ◌∙◌, ℕ, ◌≤◌, ◌<◌, ◌^◌, List, [], ◌∷◌, length, refl, sym, ap, subst, arith}
-use Rattle.std.specs.Prelude.{IsTrue, true, nat_le, None}
-use Rattle.std.specs.List.{AllByRecursion}
+use Rattle.std.proofs.Common.{◌≡◌, ◌≤◌, ◌<◌, ◌^◌, List, [], length, sym, ap, subst, arith}
+use Rattle.std.specs.Prelude.{IsTrue, true}
 use Rattle.std.proofs.lemmas.Bool.Decides.{nat_tests}
 use Rattle.au_base.specs.BuiltIn.{sys}
 use Rattle.au_base.specs.Limits.{LAST_MOMENT}
@@ -9,7 +8,6 @@ use Rattle.au_base.specs.declared.numbers.Stamp.{Stamp}
 use Rattle.au_entries.specs.declared.kept.Kept.{Kept}
 use Rattle.au_entries.specs.declared.trail_record.Record.{Record}
 use Rattle.au_entries.specs.Changing.{changed_all}
-use Rattle.au_entries.specs.Frames.{PartsGoOn}
 use Rattle.au_entries.specs.Imaging.{image_changes, nothing}
 use Rattle.au_entries.specs.Lawful.{IsLawful, IsWhole}
 use Rattle.au_entries.specs.Replaying.{AllGoOn, Conditions, has_user}

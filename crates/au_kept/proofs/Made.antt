@@ -1,6 +1,6 @@
 -- What holds where staged changes are made.
-use Rattle.std.proofs.Common.{◌≡◌, ◌∙◌, ℕ, ◌≤◌, List, [], ◌++◌, map, refl, sym, ap, ap₂, subst}
-use Rattle.std.specs.Prelude.{false, IsTrue, Option, Some, None}
+use Rattle.std.proofs.Common.{◌≡◌, ◌≢◌, ◌∙◌, inr, ℕ, List, [], ◌++◌, map, sym, ap, ap₂, subst}
+use Rattle.std.specs.Prelude.{false, IsTrue, Option, Some}
 use Rattle.std.specs.List.{AllByRecursion, filter_map}
 use Rattle.au_base.specs.declared.numbers.ClientNo.{ClientNo}
 use Rattle.au_base.specs.declared.numbers.Stamp.{Stamp}
@@ -11,7 +11,6 @@ use Rattle.au_entries.specs.declared.change.Change.{Change}
 use Rattle.au_entries.specs.declared.kept.Kept.{Kept}
 use Rattle.au_entries.specs.declared.table.Table.{Table}
 use Rattle.au_entries.specs.declared.trail_record.Record.{Record}
-use Rattle.au_entries.specs.Changing.{changed_all}
 use Rattle.au_entries.specs.Frames.{after_parts, trail_left}
 use Rattle.au_entries.specs.Lawful.{IsOrdered}
 use Rattle.au_grants.specs.declared.change.GrantChange.{GrantChange}
@@ -21,17 +20,21 @@ use Rattle.au_image.specs.Image.{kept_of, kept_rows, open_table}
 use Rattle.au_kept.specs.declared.staged.Staged.{Staged}
 use Rattle.au_kept.specs.declared.staged.TableEdit.{TableEdit}
 use Rattle.au_kept.specs.Keeping.{Contents, HoldsTogether, desk_of}
+use Rattle.au_kept.specs.OpenChanges.{AreSoundChanges}
 use Rattle.au_kept.specs.Sound.{IsKept}
 use Rattle.au_kept.specs.Staging.{CanSettle, IsFree, IsLogged, IsStaged, committed_for, number_after, table_edit}
 use Rattle.au_kept.specs.descent.Tabling.{CanEdit, left_open, rows_edited_all, rows_for, tables_edited_all}
-use Rattle.au_kept.proofs.Frames.{AreSpellable}
-use Rattle.au_kept.proofs.Held.{desk_seen}
+use Rattle.au_kept.proofs.Held.{desk_seen, none_laid}
 use Rattle.au_kept.proofs.Settled.{Catalogs, Settles, StaysLawful, Triples, logged_follows, logged_goes, settled_kept, settled_sound, tables_stay}
+use Rattle.au_kept.proofs.SettledChanges.{settled_changes}
+use Rattle.au_kept.proofs.Sounds.{LeftRows, Untouched, same_sound}
 use Rattle.au_kept.proofs.Tabled.{can_edit, tables_follow}
+use Rattle.au_kept.proofs.Written.{open_lists}
 use Rattle.au_replay.specs.Reading.{conditions}
 use Rattle.au_rows.specs.declared.table.Table.{Table as OpenTable}
 use Rattle.au_txn.specs.Desks.{Contents as Desk, open_in, open_of, replayer}
 use Rattle.au_txn.specs.Keys.{IsKeyedDesk}
+use Rattle.au_txn.specs.Logs.{changes_of}
 use Rattle.au_txn.specs.Rows.{Row, are_in_order, of_triple, triple_of}
 
 -- the catalogue stands in order where what is kept does
@@ -83,11 +86,14 @@ settled_at triples settles catalogues self commits staged records purge last des
     trail_is
     (number_is ∙ ap (λ (n : Option ℕ). number_after n self.kept.instance) is.instance)
 
-pub settle_holds : Triples → Settles → StaysLawful → (self : Contents) (commits : Option ClientNo) (staged : Staged) (records : List Record) (purge : Option (Option Stamp)) (last : Stamp) (desk next : Desk) (kept : Kept)
+pub settle_holds : Triples → Settles → StaysLawful → Untouched → LeftRows → (self : Contents) (commits : Option ClientNo) (staged : Staged) (records : List Record) (purge : Option (Option Stamp)) (last : Stamp) (desk next : Desk) (kept : Kept)
     → Seen self desk → IsKept conditions self.kept → Can self commits staged records last
     → ((changes logged : List Change) → IsStaged changes staged → IsLogged commits self changes logged → kept ≡ after_parts conditions.tree last purge logged records self.kept)
-    → next.tables ≡ tables_edited_all staged.tables.items desk.tables → open_of next replayer ≡ [] → IsKeyedDesk next → HoldsTogether kept next
-settle_holds triples settles lawful self commits staged records purge last desk next kept seen sound (changes, is, can) settled tables quiet keyed =
+    → next.tables ≡ tables_edited_all staged.tables.items desk.tables → open_of next replayer ≡ [] → IsKeyedDesk next → AreSoundChanges self.kept.tables desk → open_of desk replayer ≡ []
+    → next.rows ≡ rows_edited_all staged.tables.items (rows_for commits desk)
+    → ((client : ClientNo) → commits ≡ Some client → changes_of client next.logs ≡ []) → ((client : ClientNo) → commits ≢ Some client → changes_of client next.logs ≡ changes_of client desk.logs)
+    → HoldsTogether kept next
+settle_holds triples settles lawful untouched gone self commits staged records purge last desk next kept seen sound (changes, is, can) settled tables quiet keyed sound_changes quiet_before rows own others =
     let same = settled changes can.logged is can.is_logged in
     let ordered = seen_ordered self desk seen in
     let goes = logged_goes triples settles conditions false commits self changes can.logged ordered can.is_logged can.go_on in
@@ -103,6 +109,14 @@ settle_holds triples settles lawful self commits staged records purge last desk 
         quiet = quiet;
       };
       keyed = keyed;
+      changes =
+          subst (λ (k : Kept). AreSoundChanges k.tables next) (sym (logged_follows triples settles conditions.tree commits self changes can.logged ordered can.is_logged))
+          (settled_changes untouched gone conditions commits (committed_for commits self) desk next changes staged.tables.items
+          (subst (λ (ts : List Table). AreSoundChanges ts desk) (sym (tables_stay commits self)) sound_changes) goes
+          (subst (λ (d : Desk). AllByRecursion (IsFree commits d) changes) (sym seen.desk_is) can.settled)
+          (λ client commits_it. open_lists next (none_laid next quiet) client ∙ own client commits_it)
+          (λ client other. open_lists next (none_laid next quiet) client ∙ others client other ∙ sym (open_lists desk (none_laid desk quiet_before) client))
+          rows);
     })
 
 -- a desk with more room holds what is kept together too
@@ -116,4 +130,5 @@ roomier kept other desk next h same tables rows logs laid keyed =
       kept_is = h.kept_is;
       desk_is = record { tables_are = tables ∙ h.desk_is.tables_are; quiet = open_same replayer ∙ h.desk_is.quiet };
       keyed = keyed desk next h.keyed tables rows open_same;
+      changes = same_sound kept.tables desk next h.changes rows (λ q. inr (open_same q));
     })

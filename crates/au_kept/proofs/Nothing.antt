@@ -1,11 +1,11 @@
 -- Before any frame nothing is kept, which is lawful, whole and can be written.
-use Rattle.std.proofs.Common.{◌≡◌, ℕ, ◌≤◌, ◌<◌, ◌^◌, List, [], ◌∷◌, ◌++◌, refl, arith}
+use Rattle.std.proofs.Common.{ℕ, ◌<◌, ◌^◌, List, [], ◌∷◌, ◌++◌, refl, arith}
 use Rattle.std.specs.List.{Contains}
 use Rattle.std.specs.Int.{byte_len, w32}
 use Rattle.au_entries.specs.Imaging.{nothing}
 use Rattle.au_entries.specs.Lawful.{IsLawful, IsWhole}
 use Rattle.au_entries.specs.Replaying.{Conditions}
-use Rattle.au_grants.specs.Rights.{HasNoCircle, IsChain, IsRoleGranted}
+use Rattle.au_grants.specs.Rights.{HasNoCircle, IsChain}
 use Rattle.au_image.specs.Image.{IsSpelled}
 use Rattle.au_kept.specs.Sound.{IsKept}
 

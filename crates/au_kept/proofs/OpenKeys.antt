@@ -1,5 +1,5 @@
 -- The keys of the tables that are open for rows.
-use Rattle.std.proofs.Common.{◌≡◌, ◌≢◌, ◌∙◌, ◌⊎◌, inl, inr, ℕ, zero, suc, ◌<◌, Bool, true, false, ◌&&◌, List, [], ◌∷◌, length, map, get_or, refl, sym, ap, ap₂, subst, arith}
+use Rattle.std.proofs.Common.{◌≡◌, ◌≢◌, ◌∙◌, ◌⊎◌, inl, inr, ℕ, zero, suc, ◌<◌, Bool, true, false, List, [], ◌∷◌, length, map, refl, sym, ap, ap₂, subst, arith}
 use Rattle.std.specs.Prelude.{IsTrue, ◌||◌, Option, Some, None, if◌then◌else◌}
 use Rattle.std.specs.List.{Contains, list_all, list_any, slice_get, slice_index}
 use Rattle.std.specs.Option.{unwrap_or}
@@ -22,7 +22,7 @@ use Rattle.au_entries.specs.Replaying.{IsKeptTable}
 use Rattle.au_image.specs.Image.{open_table}
 use Rattle.au_kept.proofs.Written.{same_name}
 use Rattle.au_rows.specs.Held.{HasKey}
-use Rattle.au_txn.specs.Desks.{has_name, key_of}
+use Rattle.au_txn.specs.Desks.{key_of}
 use Rattle.au_txn.specs.Keys.{KeysDiffer}
 use Rattle.au_txn.specs.Rows.{Row, row_at, triple_of}
 

@@ -1,6 +1,6 @@
 -- The tables that are open for rows and those of the catalogue.
-use Rattle.std.proofs.Common.{◌≡◌, ◌∙◌, ℕ, Bool, true, false, not, cond, ◌&&◌, inl, inr, List, [], ◌∷◌, ◌++◌, map, refl, sym, ap, ap₂, subst}
-use Rattle.std.specs.Prelude.{IsTrue, ⊤, ◌||◌, if◌then◌else◌}
+use Rattle.std.proofs.Common.{◌≡◌, ◌∙◌, ℕ, Bool, true, false, not, cond, inl, inr, List, [], ◌∷◌, ◌++◌, map, refl, sym, ap, ap₂, subst}
+use Rattle.std.specs.Prelude.{⊤, ◌||◌, if◌then◌else◌}
 use Rattle.std.specs.List.{AllByRecursion, Contains, filter, list_all, list_any}
 use Rattle.std.specs.declared.cmp.Ordering.{Ordering}
 use Rattle.std.specs.declared.cmp.Ordering.TheVariants.{Less, Equal, Greater}
@@ -21,7 +21,7 @@ use Rattle.au_entries.specs.declared.table.Table.{Table}
 use Rattle.au_entries.specs.Changing.{by_fields, put_in_order, table_fields, tables_after}
 use Rattle.au_image.specs.Image.{open_table}
 use Rattle.au_kept.specs.Building.{opened_after}
-use Rattle.au_kept.proofs.Among.{each_of, here, none, split, there}
+use Rattle.au_kept.proofs.Among.{each_of, none, split}
 use Rattle.au_replay.specs.Sights.{AreOpenKeyed}
 use Rattle.au_rows.specs.declared.table.Table.{Table as OpenTable}
 use Rattle.au_txn.specs.Desks.{has_name, is_open, key_of as open_key, table_before}
@@ -36,7 +36,7 @@ then_equal Greater b e = absurd (let no : Greater ≡ Equal = e in cc)
 same_text : (a b : List ℕ) → slice_cmp nat_cmp a b ≡ Equal → bytes_eq a b ≡ true
 same_text a b e = sym (is_eq-slice_cmp a b) ∙ ap is_eq e
 
-same_at : (a b : TableName) → by_fields (table_fields a) (table_fields b) ≡ Equal → same_table a b ≡ true
+pub same_at : (a b : TableName) → by_fields (table_fields a) (table_fields b) ≡ Equal → same_table a b ≡ true
 same_at a b e =
     let one = then_equal (slice_cmp nat_cmp a.owner b.owner) _ e in
     let two = then_equal (slice_cmp nat_cmp a.name b.name) _ one.1 in

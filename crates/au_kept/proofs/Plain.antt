@@ -1,7 +1,7 @@
 -- What one plain change leaves of what is kept.
-use Rattle.std.proofs.Common.{◌≡◌, ◌∙◌, ℕ, suc, ◌+◌, ◌≤◌, ◌<◌, Bool, true, false, not, cond, if◌then◌else◌, List, [], ◌∷◌, ◌++◌, length, map, refl, sym, ap, subst, arith}
-use Rattle.std.specs.Prelude.{◌↔◌, ◌||◌, IsTrue, Option, None}
-use Rattle.std.specs.List.{AllByRecursion, filter, list_any}
+use Rattle.std.proofs.Common.{◌≡◌, ◌∙◌, ℕ, suc, ◌+◌, ◌≤◌, ◌<◌, Bool, true, false, not, cond, List, [], ◌∷◌, length, refl, sym, ap, subst, arith}
+use Rattle.std.specs.Prelude.{◌↔◌, ◌||◌, IsTrue, None}
+use Rattle.std.specs.List.{AllByRecursion, filter}
 use Rattle.std.specs.declared.cmp.Ordering.{Ordering}
 use Rattle.std.specs.declared.cmp.Ordering.TheVariants.{Less, Equal, Greater}
 use Rattle.std.specs.Ordering.{is_gt, is_lt}
@@ -34,7 +34,7 @@ use Rattle.au_kept.specs.Staging.{CanSettle, IsFree, IsOfRow}
 use Rattle.au_kept.proofs.Replayed.{TouchedSuffices}
 use Rattle.au_kept.proofs.Written.{open_lists}
 use Rattle.au_replay.specs.Reading.{conditions}
-use Rattle.au_replay.specs.Touched.{AreFew, IsWholeWhereTouched, makes_table, puts_into, puts_row}
+use Rattle.au_replay.specs.Touched.{AreFew, makes_table, puts_into, puts_row}
 use Rattle.au_txn.specs.Desks.{Contents as Desk, open_of}
 use Rattle.au_txn.specs.Logs.{Changes, changes_of}
 use Rattle.au_txn.specs.Transactions.{names_table}

@@ -1,7 +1,7 @@
 -- What is built anew, and how it takes the place of what was kept.
-use Rattle.std.proofs.Common.{◌≡◌, ◌≢◌, ◌≤◌, ◌∙◌, ℕ, suc, Bool, true, false, ◌↔◌, List, [], ◌∷◌, ◌++◌, map, refl, sym, ap, ap₂, subst, get_or, inl, inr, length, arith}
-use Rattle.std.specs.Prelude.{IsTrue, ⊤, if◌then◌else◌, slice_get, slice_index, Option, Some, None, Result, Ok, Err, IfOk, MatchOption}
-use Rattle.std.specs.List.{AllByRecursion, Contains}
+use Rattle.std.proofs.Common.{◌≡◌, ◌≤◌, ◌∙◌, ℕ, suc, Bool, true, false, ◌↔◌, List, [], ◌∷◌, ◌++◌, map, refl, sym, ap, ap₂, subst, inl, inr, arith}
+use Rattle.std.specs.Prelude.{IsTrue, if◌then◌else◌, Option, Some, None, Result, Ok, Err, IfOk}
+use Rattle.std.specs.List.{Contains}
 use Rattle.std.proofs.lemmas.Option.{get_or_from_slice_get}
 use Rattle.au_base.specs.BuiltIn.{sys}
 use Rattle.au_base.specs.Limits.{GRANTS}
@@ -32,6 +32,7 @@ use Rattle.au_kept.specs.Keeping.{HoldsTogether}
 use Rattle.au_kept.specs.Sound.{IsKept}
 use Rattle.au_kept.proofs.Among.{here, none, split, there}
 use Rattle.au_kept.proofs.OpenTables.{same_name}
+use Rattle.au_kept.proofs.Sounds.{quiet_sound}
 use Rattle.au_replay.specs.Reading.{conditions}
 use Rattle.au_replay.specs.Sights.{showable}
 use Rattle.au_replay.specs.Touched.{IsWholeRow, IsWholeWhereTouched}
@@ -209,6 +210,7 @@ taken_holds quiet stands parts kept next building stamped can b is tables rows =
       kept_is = h;
       desk_is = record { tables_are = tables_are; quiet = b.firm.desk_is.quiet };
       keyed = quiet building.desk b.firm.quiet (λ name. differ_by stands next building.desk (tables_are, rows) h.whole.keys name (open_key name building.desk.tables) refl);
+      changes = quiet_sound next building.desk b.firm.quiet rows h.lawful.founded.rows h.whole.few.rows;
     }
 
 -- ---- clients without changes

@@ -1,9 +1,8 @@
 -- What a frame of rows makes of what is kept, and when it goes on.
-use Rattle.std.proofs.Common.{◌≡◌, ◌∙◌, ℕ, ◌≤◌, Bool, true, false, List, [], ◌∷◌, ◌++◌, map, refl, sym, ap, subst}
-use Rattle.std.specs.Prelude.{◌↔◌, IfOk, IsTrue, OnErr, Option, Result, Ok, Err}
+use Rattle.std.proofs.Common.{◌≡◌, ◌∙◌, ℕ, ◌≤◌, Bool, true, false, List, [], ◌++◌, map, refl, sym, ap, subst}
+use Rattle.std.specs.Prelude.{◌↔◌, IfOk, IsTrue, Option, Result, Ok, Err}
 use Rattle.std.specs.List.{AllByRecursion}
 use Rattle.au_base.specs.BuiltIn.{sys}
-use Rattle.au_base.specs.declared.numbers.ClientNo.{ClientNo}
 use Rattle.au_base.specs.declared.numbers.Stamp.{Stamp}
 use Rattle.au_catalog.specs.declared.catalog.Catalog.{Catalog}
 use Rattle.au_entries.specs.declared.change.Change.{Change}
@@ -21,10 +20,11 @@ use Rattle.au_kept.specs.Staging.{IsOfRow}
 use Rattle.au_kept.specs.descent.Laying.{IsAlone, kept_seen}
 use Rattle.au_kept.proofs.Rowed.{changed_still, goes_to, kept_restamped, trail_same, users_same}
 use Rattle.au_kept.proofs.RowsLaid.{none_open, seen_bare}
-use Rattle.au_kept.proofs.Settled.{StaysLawful, whole_still}
+use Rattle.au_kept.proofs.Sounds.{quiet_sound}
+use Rattle.au_kept.proofs.Settled.{whole_still}
 use Rattle.au_replay.specs.Reading.{conditions}
 use Rattle.au_replay.specs.Touched.{IsWholeWhereTouched}
-use Rattle.au_txn.specs.Desks.{Contents as Desk, open_of, replayer}
+use Rattle.au_txn.specs.Desks.{Contents as Desk, replayer}
 use Rattle.au_txn.specs.Keys.{IsKeyedDesk}
 use Rattle.au_txn.specs.Rows.{triple_of}
 
@@ -78,12 +78,15 @@ after_told kept next changes trail last (Err error) told = tt
 pub laid_holds : (catalog : Catalog) (grants : Grants) (trail : List Record) (last : Stamp) (instance : ℕ) (desk next : Desk)
     → HoldsTogether (kept_of catalog grants (kept_rows desk) trail last instance) desk → next.tables ≡ desk.tables → IsAlone next → next.laid ≡ [] → IsKeyedDesk next → IsKept conditions (kept_seen catalog grants next instance)
     → HoldsTogether (kept_of catalog grants (kept_rows next) trail last instance) next
-laid_holds catalog grants trail last instance desk next h tables alone bare keyed sound = record {
-  kept_is = subst (λ (rows : List KeptRow). IsKept conditions (kept_of catalog grants rows trail last instance)) (seen_bare next bare alone)
-      (kept_restamped conditions (kept_seen catalog grants next instance) trail last h.kept_is.lawful.last h.kept_is.spelled.records sound);
-  desk_is = record { tables_are = tables ∙ h.desk_is.tables_are; quiet = none_open next bare alone replayer };
-  keyed = keyed;
-}
+laid_holds catalog grants trail last instance desk next h tables alone bare keyed sound =
+    let kept = subst (λ (rows : List KeptRow). IsKept conditions (kept_of catalog grants rows trail last instance)) (seen_bare next bare alone)
+    (kept_restamped conditions (kept_seen catalog grants next instance) trail last h.kept_is.lawful.last h.kept_is.spelled.records sound) in
+    record {
+      kept_is = kept;
+      desk_is = record { tables_are = tables ∙ h.desk_is.tables_are; quiet = none_open next bare alone replayer };
+      keyed = keyed;
+      changes = quiet_sound (kept_of catalog grants (kept_rows next) trail last instance) next (none_open next bare alone) refl kept.lawful.founded.rows kept.whole.few.rows;
+    }
 
 -- ---- the frame
 

@@ -1,12 +1,11 @@
 -- Which frames can be replayed anew on what is kept.
-use Rattle.std.proofs.Common.{◌≡◌, true, false, refl, List}
-use Rattle.std.specs.Prelude.{IsTrue, Option, Some, None}
+use Rattle.std.proofs.Common.{◌≡◌, true, false, List}
+use Rattle.std.specs.Prelude.{Option, Some, None}
 use Rattle.au_base.specs.declared.numbers.Stamp.{Stamp}
 use Rattle.au_entries.specs.declared.change.Change.{Change}
 use Rattle.au_entries.specs.declared.kept.Kept.{Kept}
 use Rattle.au_entries.specs.declared.trail_record.Record.{Record}
 use Rattle.au_entries.specs.Imaging.{nothing}
-use Rattle.au_kept.specs.declared.parts.Parts.{Parts}
 use Rattle.au_kept.specs.Anew.{CanReplay}
 use Rattle.au_kept.specs.Frames.{IsReplayable, after_frame}
 use Rattle.au_kept.specs.Sound.{IsKept}

@@ -1,6 +1,6 @@
 -- Changes that are all of rows.
-use Rattle.std.proofs.Common.{◌≡◌, ◌∙◌, ℕ, ◌≤◌, Bool, List, [], ◌∷◌, ◌++◌, map, refl, sym, ap, subst}
-use Rattle.std.specs.Prelude.{IsTrue, false}
+use Rattle.std.proofs.Common.{◌≡◌, ℕ, ◌≤◌, Bool, List, [], ◌∷◌, refl, sym, subst}
+use Rattle.std.specs.Prelude.{false}
 use Rattle.std.specs.List.{AllByRecursion}
 use Rattle.au_base.specs.BuiltIn.{sys}
 use Rattle.au_base.specs.Limits.{LAST_MOMENT}
@@ -12,7 +12,6 @@ use Rattle.au_entries.specs.declared.trail_record.Record.{Record}
 use Rattle.au_entries.specs.Changing.{changed, changed_all}
 use Rattle.au_entries.specs.Lawful.{IsWhole}
 use Rattle.au_entries.specs.Replaying.{AllGoOn, Conditions, has_user}
-use Rattle.au_image.specs.Image.{IsSpelled}
 use Rattle.au_kept.specs.Sound.{IsKept}
 use Rattle.au_kept.specs.Staging.{IsOfRow}
 use Rattle.au_kept.proofs.Settled.{StaysLawful, restamped, whole_still}

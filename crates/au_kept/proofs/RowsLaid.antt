@@ -1,19 +1,18 @@
 -- Rows that are laid on a desk on which no client has changes.
-use Rattle.std.proofs.Common.{◌≡◌, ◌≢◌, ◌∙◌, ◌⊎◌, inl, inr, ℕ, ◌≤◌, Bool, true, false, ◌&&◌, List, [], ◌∷◌, ◌++◌, map, refl, sym, ap, ap₂, subst, arith}
-use Rattle.std.specs.Prelude.{◌==◌, ◌||◌, IsSome, IsTrue, Option, Some, None, if◌then◌else◌}
+use Rattle.std.proofs.Common.{◌≡◌, ◌≢◌, ◌∙◌, ◌⊎◌, inl, inr, ℕ, ◌≤◌, Bool, true, false, List, [], ◌∷◌, map, refl, sym, ap, subst, arith}
+use Rattle.std.specs.Prelude.{◌==◌, ◌||◌, IsSome, IsTrue, Option, Some, if◌then◌else◌}
 use Rattle.std.specs.List.{AllByRecursion, Contains, list_any}
 use Rattle.std.proofs.lemmas.Bool.Decides.{nat_tests}
 use Rattle.au_base.specs.declared.cell.Cell.{Cell}
 use Rattle.au_base.specs.declared.numbers.ClientNo.{ClientNo}
 use Rattle.au_base.specs.declared.numbers.RowNo.{RowNo}
 use Rattle.au_base.specs.declared.table.TableName.{TableName}
-use Rattle.au_entries.specs.Changing.{KeptRow, is_row}
+use Rattle.au_entries.specs.Changing.{is_row}
 use Rattle.au_image.specs.Image.{kept_rows}
 use Rattle.au_kept.specs.descent.Laying.{IsAlone}
 use Rattle.au_kept.proofs.OpenKeys.{none, split}
 use Rattle.au_kept.proofs.Written.{open_lists}
 use Rattle.au_replay.specs.Sights.{rows_of, rows_seen}
-use Rattle.au_rows.specs.declared.table.Table.{Table as OpenTable}
 use Rattle.au_txn.specs.declared.change.RowChange.{RowChange}
 use Rattle.au_txn.specs.Desks.{Contents as Desk, is_open, open_of, replayer}
 use Rattle.au_txn.specs.Logs.{changes_of}

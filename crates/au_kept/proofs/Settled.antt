@@ -1,5 +1,5 @@
 -- What is kept once staged changes are made of it.
-use Rattle.std.proofs.Common.{◌≡◌, ◌∙◌, ℕ, ◌≤◌, Bool, true, false, not, cond, List, [], ◌∷◌, ◌++◌, map, refl, sym, ap, subst}
+use Rattle.std.proofs.Common.{◌≡◌, ◌∙◌, ℕ, ◌≤◌, Bool, false, not, List, [], ◌∷◌, ◌++◌, map, refl, sym, ap, subst}
 use Rattle.std.specs.Prelude.{◌==◌, ◌&&◌, IsTrue, Option, Some, None}
 use Rattle.std.specs.List.{AllByRecursion, filter, filter_map, flat_map}
 use Rattle.std.specs.Ordering.{is_gt, is_lt, nat_cmp}
@@ -118,7 +118,7 @@ finals_follow triples tree (final ∷ finals) kept rows same =
 abbrev pub Settles : Type 0
 Settles = (rows : List Row) (changes : List RowChange) (finals : List Final) → IsTrue (are_in_order rows) → AreFinals rows changes finals → laid_all rows finals ≡ laid_over rows changes
 
-committed_by : Triples → Settles → (tree : List ℕ → Expr) (client : ClientNo) (contents : Contents) (finals : List Final) → IsTrue (are_in_order (desk_of contents).rows)
+pub committed_by : Triples → Settles → (tree : List ℕ → Expr) (client : ClientNo) (contents : Contents) (finals : List Final) → IsTrue (are_in_order (desk_of contents).rows)
     → AreFinals (desk_of contents).rows (open_of (desk_of contents) client) finals → changed_all tree (map final_change finals) contents.kept ≡ committed_for (Some client) contents
 committed_by triples settles tree client contents finals ordered are =
     finals_follow triples tree finals contents.kept (desk_of contents).rows (sym (triples.forth contents.kept.rows))

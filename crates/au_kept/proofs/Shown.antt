@@ -1,7 +1,6 @@
 -- What a sight shows, and what is kept.
-use Rattle.std.proofs.Common.{◌≡◌, Bool, true, false, List, [], refl, sym, ap, subst}
-use Rattle.std.specs.Prelude.{◌↔◌, IfOk, IsTrue, Option, Some, None, Result, Ok, Err}
-use Rattle.std.specs.List.{Contains}
+use Rattle.std.proofs.Common.{◌≡◌, Bool, false, List, sym, subst}
+use Rattle.std.specs.Prelude.{◌↔◌, IfOk, IsTrue, Result, Ok, Err}
 use Rattle.au_entries.specs.declared.change.Change.{Change}
 use Rattle.au_entries.specs.declared.kept.Kept.{Kept}
 use Rattle.au_entries.specs.Changing.{KeptRow}

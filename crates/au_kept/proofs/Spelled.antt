@@ -1,8 +1,7 @@
 -- What can be written of all that is kept can be written after each change that has a spelling, part by part.
-use Rattle.std.proofs.Common.{◌≡◌, ◌∙◌, ℕ, Bool, true, false, not, cond, if◌then◌else◌, List, [], ◌∷◌, ◌++◌, map, refl, sym, ap, subst}
-use Rattle.std.specs.Prelude.{⊤, Option, Some, None}
-use Rattle.std.specs.List.{AllByRecursion, filter, list_any}
-use Rattle.std.specs.Int.{w32}
+use Rattle.std.proofs.Common.{◌≡◌, ℕ, Bool, true, false, not, if◌then◌else◌, List, [], ◌∷◌, ◌++◌, map, refl, sym, subst}
+use Rattle.std.specs.Prelude.{Option, Some, None}
+use Rattle.std.specs.List.{AllByRecursion, list_any}
 use Rattle.std.specs.Str.{bytes_eq}
 use Rattle.au_base.specs.Order.{placed}
 use Rattle.au_base.specs.Sameness.{same_table}
@@ -15,9 +14,9 @@ use Rattle.au_entries.specs.declared.policy.AuditPolicy.{AuditPolicy}
 use Rattle.au_entries.specs.declared.policy.Enabled.{Enabled}
 use Rattle.au_entries.specs.declared.policy.Evaluate.{Evaluate}
 use Rattle.au_entries.specs.declared.table.Table.{Table as AnyTable}
-use Rattle.au_entries.specs.Changing.{KeptRow, archive_after, by_fields, by_name, changed, changed_all, enabled_after, fga_after, fga_fields, grant_changes, grants_after, instance_after, is_fga, is_on, is_row, policies_after, put_in_order, read_as, roles_after, row_fields, rows_after, table_fields, tables_after, users_after, with_tree, without_user}
+use Rattle.au_entries.specs.Changing.{KeptRow, archive_after, by_name, changed, changed_all, enabled_after, fga_after, grants_after, instance_after, is_fga, is_on, is_row, policies_after, put_in_order, read_as, roles_after, rows_after, tables_after, users_after, with_tree, without_user}
 use Rattle.au_entries.specs.Imaging.{archive_changes, enablement_change, fga_change, image_changes, object_change, policy_change, role_change, role_grant_change, row_change, system_change, table_change, user_change, written_condition, written_text}
-use Rattle.au_grants.specs.Changing.{names_role, names_table, object_to, role_to, system_to, with_object, without}
+use Rattle.au_grants.specs.Changing.{names_role, names_table, object_to, role_to, system_to, without}
 use Rattle.au_grants.specs.Holding.{grants_object, grants_privilege, grants_role}
 use Rattle.au_grants.specs.Order.{object_before, role_before, system_before}
 use Rattle.au_grants.specs.Rights.{Grants, ObjectEntry, RoleEntry, SystemEntry}

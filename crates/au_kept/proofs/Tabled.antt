@@ -1,7 +1,7 @@
 -- How the tables that are open for rows go with those of the catalogue.
-use Rattle.std.proofs.Common.{◌≡◌, ◌≢◌, ◌∙◌, ◌⊎◌, inl, inr, ℕ, suc, ◌+◌, ◌≤◌, Bool, true, false, not, cond, ◌&&◌, List, [], ◌∷◌, ◌++◌, length, map, refl, sym, ap, ap₂, subst, arith}
-use Rattle.std.specs.Prelude.{◌==◌, IsTrue, ◌||◌, Option, Some, None, if◌then◌else◌}
-use Rattle.std.specs.List.{AllByRecursion, Contains, filter, filter_map, list_any}
+use Rattle.std.proofs.Common.{◌≡◌, ◌≢◌, ◌∙◌, ℕ, ◌+◌, ◌≤◌, Bool, true, false, not, cond, List, [], ◌∷◌, ◌++◌, length, map, refl, sym, ap, ap₂, subst, arith}
+use Rattle.std.specs.Prelude.{◌==◌, ◌||◌, Option, Some, None, if◌then◌else◌}
+use Rattle.std.specs.List.{AllByRecursion, filter, filter_map, list_any}
 use Rattle.std.specs.declared.cmp.Ordering.{Ordering}
 use Rattle.std.specs.declared.cmp.Ordering.TheVariants.{Less, Equal, Greater}
 use Rattle.std.specs.Ordering.{is_eq, is_gt, is_lt, nat_cmp, ordering_then}
@@ -11,7 +11,6 @@ use Rattle.std.proofs.lemmas.Bool.{and_from}
 use Rattle.std.proofs.lemmas.Bool.Decides.{nat_tests}
 use Rattle.std.proofs.lemmas.List.{map-append}
 use Rattle.std.proofs.lemmas.Map.Text.{is_eq-slice_cmp}
-use Rattle.std.proofs.lemmas.Slice.Eq.{bytes_eq-Decides}
 use Rattle.std.proofs.Math.Path.{subst₂}
 use Rattle.au_base.specs.declared.numbers.ClientNo.{ClientNo}
 use Rattle.au_base.specs.declared.table.TableName.{TableName}
@@ -27,7 +26,7 @@ use Rattle.au_image.specs.Image.{open_table}
 use Rattle.au_kept.specs.declared.staged.TableEdit.{TableEdit}
 use Rattle.au_kept.specs.declared.staged.TableEdit.TheVariants.{Open, Close}
 use Rattle.au_kept.specs.Staging.{IsFree, opened_count, table_edit}
-use Rattle.au_kept.specs.descent.Tabling.{CanEdit, MayEdit, left_open, tables_edited, tables_edited_all}
+use Rattle.au_kept.specs.descent.Tabling.{CanEdit, left_open, tables_edited_all}
 use Rattle.au_rows.specs.declared.table.Table.{Table as OpenTable}
 use Rattle.au_txn.specs.declared.change.RowChange.{RowChange}
 use Rattle.au_txn.specs.Desks.{Contents as Desk, has_name, is_open, open_in, open_of, table_before}
@@ -130,7 +129,7 @@ abbrev number_of_some : Option ClientNo → ℕ
 number_of_some None = 0
 number_of_some (Some c) = c.0
 
-apart_from : (committed client : ClientNo) → (client.0 == committed.0) ≡ false → Some committed ≡ Some client → ⊥
+pub apart_from : (committed client : ClientNo) → (client.0 == committed.0) ≡ false → Some committed ≡ Some client → ⊥
 apart_from committed client is e =
     let same : committed.0 ≡ client.0 = ap number_of_some e in
     let no : true ≡ false = sym (subst (λ (n : ℕ). (client.0 == n) ≡ true) (sym same) (number_self client.0)) ∙ is in cc

@@ -1,6 +1,6 @@
 -- What a client's changes of rows leave of a keeping.
-use Rattle.std.proofs.Common.{◌≡◌, ◌≢◌, ◌∙◌, ◌++◌, ◌⊎◌, inl, inr, ℕ, Bool, true, false, ◌&&◌, if◌then◌else◌, List, [], ◌∷◌, map, refl, sym, ap, ap₂, subst, arith}
-use Rattle.std.specs.Prelude.{◌==◌, ◌||◌, IsTrue}
+use Rattle.std.proofs.Common.{◌≡◌, ◌≢◌, ◌∙◌, ◌++◌, ◌⊎◌, inl, inr, ℕ, Bool, true, false, if◌then◌else◌, List, [], ◌∷◌, map, refl, sym, ap, ap₂, subst, arith}
+use Rattle.std.specs.Prelude.{◌==◌, IsTrue}
 use Rattle.std.specs.List.{AllByRecursion}
 use Rattle.std.specs.Str.{bytes_eq}
 use Rattle.std.proofs.lemmas.Bool.{and_parts, or_cases}
@@ -14,8 +14,9 @@ use Rattle.au_base.specs.declared.table.TableName.{TableName}
 use Rattle.au_entries.specs.declared.kept.Kept.{Kept}
 use Rattle.au_image.specs.Image.{kept_rows}
 use Rattle.au_kept.specs.Keeping.{Contents, HoldsTogether, desk_of}
-use Rattle.au_kept.specs.Writing.{KeepsKeys}
+use Rattle.au_kept.specs.Writing.{KeepsKeys, KeepsSound}
 use Rattle.au_kept.proofs.Held.{desk_seen, none_laid}
+use Rattle.au_kept.proofs.Sounds.{by_client, same_sound, written_sound}
 use Rattle.au_rows.specs.declared.table.Table.{Table as OpenTable}
 use Rattle.au_txn.specs.declared.change.RowChange.{RowChange}
 use Rattle.au_txn.specs.Desks.{Contents as Desk, IsWritable, key_of, open_in, open_of, replayer}
@@ -74,12 +75,50 @@ StaysKeyed = (old new : Desk) (client : ClientNo) (changes : List RowChange) →
     → new.tables ≡ old.tables → new.rows ≡ old.rows → ChangesOne client (open_of old client ++ changes) (open_of old) (open_of new) → IsKeyedDesk new
 
 pub written_holds : StaysKeyed → (kept other : Kept) (desk next : Desk) (client : ClientNo) (changes : List RowChange) → HoldsTogether kept desk → kept ≡ other → client.0 ≢ 0
-    → AllByRecursion (IsWritable desk.tables (open_of desk) client) changes → AreFrom (laid_over desk.rows (open_of desk client)) changes → KeepsKeys desk client changes
+    → AllByRecursion (IsWritable desk.tables (open_of desk) client) changes → AreFrom (laid_over desk.rows (open_of desk client)) changes → KeepsKeys desk client changes → KeepsSound kept.tables desk client changes
     → next.tables ≡ desk.tables → next.rows ≡ desk.rows → open_of next client ≡ open_of desk client ++ changes → ((q : ClientNo) → q.0 ≢ client.0 → open_of next q ≡ open_of desk q) → HoldsTogether other next
-written_holds stays kept other desk next client changes h same apart writable from keys tables rows own others =
+written_holds stays kept other desk next client changes h same apart writable from keys sound tables rows own others =
     subst (λ (k : Kept). HoldsTogether k next) same
     (record {
       kept_is = h.kept_is;
       desk_is = record { tables_are = tables ∙ h.desk_is.tables_are; quiet = others replayer (λ e. apart (sym e)) ∙ h.desk_is.quiet };
       keyed = stays desk next client changes h.keyed from keys.once keys.differ keys.unlocked (row_free desk.tables (open_of desk) client changes writable) tables rows (record { own_are = own; others_are = others });
+      changes = written_sound kept.tables desk next client changes h.changes sound rows own others;
+    })
+
+-- ---- what is taken back
+
+-- the discipline of keys after a client's changes are taken back, as the law has it
+abbrev pub StaysBack : Type 0
+StaysBack = (old new : Desk) (client : ClientNo) → IsKeyedDesk old → new.tables ≡ old.tables → new.rows ≡ old.rows → ChangesOne client [] (open_of old) (open_of new) → IsKeyedDesk new
+
+pub back_holds : StaysBack → (kept other : Kept) (desk next : Desk) (client : ClientNo) → HoldsTogether kept desk → kept ≡ other → next.tables ≡ desk.tables → next.rows ≡ desk.rows → open_of next client ≡ []
+    → ((q : ClientNo) → q.0 ≢ client.0 → open_of next q ≡ open_of desk q) → HoldsTogether other next
+back_holds stays kept other desk next client h same tables rows own others =
+    subst (λ (k : Kept). HoldsTogether k next) same
+    (record {
+      kept_is = h.kept_is;
+      desk_is = record {
+        tables_are = tables ∙ h.desk_is.tables_are;
+        quiet = by_client (λ (c : ClientNo). open_of next c ≡ []) client replayer own (λ apart. others replayer apart ∙ h.desk_is.quiet);
+      };
+      keyed = stays desk next client h.keyed tables rows (record { own_are = own; others_are = others });
+      changes = same_sound kept.tables desk next h.changes rows
+          (λ q. by_client (λ (c : ClientNo). (open_of next c ≡ []) ⊎ (open_of next c ≡ open_of desk c)) client q (inl own) (λ apart. inr (others q apart)));
+    })
+
+-- ---- what stays
+
+-- the discipline of keys where nothing changes, as the law has it
+abbrev pub StaysSame : Type 0
+StaysSame = (old new : Desk) → IsKeyedDesk old → new.tables ≡ old.tables → new.rows ≡ old.rows → ((q : ClientNo) → open_of new q ≡ open_of old q) → IsKeyedDesk new
+
+pub same_holds : StaysSame → (kept other : Kept) (desk next : Desk) → HoldsTogether kept desk → kept ≡ other → next.tables ≡ desk.tables → next.rows ≡ desk.rows → ((q : ClientNo) → open_of next q ≡ open_of desk q) → HoldsTogether other next
+same_holds stays kept other desk next h same tables rows changes =
+    subst (λ (k : Kept). HoldsTogether k next) same
+    (record {
+      kept_is = h.kept_is;
+      desk_is = record { tables_are = tables ∙ h.desk_is.tables_are; quiet = changes replayer ∙ h.desk_is.quiet };
+      keyed = stays desk next h.keyed tables rows changes;
+      changes = same_sound kept.tables desk next h.changes rows (λ q. inr (changes q));
     })

@@ -4,7 +4,6 @@ use Rattle.std.specs.List.{AllByRecursion}
 use Rattle.au_base.specs.BuiltIn.{sys}
 use Rattle.au_entries.specs.declared.change.Change.{Change}
 use Rattle.au_entries.specs.declared.kept.Kept.{Kept}
-use Rattle.au_entries.specs.declared.trail_record.Record.{Record}
 use Rattle.au_entries.specs.Changing.{changed_all}
 use Rattle.au_entries.specs.Frames.{PartsGoOn, after_parts}
 use Rattle.au_entries.specs.Imaging.{nothing}

@@ -1,6 +1,6 @@
 -- When frames of the journal go on from what is kept, and what they make of it (the rule by which a journal is replayed is
 -- this project's profile).
-use Rattle.std.specs.Prelude.{◌≡◌, ℕ, true, false, ⊤, List, [], ◌∷◌, Option, Some, None}
+use Rattle.std.specs.Prelude.{◌≡◌, ℕ, true, false, ⊤, List, [], ◌∷◌, Some, None}
 use Rattle.std.specs.List.{AllByRecursion}
 use Rattle.au_entries.specs.declared.kept.Kept.{Kept}
 use Rattle.au_entries.specs.Frames.{PartsGoOn, after_parts}

@@ -2,7 +2,9 @@ pub mod Anew
 pub mod Building
 pub mod Frames
 pub mod Keeping
+pub mod OpenChanges
 pub mod Quick
+pub mod Ranks
 pub mod Sound
 pub mod Staging
 pub mod Writing

@@ -3,11 +3,8 @@
 use Rattle.std.specs.Prelude.{◌≡◌, ◌≢◌, ◌≤◌, ⊤, ℕ, Bool, true, false, List, [], ◌∷◌, ◌++◌, Option, Some, None, length, map}
 use Rattle.std.specs.List.{AllByRecursion, filter, filter_map, flat_map}
 use Rattle.au_base.specs.Limits.{LAST_MOMENT}
-use Rattle.au_base.specs.declared.cell.Cell.{Cell}
 use Rattle.au_base.specs.declared.numbers.ClientNo.{ClientNo}
-use Rattle.au_base.specs.declared.numbers.RowNo.{RowNo}
 use Rattle.au_base.specs.declared.numbers.Stamp.{Stamp}
-use Rattle.au_base.specs.declared.table.TableName.{TableName}
 use Rattle.au_catalog.specs.Settling.{catalog_of}
 use Rattle.au_catalog.specs.Staging.{edits_of}
 use Rattle.au_catalog.specs.Staging as catalogs
@@ -23,6 +20,7 @@ use Rattle.au_kept.specs.declared.staged.Staged.{Staged}
 use Rattle.au_kept.specs.declared.staged.TableEdit.{TableEdit}
 use Rattle.au_kept.specs.declared.staged.TableEdit.TheVariants.{Open, Close}
 use Rattle.au_kept.specs.Keeping.{Contents, desk_of}
+pub use Rattle.au_kept.specs.OpenChanges.{content_change}
 use Rattle.au_replay.specs.Reading.{conditions}
 use Rattle.au_txn.specs.declared.finals.Final.{Final}
 use Rattle.au_txn.specs.Desks.{Contents as Desk, open_of}
@@ -87,11 +85,6 @@ pub record Fits (staged : Staged) (contents : Contents) : Type 0 where
   pub catalog : catalogs.Fits staged.catalog (catalog_of contents.kept)
   pub grants : grants.Fits staged.grants contents.kept.grants
   pub tables : opened_count staged.tables.items ≤ contents.spare
-
--- the change that leaves a row with this content, or without any
-abbrev pub content_change : TableName → RowNo → Option (List Cell) → Change
-content_change table number None = Gone table number
-content_change table number (Some cells) = Put table number cells
 
 -- what becomes of a row, as a change
 abbrev pub final_change : Final → Change

@@ -1,24 +1,29 @@
 //! What is kept while it is built anew, change by change.
-ghost use Rattle.std.specs.Prelude.{◌≡◌, ◌↔◌, IfOk, IsTrue, OnOk, Bool};
+ghost use Rattle.std.specs.Prelude.{◌≡◌, ◌↔◌, [], IfOk, IsTrue, OnOk, Bool};
 ghost use Rattle.std.specs.List.{AllByRecursion};
 ghost use Rattle.au_base.specs.BuiltIn.{sys};
 ghost use Rattle.au_entries.specs.Changing.{changed, changed_all, instance_after};
 ghost use Rattle.au_entries.specs.Imaging.{nothing};
-ghost use Rattle.au_entries.specs.Replaying.{AllGoOn, GoesOn, has_user};
+ghost use Rattle.au_entries.specs.Replaying.{AllGoOn, GoesOn, has_grantee, has_role, has_user};
 ghost use Rattle.au_kept.specs.Building.{IsFirm, kept_in};
+ghost use Rattle.au_kept.specs.Ranks.{AreRanked, IsRanked};
 ghost use Rattle.au_replay.specs.Reading.{HasShortText, conditions};
 ghost use Rattle.au_replay.specs.Sights.{AreOpenKeyed, IsSorted, showable, shown};
 ghost use Rattle.au_replay.specs.Touched.{IsWholeWhereTouched};
 
 use crate::laying::change_desk;
 use crate::one_change::{change_catalog, change_grants};
-use au_base::Memory;
+use crate::ranks::{are_ranked, ranks_of};
+use au_base::{Memory, Name};
 use au_catalog::Catalog;
 use au_entries::Change;
 use au_grants::{GrantDraft, Grants};
-use au_replay::{GrantsSeen, Sight, goes_on, has_sys, touched_is_whole};
+use au_replay::{
+    GrantsSeen, Sight, goes_on, has_sys, role_gone_goes_on, sys_grant_goes_on, touched_is_whole,
+};
 use au_txn::Desk;
 use std::alloc::Global;
+use std::collections::BTreeMap;
 
 /// What is kept while it is built anew: all but the trail and the last stamp. Between two changes it
 /// is lawful, and no client has changes; whole it is only behind the last change of a frame.
@@ -75,6 +80,49 @@ impl Building {
         goes_on(alloc, &self.sight(), image, change)
     }
 
+    /// Whether the change goes on, where it and the grants of roles are ranked: then a grant of a role
+    /// closes no circle, and none is looked for.
+    fn takes_ranked(
+        &self,
+        alloc: Global,
+        ranks: &BTreeMap<Name, u32>,
+        image: bool,
+        change: &Change,
+    ) -> Result<bool, Memory>
+        requires firm { IsFirm self.now }
+        requires short { HasShortText change.now }
+        requires ranked { IsRanked ranks.now.entries change.now }
+        requires roles { AreRanked ranks.now.entries (kept_in self.now).grants.role }
+        ensures { IfOk result (λ goes. IsTrue goes ↔ GoesOn conditions image (kept_in self.now) change.now) }
+    {
+        match change {
+            Change::RoleGrant(grantee, role, _) => Ok(self.has_both(grantee, role)),
+            _ => self.takes(alloc, image, change),
+        }
+    }
+
+    // Whether the grantee is a user or a role, and the role is one.
+    fn has_both(&self, grantee: &Name, role: &Name) -> bool
+        requires firm { IsFirm self.now }
+        ensures { IsTrue result ↔ (IsTrue (has_grantee (kept_in self.now) grantee.now) × IsTrue (has_role (kept_in self.now) role.now)) }
+    {
+        self.has_grantee(grantee) && self.has_role(role)
+    }
+
+    fn has_grantee(&self, name: &Name) -> bool
+        requires firm { IsFirm self.now }
+        ensures { IsTrue result ↔ IsTrue (has_grantee (kept_in self.now) name.now) }
+    {
+        sys_grant_goes_on(&self.sight(), name)
+    }
+
+    fn has_role(&self, name: &Name) -> bool
+        requires firm { IsFirm self.now }
+        ensures { IsTrue result ↔ IsTrue (has_role (kept_in self.now) name.now) }
+    {
+        role_gone_goes_on(&self.sight(), name)
+    }
+
     /// Makes the change, which goes on.
     fn make(&mut self, alloc: Global, change: &Change) -> Result<(), Memory>
         requires firm { IsFirm self.old }
@@ -107,6 +155,37 @@ impl Building {
         Ok(true)
     }
 
+    /// The same where the change and the grants of roles are ranked, as they are then again.
+    pub fn go_on_ranked(
+        &mut self,
+        alloc: Global,
+        ranks: &BTreeMap<Name, u32>,
+        image: bool,
+        change: &Change,
+    ) -> Result<bool, Memory>
+        requires firm { IsFirm self.old }
+        requires short { HasShortText change.now }
+        requires ranked { IsRanked ranks.now.entries change.now }
+        requires roles { AreRanked ranks.now.entries (kept_in self.old).grants.role }
+        ensures goes { IfOk result (λ goes. IsTrue goes ↔ GoesOn conditions image (kept_in self.old) change.now) }
+        ensures firm { IfOk result (λ goes. IsTrue goes → IsFirm self.new) }
+        ensures kept { IfOk result (λ goes. IsTrue goes → kept_in self.new ≡ changed conditions.tree change.now (kept_in self.old)) }
+        ensures roles { IfOk result (λ goes. IsTrue goes → AreRanked ranks.now.entries (kept_in self.new).grants.role) }
+    {
+        if !self.takes_ranked(alloc, ranks, image, change)? {
+            return Ok(false);
+        }
+        self.make(alloc, change)?;
+        Ok(true)
+    }
+
+    /// Whether no role is granted.
+    fn has_no_role_grant(&self) -> bool
+        ensures { IsTrue result → (kept_in self.now).grants.role ≡ [] }
+    {
+        self.grants.role_grants().is_empty()
+    }
+
     /// Whether SYS is a user, and what the changes touched is whole.
     pub fn is_whole(&self, alloc: Global, changes: &[Change]) -> Result<bool, Memory>
         requires firm { IsFirm self.now }
@@ -123,6 +202,50 @@ impl Building {
 /// Makes all changes, each where it goes on after those before it. Where one doesn't, or there is no
 /// memory, nothing is said of what is left.
 pub(crate) fn go_on_all(
+    alloc: Global,
+    building: &mut Building,
+    image: bool,
+    changes: &[Change],
+) -> Result<bool, Memory>
+    requires firm { IsFirm building.old }
+    requires short { AllByRecursion HasShortText changes.now }
+    ensures goes { IfOk result (λ goes. IsTrue goes ↔ AllGoOn conditions image (kept_in building.old) changes.now) }
+    ensures firm { IfOk result (λ goes. IsTrue goes → IsFirm building.new) }
+    ensures kept { IfOk result (λ goes. IsTrue goes → kept_in building.new ≡ changed_all conditions.tree changes.now (kept_in building.old)) }
+{
+    let ranks = ranks_of(alloc, changes)?;
+    if building.has_no_role_grant() && are_ranked(&ranks, changes) {
+        return go_on_ranked(alloc, building, &ranks, image, changes);
+    }
+    go_on_searching(alloc, building, image, changes)
+}
+
+// Makes all changes, where they and the grants of roles are ranked.
+fn go_on_ranked(
+    alloc: Global,
+    building: &mut Building,
+    ranks: &BTreeMap<Name, u32>,
+    image: bool,
+    changes: &[Change],
+) -> Result<bool, Memory>
+    requires firm { IsFirm building.old }
+    requires short { AllByRecursion HasShortText changes.now }
+    requires ranked { AllByRecursion (IsRanked ranks.now.entries) changes.now }
+    requires roles { AreRanked ranks.now.entries (kept_in building.old).grants.role }
+    ensures goes { IfOk result (λ goes. IsTrue goes ↔ AllGoOn conditions image (kept_in building.old) changes.now) }
+    ensures firm { IfOk result (λ goes. IsTrue goes → IsFirm building.new) }
+    ensures kept { IfOk result (λ goes. IsTrue goes → kept_in building.new ≡ changed_all conditions.tree changes.now (kept_in building.old)) }
+{
+    for change in changes {
+        if !building.go_on_ranked(alloc, ranks, image, change)? {
+            return Ok(false);
+        }
+    }
+    Ok(true)
+}
+
+// Makes all changes, where for each grant of a role a circle is looked for.
+fn go_on_searching(
     alloc: Global,
     building: &mut Building,
     image: bool,

@@ -6,7 +6,8 @@ ghost use Rattle.au_entries.specs.Imaging.{nothing};
 ghost use Rattle.au_entries.specs.Replaying.{has_user};
 ghost use Rattle.au_image.specs.Image.{image_of, kept_of};
 ghost use Rattle.au_kept.specs.Frames.{IsReplayable, after_frame};
-ghost use Rattle.au_kept.specs.Keeping.{desk_of};
+ghost use Rattle.au_kept.specs.Keeping.{HoldsTogether, desk_of};
+ghost use Rattle.au_kept.specs.OpenChanges.{AreSoundChanges};
 ghost use Rattle.au_replay.specs.Reading.{conditions};
 ghost use Rattle.au_kept.specs.Sound.{IsKept};
 ghost use Rattle.au_txn.specs.Desks.{open_of, replayer};
@@ -86,12 +87,14 @@ impl Keeping {
     }
 
     /// What holds of every keeping: what is kept is lawful, is whole and has a spelling; keys keep their
-    /// discipline; and the client by which rows are replayed has no changes. It does nothing, and
-    /// states it for its callers.
+    /// discipline; the client by which rows are replayed has no changes; and the changes of the others
+    /// are sound. It does nothing, and states it for its callers.
     pub fn holds_together(&self)
         ensures kept { IsKept conditions self.now.kept }
         ensures keyed { IsKeyedDesk (desk_of self.now) }
         ensures quiet { open_of (desk_of self.now) replayer ≡ [] }
+        ensures changes { AreSoundChanges self.now.kept.tables (desk_of self.now) }
+        ensures together { HoldsTogether self.now.kept (desk_of self.now) }
     {
         au_txn::rows_are_triples();
         let _catalog = &self.catalog;

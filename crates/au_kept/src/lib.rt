@@ -4,6 +4,7 @@
 
 mod anew;
 mod building;
+mod commits;
 mod keeping;
 mod laws;
 mod laying;
@@ -14,6 +15,7 @@ mod parting;
 mod parts;
 mod plain_change;
 mod quick;
+mod ranks;
 mod reading;
 mod replay;
 mod settling;
@@ -21,6 +23,7 @@ mod staged;
 mod staging;
 mod tabling;
 
+pub use commits::{commits_can_settle, numbers_stay_few, worlds_are_sound};
 pub use keeping::Keeping;
 pub use laws::{frames_hold, images_lead_back, spellings_are_short};
 pub use quick::is_of_rows;

@@ -5,7 +5,7 @@ ghost use Rattle.au_base.specs.declared.cell.Cell.{Cell as Content};
 ghost use Rattle.au_base.specs.declared.numbers.ClientNo.{ClientNo as Client};
 ghost use Rattle.au_base.specs.declared.table.TableName.{TableName as Name};
 ghost use Rattle.au_kept.specs.Keeping.{desk_of};
-ghost use Rattle.au_kept.specs.Writing.{KeepsKeys};
+ghost use Rattle.au_kept.specs.Writing.{KeepsKeys, KeepsSound};
 ghost use Rattle.au_txn.specs.Desks.{IsWritable, open_of, spare_of};
 ghost use Rattle.au_txn.specs.Logs.{changes_of, is_client};
 ghost use Rattle.au_txn.specs.Transactions.{AreFrom, laid_over};
@@ -31,13 +31,15 @@ impl Keeping {
     }
 
     /// Makes the changes and adds them to the client's. `contents` has the new contents of those
-    /// changes that have one, in order. It takes no memory.
+    /// changes that have one, in order. Each fits its table, can be spelled, and stays within the limits
+    /// of row numbers and of changes. It takes no memory.
     pub fn write(&mut self, client: ClientNo, changes: Vec<RowChange>, contents: Vec<Vec<Cell>>)
         requires client { client.0 ≢ 0 }
         requires spare { length changes.items ≤ spare_of client (desk_of self.old) }
         requires changes { AllByRecursion (IsWritable (desk_of self.old).tables (open_of (desk_of self.old)) client) changes.items }
         requires old { AreFrom (laid_over (desk_of self.old).rows (open_of (desk_of self.old) client)) changes.items }
         requires keys { KeepsKeys (desk_of self.old) client changes.items }
+        requires sound { KeepsSound self.old.kept.tables (desk_of self.old) client changes.items }
         requires contents { map (λ cells. cells.items) contents.items ≡ filter_map (λ change. change.new) changes.items }
         ensures kept { self.new.kept ≡ self.old.kept }
         ensures own { changes_of client self.new.logs ≡ changes_of client self.old.logs ++ changes.items }

@@ -60,10 +60,21 @@ impl Keeping {
         ensures room { OnOk result (records ≤ self.new.room) }
         ensures rooms { self.old.room ≤ self.new.room }
     {
-        au_txn::desks_stay_keyed();
-        self.desk.reserve_rows(tables)?;
+        self.reserve_tables(tables)?;
         self.trail.reserve(records)?;
         Ok(())
+    }
+
+    // Makes room for so many more rows or tables that are open for rows.
+    fn reserve_tables(&mut self, tables: usize) -> Result<(), Memory>
+        ensures kept { self.new.kept ≡ self.old.kept }
+        ensures logs { self.new.logs ≡ self.old.logs }
+        ensures spare { OnOk result (tables ≤ self.new.spare) }
+        ensures spares { self.old.spare ≤ self.new.spare }
+        ensures room { self.new.room ≡ self.old.room }
+    {
+        au_txn::desks_stay_keyed();
+        self.desk.reserve_rows(tables)
     }
 
     /// Commits the client's changes of rows, where one commits, and then makes the staged changes in
@@ -92,6 +103,8 @@ impl Keeping {
         au_entries::changes_keep_laws();
         au_txn::rows_are_triples();
         au_txn::finals_settle();
+        au_txn::laid_rows_answer();
+        au_txn::tables_go_with_their_rows();
         self.desk.holds_together();
         let Staged {
             catalog,

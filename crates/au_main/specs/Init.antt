@@ -5,7 +5,7 @@ use Rattle.au_io.specs.Faults.{HasRisen}
 use Rattle.au_io.specs.Moments.{Leaves, LeavesSince}
 use Rattle.au_journal.specs.Creation.{IsSelectedFormatted, OthersAreBlank}
 use Rattle.au_journal.specs.Walk.{IsStill, IsUnformatted}
-use Rattle.au_engine.specs.Opening.{opening}
+use Rattle.au_opening.specs.Opening.{opening}
 use Rattle.au_store.specs.Creating.{CreateLeaves, IsMade}
 use Rattle.au_main.specs.declared.status.Status.{Status}
 use Rattle.au_main.specs.declared.status.Status.TheVariants.{Done, Usage, ReadFault, WriteFault, DiskFault, Unformatted, Formatted, Damaged, BadLine, TooLong, LobbyFault, Memory, Worn}

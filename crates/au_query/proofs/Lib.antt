@@ -2,8 +2,10 @@ pub mod Anywhere
 pub mod Columns
 pub mod Cuts
 pub mod Firsts
+pub mod Equalities
 pub mod Fronts
 pub mod Numbers
+pub mod Orders
 pub mod Scans
 pub mod Tallies
 pub mod Totals

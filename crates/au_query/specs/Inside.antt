@@ -5,13 +5,19 @@ use Rattle.au_base.specs.declared.cell.Cell.{Cell}
 use Rattle.au_base.specs.Limits.{FROM_TABLES, REPLY_ROWS}
 use Rattle.au_base.specs.declared.numbers.RowNo.{RowNo}
 use Rattle.std.specs.Borrow.{Bor}
+use Rattle.std.specs.Option.{option_to_list}
+use Rattle.au_expr.specs.declared.placed.Place.{Place}
 use Rattle.au_expr.specs.declared.placed.Placed.{Placed}
+use Rattle.au_expr.specs.declared.placed.Placed.TheVariants as tree
 use Rattle.au_expr.specs.Placing.{value_at}
 use Rattle.au_expr.specs.Ranges.{names_range}
+use Rattle.au_expr.specs.Resolving.{placed}
 use Rattle.au_expr.specs.Sessions.{Session}
-use Rattle.au_expr.specs.Values.{is_met, is_overflow}
+use Rattle.au_expr.specs.Values.{Is, is_met, is_overflow}
 use Rattle.au_query.specs.declared.cutting.Test.{Test}
+use Rattle.au_query.specs.declared.fixing.Conditions.{Conditions}
 use Rattle.au_query.specs.declared.source.Source.{Source}
+use Rattle.au_query.specs.Queries.{ons_of}
 
 -- what the rows that begin with these give
 abbrev pub gathered : {X : Type 0} → (List X → Bool) → List X → List (List X) → List (List X)
@@ -71,3 +77,17 @@ ArePartsOf conditions parts = (tree : Placed) × (conditions ≡ tree ∷ []) ×
 -- these are the parts of the last of the conditions
 abbrev pub ArePartsOfLast : List Placed → List Placed → Type 0
 ArePartsOfLast conditions parts = (others : List Placed) × (tree : Placed) × (conditions ≡ others ++ tree ∷ []) × AreMetTogether parts (tree ∷ [])
+
+-- ---- columns that conditions fix
+
+-- the tree is the column of this number of the range
+abbrev pub IsColumnAt : Placed → ℕ → ℕ → Type 0
+IsColumnAt column range number = (place : Place) × (column ≡ tree.Column place) × (place.range ≡ range) × (place.column ≡ number)
+
+-- the tree gives this cell over whatever rows
+abbrev pub IsAlways : Session → Placed → Cell → Type 0
+IsAlways session value cell = (rows : List (List Cell)) → value_at rows session value ≡ Is cell
+
+-- the conditions of a query: ON of each join, and WHERE
+abbrev pub trees_of_conditions : Conditions → List Placed
+trees_of_conditions c = ons_of c.ranges.now c.joins.now ++ map (placed c.ranges.now) (option_to_list c.last.now)

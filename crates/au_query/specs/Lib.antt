@@ -1,6 +1,7 @@
 pub mod Answers
 pub mod Combos
 pub mod Counts
+pub mod Fixed
 pub mod Inside
 pub mod Ordering
 pub mod Outputs

@@ -4,6 +4,8 @@
 mod combo;
 mod counting;
 mod cutting;
+mod fixing;
+mod laws;
 mod naming;
 mod output;
 mod overflow;
@@ -20,6 +22,8 @@ mod tables;
 mod touching;
 
 pub use counting::count;
+pub use fixing::{count_never_overflows, fixed_cells, fixed_cells_of_count, never_overflows};
+pub use laws::replies_are_one;
 pub use query::select;
 pub use selected::Selected;
 pub use source::{Source, are_sound};

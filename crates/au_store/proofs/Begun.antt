@@ -14,7 +14,7 @@ use Rattle.au_journal.specs.Lengths.{gate_bytes}
 use Rattle.au_journal.specs.declared.seat.Seat.{Seat}
 use Rattle.rec_codec.specs.declared.frame.Frame.{Frame}
 use Rattle.rec_codec.specs.Frames.{IsFrame, IsSpellable, framed}
-use Rattle.au_engine.specs.Image.{nothing}
+use Rattle.au_entries.specs.Imaging.{nothing}
 use Rattle.au_engine.specs.Replaying.{EndsWell, IsReplayable, after_frame, IsImage}
 use Rattle.au_engine.specs.Returning.{LeadsTo, start_frame}
 use Rattle.au_engine.specs.State.{State, resting, start}

@@ -8,8 +8,9 @@ use Rattle.au_journal.specs.Creation.{FormatLeaves, IsNew}
 use Rattle.au_journal.specs.Images.{In}
 use Rattle.au_journal.specs.Walk.{IsUnformatted}
 use Rattle.rec_codec.specs.Frames.{IsSpellable, spelled}
-use Rattle.au_engine.specs.Image.{image_of, nothing}
-use Rattle.au_engine.specs.Opening.{opening}
+use Rattle.au_entries.specs.Imaging.{nothing}
+use Rattle.au_image.specs.Image.{image_of}
+use Rattle.au_opening.specs.Opening.{opening}
 use Rattle.au_engine.specs.Returning.{LeadsTo}
 use Rattle.au_store.specs.Creating.{CreateLeaves, IsMade}
 use Rattle.au_store.specs.Recovery.{BeginsBy}

@@ -22,7 +22,7 @@ use Rattle.au_store.specs.declared.open_fault.OpenFault.TheVariants as fault
 use Rattle.rec_codec.specs.declared.frame.Frame.{Frame}
 use Rattle.rec_codec.specs.declared.frame.Frame.TheVariants.{Image, Event, Purge}
 use Rattle.rec_codec.specs.Frames.{IsFrame, IsSpellable, spelled as frame_body}
-use Rattle.au_engine.specs.Image.{nothing}
+use Rattle.au_entries.specs.Imaging.{nothing}
 use Rattle.au_engine.specs.Replaying.{EndsWell, IsReplayable, after_frame, IsImage}
 use Rattle.au_engine.specs.State.{State, start}
 use Rattle.au_store.specs.Opened.{AreReplayable, CannotFollow, IsBare, IsFrameDamage}
@@ -67,9 +67,9 @@ wrong_going_on one_front body kept f is never next by =
     never (λ image. by.no_image (subst IsImage same image)) (subst (IsReplayable kept) (sym same) by.replayable)
 
 pub frame_ends : (kept : Kept) (f : Frame) → IsReplayable kept f → EndsWell (after_frame kept f)
-frame_ends kept (Image last changes records) goes = goes.ends
-frame_ends kept (Event stamp changes records) goes = goes.ends
-frame_ends kept (Purge stamp before changes records) goes = absurd goes
+frame_ends kept (Image last changes records) goes = goes.sys
+frame_ends kept (Event stamp changes records) goes = goes.sys
+frame_ends kept (Purge stamp before changes records) goes = goes.sys
 
 -- bodies are replayed to one thing
 begins_once : OneFront → (body : List ℕ) (a b : Kept) → BeginsBy body a → BeginsBy body b → a ≡ b

@@ -9,7 +9,7 @@ use Rattle.au_journal.specs.declared.seat.Seat.{Seat}
 use Rattle.rec_codec.specs.declared.frame.Frame.{Frame}
 use Rattle.rec_codec.specs.declared.frame.Frame.TheVariants.{Image, Event, Purge}
 use Rattle.rec_codec.specs.Frames.{framed}
-use Rattle.au_engine.specs.Image.{image_of}
+use Rattle.au_image.specs.Image.{image_of}
 
 -- a purge is free of the limit
 abbrev pub IsFree : Frame → Type 0

@@ -7,7 +7,7 @@ use Rattle.au_journal.specs.Frames.{Stands}
 use Rattle.au_journal.specs.Images.{In}
 use Rattle.rec_codec.specs.declared.frame.Frame.{Frame}
 use Rattle.rec_codec.specs.Frames.{IsFrame}
-use Rattle.au_engine.specs.Image.{nothing}
+use Rattle.au_entries.specs.Imaging.{nothing}
 use Rattle.au_engine.specs.Replaying.{IsReplayable, after_frame, IsImage}
 use Rattle.au_journal.specs.Standing.{Holds, HoldsEither}
 

@@ -5,8 +5,8 @@ ghost use Rattle.au_io.specs.Moments.{Leaves, LeavesSince};
 ghost use Rattle.au_journal.specs.Creation.{IsSelectedFormatted, OthersAreBlank};
 ghost use Rattle.au_journal.specs.Frames.{IsLimit};
 ghost use Rattle.au_journal.specs.Walk.{IsStill, IsUnformatted};
-ghost use Rattle.au_engine.specs.Image.{image_of};
-ghost use Rattle.au_engine.specs.Opening.{opening};
+ghost use Rattle.au_image.specs.Image.{image_of};
+ghost use Rattle.au_opening.specs.Opening.{opening};
 ghost use Rattle.rec_codec.specs.Frames.{IsSpellable, framed};
 ghost use Rattle.au_store.specs.Creating.{CreateCause, CreateLeaves, IsMade};
 

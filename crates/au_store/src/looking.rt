@@ -6,7 +6,7 @@ ghost use Rattle.au_store.specs.Looking.{LookMeets, LookSays, ReadsUpTo};
 
 use crate::replaying::recover;
 use crate::{LookFault, Store};
-use au_catalog::Kept;
+use au_entries::Kept;
 use au_io::{Clock, Disk};
 use au_journal::Journal;
 use std::alloc::Global;
@@ -28,7 +28,11 @@ impl<D: Disk, C: Clock> Store<D, C> {
         match recover(alloc, &mut journal) {
             Ok(engine) => {
                 let used = journal.used();
-                (journal.shut(), Ok((engine.into_kept(), used)))
+                let disk = journal.shut();
+                match engine.into_kept(alloc) {
+                    Ok(kept) => (disk, Ok((kept, used))),
+                    Err(_) => (disk, Err(LookFault::Memory)),
+                }
             }
             Err(why) => (journal.shut(), Err(why)),
         }

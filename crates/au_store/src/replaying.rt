@@ -150,7 +150,7 @@ fn begin_by(alloc: Global, body: &[u8]) -> Result<Option<Engine>, Memory>
     ensures ends { IfOk result (λ found. MatchOption found ⊤ (λ engine. EndsWell engine.state.kept)) }
 {
     one_front();
-    let mut engine = Engine::blank(alloc);
+    let mut engine = Engine::empty(alloc)?;
     match read(alloc, body)? {
         None => Ok(None),
         Some(frame) => {

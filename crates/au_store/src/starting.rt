@@ -125,6 +125,7 @@ fn next_instance(alloc: Global, engine: &mut Engine, reading: u64) -> Result<Vec
     ensures carries { IfOk result (λ bytes. CarriesTo engine.old.state.kept (Some bytes.items) (start engine.old.state.kept reading).kept) }
 {
     starts_lead_on();
+    engine.lawful();
     let frame = engine.start_frame(alloc, reading)?;
     let framed = write_framed(alloc, &frame)?;
     let _goes_on = engine.replay(alloc, frame)?;

@@ -25,7 +25,10 @@ impl<D: Disk, C: Clock> Model for Store<D, C> {
 
     ghost view = { λ s. record {
       state = s.engine.state;
+      logs = s.engine.logs;
+      spare = s.engine.spare;
       room = s.engine.room;
+      seats = s.engine.seats;
       disk = s.journal.disk;
       seat = s.journal.seat;
       clock = s.clock;

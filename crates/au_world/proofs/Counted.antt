@@ -63,7 +63,7 @@ places_at : (b : Bool) (table : TableName) (one other : List Line)
 places_at true table one other = refl
 places_at false table one other = refl
 
-named_alike : (trees : List Placed) (range : Range) (table : TableName) (one other : List Line)
+pub named_alike : (trees : List Placed) (range : Range) (table : TableName) (one other : List Line)
     → named_over trees (range ∷ []) ((table, one) ∷ []) ≡ named_over trees (range ∷ []) ((table, other) ∷ [])
 named_alike trees range table one other =
     ap (λ (places : List ℕ). (table, map (λ (column : ℕ × Column). column.1.name) (filter (is_named trees places) (enumerate_from 0 range.1))) ∷ [])

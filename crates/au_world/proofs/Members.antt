@@ -64,3 +64,11 @@ mapped f (x ∷ xs) y has = elim (split (f x) (map f xs) y has) [
 pub all_of : {X : Type 0} (P : X → Type 0) (xs : List X) → ((x : X) → Contains xs x → P x) → AllByRecursion P xs
 all_of P [] each = tt
 all_of P (y ∷ xs) each = (each y (here y xs), all_of P xs (λ x has. each x (there y xs x has)))
+
+-- and each element of the list gives one of the mapped list
+pub mapped_to : {X Y : Type 0} (f : X → Y) (xs : List X) (x : X) → Contains xs x → Contains (map f xs) (f x)
+mapped_to f [] x has = absurd (none x has)
+mapped_to f (y ∷ xs) x has = elim (split y xs x has) [
+  | inl same ↦ subst (λ z. Contains (f y ∷ map f xs) (f z)) same (here (f y) (map f xs))
+  | inr later ↦ there (f y) (map f xs) (f x) (mapped_to f xs x later)
+]

@@ -15,14 +15,14 @@ use Rattle.au_world.specs.Inside.{told_by}
 use Rattle.au_world.specs.Selecting.{Seen, is_first, named_at, named_over, places_of, rows_of_seen, touched_at, touched_over}
 
 -- what is made of the places that pass a test, where the test and what is made look at what is told alone
-picked_at : {C : Type 0} (b c : Bool) (x y : C) (xs ys : List C) → c ≡ b → y ≡ x → ys ≡ xs → cond c (y ∷ ys) ys ≡ cond b (x ∷ xs) xs
+pub picked_at : {C : Type 0} (b c : Bool) (x y : C) (xs ys : List C) → c ≡ b → y ≡ x → ys ≡ xs → cond c (y ∷ ys) ys ≡ cond b (x ∷ xs) xs
 picked_at b c x y xs ys tests makes rest = ap (λ (t : Bool). cond t (y ∷ ys) ys) tests ∙ ap₂ (λ (z : _) zs. cond b (z ∷ zs) zs) makes rest
 
-map_cond : {A C : Type 0} (f : A → C) (b : Bool) (x : A) (xs : List A) → map f (cond b (x ∷ xs) xs) ≡ cond b (f x ∷ map f xs) (map f xs)
+pub map_cond : {A C : Type 0} (f : A → C) (b : Bool) (x : A) (xs : List A) → map f (cond b (x ∷ xs) xs) ≡ cond b (f x ∷ map f xs) (map f xs)
 map_cond f true x xs = refl
 map_cond f false x xs = refl
 
-picked : {A B C : Type 0} (f : A → B) (keep : ℕ × A → Bool) (keeps : ℕ × B → Bool) (make : ℕ × A → C) (makes : ℕ × B → C)
+pub picked : {A B C : Type 0} (f : A → B) (keep : ℕ × A → Bool) (keeps : ℕ × B → Bool) (make : ℕ × A → C) (makes : ℕ × B → C)
     → ((p : ℕ × A) → keeps (p.0, f p.1) ≡ keep p) → ((p : ℕ × A) → makes (p.0, f p.1) ≡ make p)
     → (n : ℕ) (xs : List A) → map makes (filter keeps (enumerate_from n (map f xs))) ≡ map make (filter keep (enumerate_from n xs))
 picked f keep keeps make makes tests made n [] = refl
@@ -33,7 +33,7 @@ picked f keep keeps make makes tests made n (x ∷ xs) =
     (tests (n, x)) (made (n, x)) (picked f keep keeps make makes tests made (n + 1) xs)
     ∙ sym (map_cond make (keep (n, x)) (n, x) (filter keep (enumerate_from (n + 1) xs)))
 
-any_mapped : {A B : Type 0} (f : A → B) (test : B → Bool) (xs : List A) → list_any test (map f xs) ≡ list_any (λ x. test (f x)) xs
+pub any_mapped : {A B : Type 0} (f : A → B) (test : B → Bool) (xs : List A) → list_any test (map f xs) ≡ list_any (λ x. test (f x)) xs
 any_mapped f test [] = refl
 any_mapped f test (x ∷ xs) = ap (λ b. test (f x) || b) (any_mapped f test xs)
 

@@ -4,3 +4,5 @@ pub mod Sights
 pub mod Sound
 pub mod Rights
 pub mod Selecting
+pub mod Cutting
+pub mod Plans

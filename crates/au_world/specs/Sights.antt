@@ -46,10 +46,14 @@ sight_of world client = record {
 abbrev pub table_named : List Table → TableName → Option Table
 table_named tables name = find (λ (table : Table). same_table table.name name) tables
 
+-- the catalogue has a table with this name
+abbrev pub has_table : List Table → TableName → Bool
+has_table tables name = list_any (λ (table : Table). same_table table.name name) tables
+
 abbrev pub is_there_by : List Table → TableName → TableKind → Bool
 is_there_by tables name Dual = true
 is_there_by tables name Trail = true
-is_there_by tables name Created = list_any (λ (table : Table). same_table table.name name) tables
+is_there_by tables name Created = has_table tables name
 
 -- the table is a built-in one, or the catalogue has it
 abbrev pub is_there : List Table → TableName → Bool

@@ -1,11 +1,12 @@
 //! The columns of a table.
 ghost use Rattle.std.specs.Prelude.{◌≡◌, IfOk};
-ghost use Rattle.std.specs.Option.{option_copied};
 ghost use Rattle.au_world.specs.Sights as spec;
 ghost use Rattle.au_world.specs.Sights.{columns_in};
+ghost use Rattle.au_world.specs.Sound.{AreTablesInOrder};
 
 use crate::built_in::{TableKind, dual_columns, kind_of, trail_columns};
-use au_base::{Column, List, Memory, TableName, is_same_table};
+use crate::finding::table_named;
+use au_base::{Column, List, Memory, TableName};
 use au_entries::Table;
 use std::alloc::Global;
 
@@ -15,6 +16,7 @@ pub fn columns_of(
     tables: &[Table],
     table: &TableName,
 ) -> Result<List<Column>, Memory>
+    requires order { AreTablesInOrder tables.now }
     ensures { IfOk result (λ columns. columns ≡ spec.columns_of tables.now table.now) }
 {
     match kind_of(table) {
@@ -29,17 +31,11 @@ fn created_columns(
     tables: &[Table],
     table: &TableName,
 ) -> Result<List<Column>, Memory>
+    requires order { AreTablesInOrder tables.now }
     ensures { IfOk result (λ columns. columns ≡ columns_in (spec.table_named tables.now table.now)) }
 {
     match table_named(tables, table) {
         Some(found) => Ok(found.columns.clone()?),
         None => Ok(List::new(alloc)),
     }
-}
-
-/// The first table with this name, where there is one. It takes no memory.
-pub fn table_named<'a>(tables: &'a [Table], name: &TableName) -> Option<&'a Table>
-    ensures { option_copied result ≡ spec.table_named tables.now name.now }
-{
-    tables.iter().find(|table| is_same_table(&table.name, name))
 }

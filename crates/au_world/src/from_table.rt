@@ -5,7 +5,7 @@ ghost use Rattle.au_query.specs.Queries.{name_or};
 ghost use Rattle.au_world.specs.Inside.{IsMade};
 ghost use Rattle.au_world.specs.Selecting as spec;
 ghost use Rattle.au_world.specs.Selecting.{joined_tables, meant, tables_in};
-ghost use Rattle.au_world.specs.Sound.{IsSoundRecord};
+ghost use Rattle.au_world.specs.Sound.{AreTablesInOrder, IsSoundRecord};
 
 use crate::built_in::rows_of_built_in;
 use crate::columns::columns_of;
@@ -79,6 +79,7 @@ pub fn ranges(
     user: &Name,
     from: &FromClause,
 ) -> Result<Vec<(Name, List<Column>)>, Memory>
+    requires order { AreTablesInOrder tables.now }
     ensures { IfOk result (λ ranges. ranges.items ≡ map (spec.range_of tables.now user.now) (tables_in from.now)) }
 {
     let mut ranges = Vec::new(alloc);
@@ -94,6 +95,7 @@ fn push_ranges(
     user: &Name,
     joins: &[Join],
 ) -> Result<(), Memory>
+    requires order { AreTablesInOrder tables.now }
     ensures { OnOk result (ranges.new.items ≡ ranges.old.items ++ map (spec.range_of tables.now user.now) (joined_tables joins.now)) }
 {
     for join in joins {
@@ -109,6 +111,7 @@ pub fn range(
     user: &Name,
     table: &AliasedTable,
 ) -> Result<(Name, List<Column>), Memory>
+    requires order { AreTablesInOrder tables.now }
     ensures { IfOk result (λ range. range ≡ spec.range_of tables.now user.now table.now) }
 {
     let name = range_name(table)?;

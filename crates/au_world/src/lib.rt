@@ -3,15 +3,21 @@
 
 mod built_in;
 mod columns;
+mod finding;
 mod from_table;
+mod laws;
+mod looking;
 mod query;
 mod rights;
 mod row_plan;
+mod soundness;
 mod sources;
 mod world;
 
 pub use au_query::Selected;
+pub use laws::{plans_hold, queries_have_one_answer, sound_worlds_are_sound_for_clients};
 pub use query::select;
 pub use rights::{TableRights, is_there, table_rights};
 pub use row_plan::RowPlan;
+pub use soundness::is_sound_for;
 pub use world::World;

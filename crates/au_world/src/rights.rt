@@ -1,16 +1,17 @@
 //! The right to the tables that a statement names.
 ghost use Rattle.std.specs.Prelude.{◌≡◌, ◌++◌, ◌∷◌, [], IfOk, OnOk, filter};
 ghost use Rattle.std.specs.List.{AllZip, list_any};
-ghost use Rattle.au_base.specs.Sameness.{same_table};
 ghost use Rattle.au_world.specs.Rights as spec;
 ghost use Rattle.au_world.specs.Rights.{Answers, AreTableRights, refusal, used_by, uses};
 ghost use Rattle.au_world.specs.Sights.{is_there as there};
+ghost use Rattle.au_world.specs.Sound.{AreTablesInOrder};
 
 use crate::World;
 use crate::built_in::{TableKind, kind_of};
+use crate::finding::has_table;
 use au_base::{
     Action, Code, List, Memory, Name, Privilege, TableName, constants_are_as_listed,
-    is_same_privilege, is_same_table,
+    is_same_privilege,
 };
 use au_entries::Table;
 use au_priv::{Allowed, allowed_on};
@@ -34,6 +35,7 @@ pub fn table_rights(
     tables: &[TableName],
     action: Action,
 ) -> Result<TableRights, Memory>
+    requires order { AreTablesInOrder world.now.catalog.now.tables }
     ensures { IfOk result (AreTableRights world.now.catalog.now.tables world.now.grants.now user.now action tables.now) }
 {
     let answers = answers(alloc, world, user, tables, action)?;
@@ -48,6 +50,7 @@ fn answers(
     tables: &[TableName],
     action: Action,
 ) -> Result<Vec<Allowed>, Memory>
+    requires order { AreTablesInOrder world.now.catalog.now.tables }
     ensures { IfOk result (λ answers. AllZip (Answers world.now.catalog.now.tables world.now.grants.now user.now action) tables.now answers.items) }
 {
     let mut answers = Vec::new(alloc);
@@ -58,6 +61,7 @@ fn answers(
 }
 
 fn answer(world: &World<'_>, user: &Name, table: &TableName, action: Action) -> Allowed
+    requires order { AreTablesInOrder world.now.catalog.now.tables }
     ensures { Answers world.now.catalog.now.tables world.now.grants.now user.now action table.now result }
 {
     if !is_there(world.catalog.tables.as_slice(), table) {
@@ -68,6 +72,7 @@ fn answer(world: &World<'_>, user: &Name, table: &TableName, action: Action) -> 
 
 /// Whether the table is a built-in one or the catalogue has it. It takes no memory.
 pub fn is_there(tables: &[Table], table: &TableName) -> bool
+    requires order { AreTablesInOrder tables.now }
     ensures { result ≡ there tables.now table.now }
 {
     match kind_of(table) {
@@ -75,17 +80,6 @@ pub fn is_there(tables: &[Table], table: &TableName) -> bool
         TableKind::Trail => true,
         TableKind::Created => has_table(tables, table),
     }
-}
-
-fn has_table(tables: &[Table], name: &TableName) -> bool
-    ensures { result ≡ list_any (λ table. same_table table.name name.now) tables.now }
-{
-    for table in tables {
-        if is_same_table(&table.name, name) {
-            return true;
-        }
-    }
-    false
 }
 
 fn rights(alloc: Global, answers: &[Allowed]) -> Result<TableRights, Memory>

@@ -7,14 +7,13 @@ ghost use Rattle.au_world.specs.Selecting.{seen_of};
 ghost use Rattle.au_world.specs.Sights.{is_there, rows_seen, sight_of};
 ghost use Rattle.au_world.specs.BuiltInTables.{kind_of as kind_named};
 ghost use Rattle.au_world.specs.declared.built_in.TableKind.TheVariants.{Created};
-ghost use Rattle.au_world.specs.Sound.{IsSoundWorld};
+ghost use Rattle.au_world.specs.Sound.{IsSoundFor};
 
 use crate::World;
 use crate::built_in::{TableKind, kind_of, numbered};
 use crate::from_table::FromTable;
 use au_base::{Cell, ClientNo, Memory, RowNo, TableName, same_is_equal};
 use au_query::Source;
-use au_txn::laid_rows_answer;
 use std::alloc::Global;
 
 /// The tables with the rows that the client sees of each.
@@ -24,7 +23,7 @@ pub fn sources<'a>(
     client: ClientNo,
     tables: &'a [FromTable],
 ) -> Result<Vec<Source<'a>>, Memory>
-    requires sound { IsSoundWorld world.now }
+    requires sound { IsSoundFor world.now client }
     requires found { AllByRecursion (IsFoundTable world.now) tables.now }
     ensures seen { IfOk result (λ sources. AreSourcesOf (sight_of world.now client) (map (λ table. table.name) tables.now) sources.items) }
     ensures sound { IfOk result (λ sources. AreSoundRows (views sources.items)) }
@@ -43,7 +42,7 @@ pub fn source<'a>(
     client: ClientNo,
     table: &'a FromTable,
 ) -> Result<Source<'a>, Memory>
-    requires sound { IsSoundWorld world.now }
+    requires sound { IsSoundFor world.now client }
     requires found { IsFoundTable world.now table.now }
     ensures seen { IfOk result (λ source. told_by source ≡ seen_of (sight_of world.now client) table.now.name) }
     ensures sound { IfOk result (λ source. AllByRecursion IsSoundLine (lines source.rows.items)) }
@@ -61,7 +60,7 @@ fn rows<'a>(
     client: ClientNo,
     table: &'a FromTable,
 ) -> Result<Vec<(RowNo, &'a [Cell])>, Memory>
-    requires sound { IsSoundWorld world.now }
+    requires sound { IsSoundFor world.now client }
     requires found { IsFoundTable world.now table.now }
     ensures seen { IfOk result (λ rows. lines rows.items ≡ rows_seen (sight_of world.now client) table.now.name) }
     ensures sound { IfOk result (λ rows. AllByRecursion IsSoundLine (lines rows.items)) }
@@ -94,13 +93,12 @@ fn created_rows<'a>(
     client: ClientNo,
     table: &TableName,
 ) -> Result<Vec<(RowNo, &'a [Cell])>, Memory>
-    requires sound { IsSoundWorld world.now }
+    requires sound { IsSoundFor world.now client }
     requires there { IsTrue (is_there world.now.catalog.now.tables table.now) }
     requires created { kind_named table.now ≡ Created }
     ensures seen { IfOk result (λ rows. lines rows.items ≡ rows_seen (sight_of world.now client) table.now) }
     ensures sound { IfOk result (λ rows. AllByRecursion IsSoundLine (lines rows.items)) }
 {
-    laid_rows_answer();
     same_is_equal();
     let view = world.desk.view(alloc, client, table)?;
     Ok(view.rows)

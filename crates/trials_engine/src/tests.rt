@@ -15,21 +15,21 @@ mod worlds;
 
 use au_base::built_in::SYS;
 use au_base::{Ask, ClientNo, Memory, Reply, Text};
-use au_engine::{Engine, opening, reading_of};
+use au_engine::{Engine, reading_of};
 use std::alloc::Global;
 use std::process::Abort;
 use std::test::Fail;
 
 // What a client asks for: nothing for a local logon, or a text.
-type Asked = Option<&'static str>;
+pub(crate) type Asked = Option<&'static str>;
 
 const COUNT: Asked = Some("SELECT COUNT(*) FROM UNIFIED_AUDIT_TRAIL");
 
-const AUDIT: Asked = Some("AUDIT POLICY P_ALL");
+pub(crate) const AUDIT: Asked = Some("AUDIT POLICY P_ALL");
 
 const NOAUDIT: Asked = Some("NOAUDIT POLICY P_ALL;");
 
-const ONE: Asked = Some("SELECT 1 FROM DUAL");
+pub(crate) const ONE: Asked = Some("SELECT 1 FROM DUAL");
 
 // at the readings from 1 on: the client, what it asks for, and the code
 const ASKS: [(u32, Asked, u32); 10] = [
@@ -64,6 +64,14 @@ fn ask_of(alloc: Global, asked: Asked) -> Result<Ask, Memory>
     }
 }
 
+// The first instance over a new store, whose SYS has the password `p`, at this reading of the clock.
+pub(crate) fn begun(alloc: Global, reading: u64) -> Result<Engine, Memory> {
+    let mut engine = Engine::of_new_store(alloc, b"p".as_slice())?;
+    let frame = engine.start_frame(alloc, reading)?;
+    let _goes_on = engine.replay(alloc, frame)?;
+    Ok(engine)
+}
+
 // One step at this reading.
 fn step(
     alloc: Global,
@@ -80,7 +88,7 @@ fn step(
 }
 
 // One step after another, each at a reading one later.
-fn ask_each(
+pub(crate) fn ask_each(
     alloc: Global,
     engine: &mut Engine,
     asks: &[(u32, Asked)],
@@ -107,7 +115,7 @@ fn ask_all(rt: &impl Abort, alloc: Global, engine: &mut Engine) -> Result<(), Me
 #[test]
 fn each_ask_has_its_code_and_leaves_its_records(rt: HostRuntime) -> Result<(), Fail> {
     let alloc = rt.alloc();
-    let mut engine = Engine::empty(alloc, 0)?;
+    let mut engine = begun(alloc, 0)?;
     ask_all(&rt, alloc, &mut engine)?;
     let trail = engine.trail();
     assert_eq!(rt; trail.len(), 5);
@@ -131,7 +139,8 @@ const VERIFIER: [u8; 32] = [
 
 #[test]
 fn the_verifier_is_the_digest_of_name_and_password(rt: HostRuntime) -> Result<(), Fail> {
-    let kept = opening(rt.alloc(), b"p".as_slice())?;
+    let alloc = rt.alloc();
+    let kept = Engine::of_new_store(alloc, b"p".as_slice())?.into_kept(alloc)?;
     let user = kept.users.as_slice().first().ok_or(Memory)?;
     assert_eq!(rt; user.0.as_str(), SYS);
     assert_eq!(rt; user.1, VERIFIER);

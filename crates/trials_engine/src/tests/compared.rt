@@ -3,7 +3,7 @@
 use super::chance::Chance;
 use super::machine::{Asked, Line, Machine};
 use super::same::{is_answer, is_line};
-use super::step;
+use super::{begun, step};
 use au_base::Memory;
 use au_catalog::Record;
 use au_engine::{BuiltForm, Engine};
@@ -96,7 +96,7 @@ fn are_lines(trail: &[Record], lines: &[Line]) -> bool {
 #[test]
 fn the_engine_does_as_the_slow_machine(rt: HostRuntime) -> Result<(), Fail> {
     let alloc = rt.alloc();
-    let mut engine = Engine::empty(alloc, 100)?;
+    let mut engine = begun(alloc, 100)?;
     let mut machine = Machine::new(alloc, 100);
     all_turns(&rt, alloc, &mut engine, &mut machine)?;
     assert!(rt; are_lines(engine.trail(), &machine.trail));

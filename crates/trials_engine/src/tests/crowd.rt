@@ -3,7 +3,7 @@
 use super::machine::{Answer, Place};
 use super::same::{is_answer, is_line};
 use super::slow::Event;
-use super::{AUDIT, Asked, COUNT, ONE, ask_each, step};
+use super::{AUDIT, Asked, COUNT, ONE, ask_each, begun, step};
 use au_base::{Action, Memory};
 use au_catalog::Record;
 use au_engine::Engine;
@@ -50,7 +50,7 @@ fn ends_in_refusal(trail: &[Record]) -> bool {
 #[test]
 fn the_257th_session_is_refused_and_recorded(rt: HostRuntime) -> Result<(), Fail> {
     let alloc = rt.alloc();
-    let mut engine = Engine::empty(alloc, 7)?;
+    let mut engine = begun(alloc, 7)?;
     crowd(alloc, &mut engine, AUDIT)?;
     assert!(rt; ends_in_refusal(engine.trail()));
     Ok(())
@@ -80,7 +80,7 @@ fn is_as_begun(engine: &Engine) -> bool {
 #[test]
 fn a_refused_session_that_no_policy_asks_for_leaves_nothing(rt: HostRuntime) -> Result<(), Fail> {
     let alloc = rt.alloc();
-    let mut engine = Engine::empty(alloc, 7)?;
+    let mut engine = begun(alloc, 7)?;
     ask_behind(&rt, alloc, &mut engine)?;
     assert!(rt; is_as_begun(&engine));
     Ok(())

@@ -3,7 +3,7 @@
 use super::machine::Place;
 use super::same::is_line;
 use super::slow::{Event, Table};
-use super::{AUDIT, Asked, COUNT, NOAUDIT, ONE, ask_each};
+use super::{AUDIT, Asked, COUNT, NOAUDIT, ONE, ask_each, begun};
 use au_base::{Action, Memory, Privilege};
 use au_catalog::Record;
 use au_engine::Engine;
@@ -112,7 +112,7 @@ fn are_recorded(trail: &[Record]) -> bool {
 #[test]
 fn a_first_run_leaves_four_records_with_all_their_fields(rt: HostRuntime) -> Result<(), Fail> {
     let alloc = rt.alloc();
-    let mut engine = Engine::empty(alloc, 1_000_000)?;
+    let mut engine = begun(alloc, 1_000_000)?;
     ask_each(alloc, &mut engine, &FIRST_RUN, 1_000_001)?;
     assert!(rt; are_recorded(engine.trail()));
     Ok(())

@@ -1,4 +1,3 @@
-use Rattle.std.proofs.Common.{◌∙◌}
 use Rattle.au_image.specs.Image.{image_of}
 use Rattle.au_kept.proofs.Rebuilt.{changes_back, read_back}
 use Rattle.au_kept.proofs.anew.changes_in.Goals as goal

@@ -1,4 +1,4 @@
-use Rattle.au_kept.proofs.Frames.{KeepsLaws, frame_kept, frame_sys, one_replay, replayed_kept}
+use Rattle.au_kept.proofs.Frames.{frame_kept, frame_sys, one_replay, replayed_kept}
 use Rattle.au_kept.proofs.Nothing.{nothing_kept}
 use Rattle.au_kept.proofs.laws.frames_hold.Goals as goal
 

@@ -1,5 +1,5 @@
 use Rattle.au_kept.proofs.Counted.{image_few}
-use Rattle.au_kept.proofs.Images.{ComesBack, image_goes, image_leads, image_spellable}
+use Rattle.au_kept.proofs.Images.{image_goes, image_leads, image_spellable}
 use Rattle.au_kept.proofs.laws.images_lead_back.Goals as goal
 
 pub returns-clause-spellable : goal.returns-clause-spellable

@@ -1,7 +1,7 @@
 use Rattle.std.proofs.Common.{◌≡◌, ◌∙◌, List, [], map, refl, ap, subst, sym}
 use Rattle.std.specs.Prelude.{IsTrue, Some}
 use Rattle.au_base.specs.declared.cell.Cell.{Cell}
-use Rattle.au_image.specs.Image.{kept_of, open_table}
+use Rattle.au_image.specs.Image.{kept_of}
 use Rattle.au_kept.specs.descent.Laying.{kept_seen}
 use Rattle.au_kept.proofs.Copies.{copied}
 use Rattle.au_kept.proofs.OpenKeys.{found}

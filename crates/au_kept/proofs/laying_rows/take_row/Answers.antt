@@ -1,5 +1,5 @@
 use Rattle.std.proofs.Common.{inr}
-use Rattle.au_kept.proofs.RowsLaid.{DeskLaws, IsThere, RowLaws, gone_there}
+use Rattle.au_kept.proofs.RowsLaid.{DeskLaws, RowLaws, gone_there}
 use Rattle.au_kept.proofs.laying_rows.take_row.Goals as goal
 
 pub set_row-requires-clause-there : goal.set_row-requires-clause-there

@@ -1,4 +1,4 @@
-use Rattle.std.proofs.Common.{◌≡◌, ◌∙◌, List, ap, ap₂, map}
+use Rattle.std.proofs.Common.{◌∙◌, List, ap, ap₂, map}
 use Rattle.au_catalog.specs.Settling.{catalog_after_all, condition_texts}
 use Rattle.au_catalog.specs.Staging.{IsStaged}
 use Rattle.au_entries.specs.declared.change.Change.{Change}

@@ -13,8 +13,11 @@ returns-then-is_image-clause-goes c =
     wrong_going_on c.one_front.ensures c.args.body.now c.args.engine.now.state.kept c.in-Some.frame (rw c.in-Some.is at c.in_ok-read.ensures)
     (λ no_image _. no_image (c.is_image.ensures.0 c.if-is_image.true))
 
-pub replay-requires : goal.replay-requires
-replay-requires c = (rw c.in-Some.is at c.in_ok-read.ensures).spellable
+pub replay-requires-clause-spelled : goal.replay-requires-clause-spelled
+replay-requires-clause-spelled c = (rw c.in-Some.is at c.in_ok-read.ensures).spellable
+
+pub replay-requires-clause-first : goal.replay-requires-clause-first
+replay-requires-clause-first c image = absurd (false≢true (sym c.if-is_image.false ∙ c.is_image.ensures.1 image))
 
 pub returns-else-is_image-clause-goes : goal.returns-else-is_image-clause-goes
 returns-else-is_image-clause-goes c =

@@ -1,9 +1,8 @@
 use Rattle.std.proofs.Common.{◌∙◌, ap, sym, subst}
 use Rattle.std.specs.List.{AllByRecursion}
 use Rattle.au_query.specs.Combos.{IsSoundLine}
-use Rattle.au_txn.specs.Desks.{open_of}
 use Rattle.au_world.specs.Sights.{is_there_by, rows_by, sight_of}
-use Rattle.au_world.proofs.Seen.{seen_sound}
+use Rattle.au_world.proofs.LookUps.{soundly}
 use Rattle.au_world.proofs.sources.created_rows.Goals as goal
 
 pub returns-clause-seen : goal.returns-clause-seen
@@ -14,9 +13,6 @@ pub returns-clause-sound : goal.returns-clause-sound
 returns-clause-sound c =
     let world = c.args.world.now in
     let tables = world.catalog.now.tables in
-    let own = open_of world.desk.now c.args.client in
     subst (AllByRecursion IsSoundLine) (sym c.in_ok-view.ensures)
-    (seen_sound tables world.desk.now.rows own c.args.table.now c.requires.sound.committed (c.requires.sound.changed c.args.client)
-    (c.laid_rows_answer.ensures.laid world.desk.now.rows own)
-    (λ a b. (c.same_is_equal.ensures.table a b).0)
-    (sym (ap (is_there_by tables c.args.table.now) c.requires.created) ∙ c.requires.there))
+    (soundly world.desk.now c.args.client tables c.args.table.now (λ a b. (c.same_is_equal.ensures.table a b).0) c.requires.sound.seen
+    (sym (ap (is_there_by tables c.args.table.now) c.requires.created) ∙ c.requires.there)).cells

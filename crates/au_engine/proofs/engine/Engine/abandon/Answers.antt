@@ -8,11 +8,8 @@ use Rattle.au_engine.proofs.engine.Engine.abandon.Goals as goal
 pub invariant_of-self : goal.invariant_of-self
 invariant_of-self c =
     let was = c.self.invariant in (
-      was.0,
-      omega (arith, was.1, c.end_session.ensures.len, c.end_session.ensures.capacity),
-      was.2,
-      record {
-        kept = was.3.kept;
-        sessions = subst (λ (l : List Session). AllByRecursion IsLawfulSession l) (sym c.end_session.ensures.items) (without_lawful c.args.client c.self.inside.sessions.items was.3.sessions);
-      },
+      omega (arith, was.0, c.end_session.ensures.len, c.end_session.ensures.capacity),
+      was.1,
+      subst (λ (l : List Session). AllByRecursion IsLawfulSession l) (sym c.end_session.ensures.items) (without_lawful c.args.client c.self.inside.sessions.items was.2),
+      was.3,
     )

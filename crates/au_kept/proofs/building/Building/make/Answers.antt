@@ -1,6 +1,5 @@
-use Rattle.std.proofs.Common.{◌≡◌, ◌∙◌, List, map, sym, ap, subst}
+use Rattle.std.proofs.Common.{◌∙◌, map, sym, ap, subst}
 use Rattle.au_catalog.specs.declared.catalog.Catalog.{Catalog}
-use Rattle.au_entries.specs.Changing.{changed}
 use Rattle.au_entries.specs.Lawful.{IsLawful}
 use Rattle.au_image.specs.Image.{kept_rows, open_table}
 use Rattle.au_kept.specs.Building.{kept_in, opened_after}

@@ -1,4 +1,4 @@
-use Rattle.std.proofs.Common.{◌≡◌, ◌↔◌, List, sym, ap, ◌∙◌, subst}
+use Rattle.std.proofs.Common.{◌↔◌, List, ap, ◌∙◌, subst}
 use Rattle.std.specs.Prelude.{IsTrue}
 use Rattle.au_base.specs.BuiltIn.{sys}
 use Rattle.au_entries.specs.declared.change.Change.{Change}

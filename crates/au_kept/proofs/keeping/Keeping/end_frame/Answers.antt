@@ -19,4 +19,5 @@ invariant_of-self c =
           c.self.invariant.kept_is;
       desk_is = c.self.invariant.desk_is;
       keyed = c.self.invariant.keyed;
+      changes = c.self.invariant.changes;
     }

@@ -1,7 +1,7 @@
 use Rattle.std.proofs.Common.{subst, sym}
 use Rattle.std.specs.Prelude.{◌↔◌, IfOk, IsTrue}
 use Rattle.au_kept.specs.Frames.{IsReplayable}
-use Rattle.au_kept.proofs.Frames.{AreSpellable, body_spellable, purge_spellable}
+use Rattle.au_kept.proofs.Frames.{body_spellable, purge_spellable}
 use Rattle.au_replay.specs.Reading.{conditions}
 use Rattle.rec_codec.specs.Frames.{IsSpellable}
 use Rattle.rec_codec.specs.declared.frame.Frame.{Frame}

@@ -3,7 +3,7 @@ use Rattle.std.specs.Prelude.{vec_capacity, vec_len}
 use Rattle.std.specs.List.{AllByRecursion}
 use Rattle.au_image.specs.Image.{kept_of}
 use Rattle.au_kept.specs.Keeping.{Contents}
-use Rattle.au_kept.specs.Writing.{KeepsKeys}
+use Rattle.au_kept.specs.Writing.{KeepsKeys, KeepsSound}
 use Rattle.au_kept.proofs.Written.{desk_here, nothing_laid, open_lists, written_holds}
 use Rattle.au_txn.specs.Desks.{Contents as Desk, IsWritable, open_of}
 use Rattle.au_txn.specs.Logs.{changes_of}
@@ -25,6 +25,8 @@ invariant_of-self c =
     (subst (λ (d : Desk). AllByRecursion (IsWritable d.tables (open_of d) c.args.client) c.args.changes.items) (sym here) c.requires.changes)
     (subst (λ (d : Desk). AreFrom (laid_over d.rows (open_of d c.args.client)) c.args.changes.items) (sym here) c.requires.old)
     (subst (λ (d : Desk). KeepsKeys d c.args.client c.args.changes.items) (sym here) c.requires.keys)
+    (subst (λ (s : Contents). KeepsSound s.kept.tables c.self.inside.desk c.args.client c.args.changes.items) (sym c.self.view_is)
+    (subst (λ (d : Desk). KeepsSound c.args.self.now.kept.tables d c.args.client c.args.changes.items) (sym here) c.requires.sound))
     c.write.ensures.tables c.write.ensures.rows c.write.ensures.own c.write.ensures.others
 
 pub returns-clause-others : goal.returns-clause-others

@@ -1,4 +1,4 @@
-use Rattle.std.proofs.Common.{◌≡◌, inl, inr, List, ℕ, length, Some, refl, sym, ap, subst, arith}
+use Rattle.std.proofs.Common.{◌≡◌, ◌∙◌, inl, inr, List, ℕ, length, Some, refl, sym, ap, subst, arith}
 use Rattle.au_journal.specs.Journals.{disk_of, seat_of}
 use Rattle.au_engine.specs.State.{State, start}
 use Rattle.rec_codec.specs.Frames.{framed}
@@ -11,7 +11,7 @@ use Rattle.au_store.proofs.Sound.{settled_sound}
 use Rattle.au_store.proofs.store.Store.begin.Goals as goal
 
 pub returns-then-instance-ge-INSTANCES-clause-why : goal.returns-then-instance-ge-INSTANCES-clause-why
-returns-then-instance-ge-INSTANCES-clause-why g c = omega (arith, c.if-instance-ge-INSTANCES.true, c.instance.ensures, c.lawful.ensures.kept.instance)
+returns-then-instance-ge-INSTANCES-clause-why g c = omega (arith, c.if-instance-ge-INSTANCES.true, c.instance.ensures, c.lawful.ensures.kept.lawful.instance)
 
 pub returns-then-instance-ge-INSTANCES-clause-time : goal.returns-then-instance-ge-INSTANCES-clause-time
 returns-then-instance-ge-INSTANCES-clause-time g c =
@@ -53,7 +53,7 @@ write_start-requires-clause-carries g c = λ _ _.
     let j = c.args.journal in
     let kept = c.args.engine.state.kept in
     let next = (start kept c.now-reading.result).kept in
-    let is : c.in-Ok.framed.items ≡ c.deref.result.now = cc in
+    let is : c.in-Ok.framed.items ≡ c.deref.result.now = sym c.deref.ensures.value in
     let carries = subst (λ (b : List ℕ). CarriesTo kept (Some b) next) is c.in-Ok.ensures.carries in
     (kept, next, carries)
 
@@ -63,7 +63,7 @@ invariant_of-result g c =
     let j = c.args.journal in
     let kept = c.args.engine.state.kept in
     let next = (start kept c.now-reading.result).kept in
-    let is : c.in-Ok.framed.items ≡ c.deref.result.now = cc in
+    let is : c.in-Ok.framed.items ≡ c.deref.result.now = sym c.deref.ensures.value in
     let carries = subst (λ (b : List ℕ). CarriesTo kept (Some b) next) is c.in-Ok.ensures.carries in
     let n = c.write_start.new.journal in
     let wrote = c.in-Ok-write_start.ensures in
@@ -77,7 +77,7 @@ returns-in-Ok-write_start-clause-begun g c = (omega (arith, c.if-instance-ge-INS
 pub returns-in-Ok-write_start-clause-moved : goal.returns-in-Ok-write_start-clause-moved
 returns-in-Ok-write_start-clause-moved g c =
     let kept = c.args.engine.state.kept in
-    let is : c.deref.result.now ≡ framed (start_frame kept c.now-reading.result) = cc (c.in-Ok.ensures.framed) in
+    let is : c.deref.result.now ≡ framed (start_frame kept c.now-reading.result) = c.deref.ensures.value ∙ c.in-Ok.ensures.framed in
     subst (λ (b : List ℕ). IsMovedTo (length b) (seat_of c.args.journal) (seat_of c.write_start.new.journal)) is c.in-Ok-write_start.ensures.moved
 
 pub returns-in-Ok-write_start-clause-kept : goal.returns-in-Ok-write_start-clause-kept
@@ -86,7 +86,7 @@ returns-in-Ok-write_start-clause-kept g c = λ told.
     let j = c.args.journal in
     let kept = c.args.engine.state.kept in
     let next = (start kept c.now-reading.result).kept in
-    let is : c.in-Ok.framed.items ≡ c.deref.result.now = cc in
+    let is : c.in-Ok.framed.items ≡ c.deref.result.now = sym c.deref.ensures.value in
     let carries = subst (λ (b : List ℕ). CarriesTo kept (Some b) next) is c.in-Ok.ensures.carries in
     let n = c.write_start.new.journal in
     subst (λ (s : State). IsKeptOn s.kept (meaning (disk_of n)) (seat_of n)) (sym c.in-Ok.ensures.state)
@@ -97,7 +97,7 @@ returns-in-Ok-write_start-clause-any_moment g c = λ told gated.
     let j = c.args.journal in
     let kept = c.args.engine.state.kept in
     let next = (start kept c.now-reading.result).kept in
-    let is : c.in-Ok.framed.items ≡ c.deref.result.now = cc in
+    let is : c.in-Ok.framed.items ≡ c.deref.result.now = sym c.deref.ensures.value in
     let carries = subst (λ (b : List ℕ). CarriesTo kept (Some b) next) is c.in-Ok.ensures.carries in
     c.write_start.ensures.any_moment told kept next (c.requires.read told) carries gated
 
@@ -107,7 +107,7 @@ returns-in-Ok-write_start-clause-cost g c =
     let j = c.args.journal in
     let kept = c.args.engine.state.kept in
     let n = c.write_start.new.journal in
-    let is : c.deref.result.now ≡ framed (start_frame kept c.now-reading.result) = cc (c.in-Ok.ensures.framed) in
+    let is : c.deref.result.now ≡ framed (start_frame kept c.now-reading.result) = c.deref.ensures.value ∙ c.in-Ok.ensures.framed in
     start_cost kept c.now-reading.result (meaning (disk_of j)).written (meaning (disk_of n)).written c.deref.result.now is c.write_start.ensures.cost
 
 pub returns-in-Ok-write_start-clause-cause : goal.returns-in-Ok-write_start-clause-cause
@@ -122,7 +122,7 @@ returns-in-Err-write_start-clause-cost g c =
     let j = c.args.journal in
     let kept = c.args.engine.state.kept in
     let n = c.write_start.new.journal in
-    let is : c.deref.result.now ≡ framed (start_frame kept c.now-reading.result) = cc (c.in-Ok.ensures.framed) in
+    let is : c.deref.result.now ≡ framed (start_frame kept c.now-reading.result) = c.deref.ensures.value ∙ c.in-Ok.ensures.framed in
     rw c.shut-in-Err-write_start.ensures (start_cost kept c.now-reading.result (meaning (disk_of j)).written (meaning (disk_of n)).written c.deref.result.now is c.write_start.ensures.cost)
 
 pub returns-in-Err-write_start-clause-cause : goal.returns-in-Err-write_start-clause-cause
@@ -144,7 +144,7 @@ returns-in-Err-write_start-clause-in_vain g c = (
       let j = c.args.journal in
       let kept = c.args.engine.state.kept in
       let next = (start kept c.now-reading.result).kept in
-      let is : c.in-Ok.framed.items ≡ c.deref.result.now = cc in
+      let is : c.in-Ok.framed.items ≡ c.deref.result.now = sym c.deref.ensures.value in
       let carries = subst (λ (b : List ℕ). CarriesTo kept (Some b) next) is c.in-Ok.ensures.carries in
       rw c.shut-in-Err-write_start.ensures (c.write_start.ensures.any_moment told kept next (c.requires.read told) carries gated),
 )

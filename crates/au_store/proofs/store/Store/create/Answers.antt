@@ -1,7 +1,7 @@
 use Rattle.std.proofs.Common.{◌≡◌}
 use Rattle.rec_codec.specs.Frames.{framed, spelled}
-use Rattle.au_engine.specs.Image.{image_of}
-use Rattle.au_engine.specs.Opening.{opening}
+use Rattle.au_image.specs.Image.{image_of}
+use Rattle.au_opening.specs.Opening.{opening}
 use Rattle.au_store.proofs.Begun.{no_time}
 use Rattle.au_store.proofs.Frames.{is_framed}
 use Rattle.au_store.proofs.Opening.{create_leaves, made_new, opening_begins}

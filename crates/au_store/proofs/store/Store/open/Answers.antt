@@ -1,7 +1,7 @@
 use Rattle.std.proofs.Common.{◌≡◌, ◌∙◌, false, refl, sym}
 use Rattle.au_io.specs.Moments.{both_pass, both_stay}
 use Rattle.au_journal.specs.Journals.{disk_of, seat_of}
-use Rattle.au_engine.specs.Image.{nothing}
+use Rattle.au_entries.specs.Imaging.{nothing}
 use Rattle.au_store.specs.Looking.{look_fault_of}
 use Rattle.au_store.proofs.Begun.{cause_after, match_both, no_cost, says_of}
 use Rattle.au_store.proofs.Reading.{gated_by, mount_cause, mount_says, open_leaves, opened_by, opening_cause, opens_in_vain, recovered, seated_by, start_says, unread_in_vain}

@@ -1,0 +1,5 @@
+pub mod Deciding
+pub mod Enabling
+pub mod Going
+pub mod Looking
+pub mod Policies

@@ -1,0 +1,11 @@
+pub mod Archiving
+pub mod Arguments
+pub mod Calling
+pub mod FineGrained
+pub mod Going
+pub mod Literals
+pub mod Once
+pub mod Reading
+pub mod Rights
+pub mod Rules
+pub mod Settings

@@ -1,0 +1,2 @@
+mod Hundreds
+mod Sampled

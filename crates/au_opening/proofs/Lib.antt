@@ -1,0 +1,4 @@
+pub mod Circles
+pub mod Pushed
+pub mod Spelled
+pub mod Standing

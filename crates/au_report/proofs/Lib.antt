@@ -1,0 +1,2 @@
+mod CsvLines
+mod RecordFields

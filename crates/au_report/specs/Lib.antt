@@ -1,0 +1,4 @@
+pub mod Checks
+pub mod Exports
+pub mod Lines
+pub mod descent
