@@ -20,10 +20,10 @@ use Rattle.sql_ast.specs.declared.administration.AuditedUsers.{AuditedUsers}
 use Rattle.sql_ast.specs.declared.administration.AuditedUsers.TheVariants as named
 use Rattle.sql_ast.specs.declared.administration.Whenever.{Whenever}
 
-abbrev Listed : Type 0
+abbrev pub Listed : Type 0
 Listed = List ℕ × Outcomes
 
-abbrev firsts : List Listed → List (List ℕ)
+abbrev pub firsts : List Listed → List (List ℕ)
 firsts listed = map (λ entry. entry.0) listed
 
 -- where an enablement is made, all whom it names pass
@@ -31,7 +31,7 @@ abbrev pub AllNamed : (List ℕ → Bool) → Result Enabled Code → Type 0
 AllNamed test (Ok made) = list_all test (named_users made) ≡ true
 AllNamed test (Err code) = ⊤
 
-all_once : (test : List ℕ → Bool) (names : List (List ℕ)) → list_all test names ≡ true → list_all test (each_once names) ≡ true
+pub all_once : (test : List ℕ → Bool) (names : List (List ℕ)) → list_all test names ≡ true → list_all test (each_once names) ≡ true
 all_once test [] all = refl
 all_once test (name ∷ names) all =
     let parts = and_parts (test name) (list_all test names) all in
@@ -42,24 +42,24 @@ first_if : (b : Bool) (a other : Listed) → a.0 ≡ other.0 → (if b then a el
 first_if true a other same = same
 first_if false a other same = refl
 
-firsts_widened : (users : List (List ℕ)) (outcomes : Outcomes) (listed : List Listed) → firsts (map (widened users outcomes) listed) ≡ firsts listed
+pub firsts_widened : (users : List (List ℕ)) (outcomes : Outcomes) (listed : List Listed) → firsts (map (widened users outcomes) listed) ≡ firsts listed
 firsts_widened users outcomes [] = refl
 firsts_widened users outcomes (entry ∷ listed) =
     ap₂ (λ (first : List ℕ) (rest : List (List ℕ)). first ∷ rest)
     (first_if (is_among users entry.0) (entry.0, with_outcomes outcomes entry.1) entry refl) (firsts_widened users outcomes listed)
 
-firsts_new : (outcomes : Outcomes) (names : List (List ℕ)) → firsts (map (λ user. (user, outcomes)) names) ≡ names
+pub firsts_new : (outcomes : Outcomes) (names : List (List ℕ)) → firsts (map (λ user. (user, outcomes)) names) ≡ names
 firsts_new outcomes [] = refl
 firsts_new outcomes (name ∷ names) = ap (λ (rest : List (List ℕ)). name ∷ rest) (firsts_new outcomes names)
 
-named_for : (listed : List Listed) → named_users (for_users listed) ≡ firsts listed
+pub named_for : (listed : List Listed) → named_users (for_users listed) ≡ firsts listed
 named_for [] = refl
 named_for (entry ∷ listed) = refl
 
 all_for : (test : List ℕ → Bool) (listed : List Listed) → list_all test (firsts listed) ≡ true → list_all test (named_users (for_users listed)) ≡ true
 all_for test listed all = ap (list_all test) (named_for listed) ∙ all
 
-all_with : (test : List ℕ → Bool) (users : List (List ℕ)) (outcomes : Outcomes) (listed : List Listed) → list_all test users ≡ true → list_all test (firsts listed) ≡ true
+pub all_with : (test : List ℕ → Bool) (users : List (List ℕ)) (outcomes : Outcomes) (listed : List Listed) → list_all test users ≡ true → list_all test (firsts listed) ≡ true
     → list_all test (firsts (with_users users outcomes listed)) ≡ true
 all_with test users outcomes listed named stand =
     let wider : List Listed = map (widened users outcomes) listed in

@@ -170,9 +170,9 @@ module _ (conditions : Conditions) (kept : Kept) where
 
     called : stamp.0 ≤ LAST_MOMENT → (rights : AuditRights) (name : Procedure) (arguments : List Argument)
         → ((moment : ℕ) → given arguments LastArchiveTime ≡ Some (value.Moment moment) → moment ≤ LAST_MOMENT)
-        → ((target : FgaName) (parts : FgaParts) (table : Table) → target_of user arguments ≡ Some target → parts_of arguments ≡ Some parts → IsKeptTable kept target.table table → IsReadAs conditions (Some table) parts.condition read)
+        → (name ≡ procedure.AddPolicy → (target : FgaName) (parts : FgaParts) (table : Table) → target_of user arguments ≡ Some target → parts_of arguments ≡ Some parts → IsKeptTable kept target.table table → IsReadAs conditions (Some table) parts.condition read)
         → Goes (call_decided rights it name arguments).changes
-    called early rights procedure.AddPolicy arguments timely reads = added rights (target_of user arguments) (parts_of arguments) reads
+    called early rights procedure.AddPolicy arguments timely reads = added rights (target_of user arguments) (parts_of arguments) (reads refl)
     called early rights procedure.DropPolicy arguments timely reads = dropped rights (target_of user arguments)
     called early rights procedure.EnablePolicy arguments timely reads = switched rights (target_of user arguments) (truth_in (given arguments Enable))
     called early rights procedure.DisablePolicy arguments timely reads = switched rights (target_of user arguments) (Some false)

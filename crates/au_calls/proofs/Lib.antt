@@ -1,8 +1,14 @@
 pub mod Answered
+pub mod Apart
 pub mod Columns
 pub mod Going
 pub mod KeptOnce
+pub mod Made
 pub mod Members
 pub mod Naming
+pub mod Placing
 pub mod Refused
+pub mod Spelled
+pub mod Told
 pub mod Unique
+pub mod Whole

@@ -12,11 +12,11 @@ there : {X : Type 0} (y : X) (xs : List X) (x : X) → Contains xs x → Contain
 there y xs x (k, within, is) = (suc k, omega arith, is)
 
 -- an element is the first or of the rest
-split : {X : Type 0} (y : X) (xs : List X) (x : X) → Contains (y ∷ xs) x → (y ≡ x) ⊎ Contains xs x
+pub split : {X : Type 0} (y : X) (xs : List X) (x : X) → Contains (y ∷ xs) x → (y ≡ x) ⊎ Contains xs x
 split y xs x (zero, within, is) = inl is
 split y xs x (suc k, within, is) = inr (k, omega arith, is)
 
-none : {X : Type 0} (x : X) → Contains {X = X} [] x → ⊥
+pub none : {X : Type 0} (x : X) → Contains {X = X} [] x → ⊥
 none x (k, within, is) = omega arith
 
 -- a test that some element passes finds one

@@ -29,7 +29,8 @@ is_name_from text utf8 (long, named) =
     (and_from _ _ (is_utf8-from_IsUtf8 (identifier_of text) named)
     (and_from _ _ (long_enough (identifier_of text) long.some) (le-leb (length (identifier_of text)) 128 long.capped)))
 
-to_name : (text : List ℕ) → is_name text ≡ true → IsName (identifier_of text)
+-- and what such a text names is a name
+pub to_name : (text : List ℕ) → is_name text ≡ true → IsName (identifier_of text)
 to_name text is =
     let outer = and_parts (is_utf8 text) _ is in
     let inner = and_parts (is_utf8 (identifier_of text)) _ outer.1 in

@@ -38,10 +38,10 @@ DecidesCall setting call decision = DecidedByRights setting (λ rights. call_dec
 
 -- ---- what has to be so, so that the changes of a call go on from what is kept
 
--- so of the condition in the user's call, which is over the table of its fine-grained policy
+-- so of the condition in the user's call of ADD_POLICY, which is over the table of its fine-grained policy
 abbrev pub IsCallRead : Conditions → Kept → List ℕ → Call → ReadCondition → Type 0
 IsCallRead conditions kept user call read =
-    (target : FgaName) (parts : FgaParts) (table : Table) → target_of user call.arguments ≡ Some target → parts_of call.arguments ≡ Some parts
+    call.procedure ≡ procedure.AddPolicy → (target : FgaName) (parts : FgaParts) (table : Table) → target_of user call.arguments ≡ Some target → parts_of call.arguments ≡ Some parts
     → IsKeptTable kept target.table table → IsReadAs conditions (Some table) parts.condition read
 
 -- the moment that a call is given, where it is given one, isn't over the last moment, as no TIMESTAMP literal is

@@ -9,3 +9,4 @@ pub mod Reading
 pub mod Rights
 pub mod Rules
 pub mod Settings
+pub mod Written

@@ -1,0 +1,4 @@
+pub mod Admitted
+pub mod Found
+pub mod Raised
+pub mod Read

@@ -1,0 +1,9 @@
+pub mod Members
+pub mod Elements
+pub mod Laid
+pub mod Rows
+pub mod Fitting
+pub mod Fires
+pub mod Allowed
+pub mod Queries
+pub mod CreatedTables

@@ -1,0 +1,11 @@
+pub mod Changed
+pub mod Few
+pub mod Fired
+pub mod Going
+pub mod Lists
+pub mod Objects
+pub mod Once
+pub mod Purges
+pub mod QueryCodes
+pub mod ReadGrants
+pub mod Told

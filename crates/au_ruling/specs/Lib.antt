@@ -1,0 +1,4 @@
+pub mod Cases
+pub mod Kinds
+pub mod Rulings
+pub mod Sound

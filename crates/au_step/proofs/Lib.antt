@@ -1,0 +1,15 @@
+pub mod Clients
+pub mod Ending
+pub mod Frames
+pub mod Given
+pub mod KeptLawful
+pub mod Logoffs
+pub mod Logons
+pub mod OneResult
+pub mod Places
+pub mod Seats
+pub mod Statements
+pub mod Stepping
+pub mod Steps
+pub mod Texts
+pub mod Tokens

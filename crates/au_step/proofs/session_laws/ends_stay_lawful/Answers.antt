@@ -1,0 +1,12 @@
+use Rattle.au_step.proofs.Clients.{without_off, without_one}
+use Rattle.au_step.proofs.Ending.{abandoned_lawful}
+use Rattle.au_step.proofs.session_laws.ends_stay_lawful.Goals as goal
+
+pub returns-clause-lawful : goal.returns-clause-lawful
+returns-clause-lawful c = abandoned_lawful
+
+pub returns-clause-off : goal.returns-clause-off
+returns-clause-off c = λ m client. without_off client m.sessions
+
+pub returns-clause-one : goal.returns-clause-one
+returns-clause-one c = λ m client one. without_one client m.sessions one

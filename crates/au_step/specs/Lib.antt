@@ -1,0 +1,13 @@
+pub mod Abandoning
+pub mod Framing
+pub mod Lawful
+pub mod Planning
+pub mod Reading
+pub mod Replaying
+pub mod Returning
+pub mod Runs
+pub mod Sessions
+pub mod Sound
+pub mod State
+pub mod Step
+pub mod descent
