@@ -10,8 +10,8 @@ use Rattle.au_entries.specs.Imaging.{image_changes, nothing}
 use Rattle.au_image.specs.Image.{image_of}
 use Rattle.au_replay.specs.Reading.{conditions}
 use Rattle.rec_codec.specs.declared.frame.Frame.TheVariants.{Image}
-use Rattle.au_engine.specs.Replaying.{IsReplayable}
-use Rattle.au_engine.specs.State.{State, resting}
+use Rattle.au_step.specs.Replaying.{IsReplayable}
+use Rattle.au_step.specs.State.{State, resting}
 
 pub opens : (kept : Kept) (m : State) (last : Stamp) (changes : List Change) (records : List Record) (goes : Bool) → m ≡ resting nothing → last ≡ kept.last → changes ≡ image_changes kept
     → IsReplayable nothing (image_of kept) → IsTrue goes ↔ IsReplayable m.kept (Image last changes records) → goes ≡ false → ⊥

@@ -1,14 +1,4 @@
-pub mod Abandoning
-pub mod Answering
-pub mod Auditing
-pub mod Deciding
-pub mod Forms
-pub mod Framing
-pub mod Lawful
+pub mod Logons
 pub mod Prepared
-pub mod Reading
-pub mod Replaying
-pub mod Returning
-pub mod Runs
-pub mod State
-pub mod Step
+pub mod Reserved
+pub mod Sessions

@@ -1,47 +1,29 @@
-//! The engine: the whole state, and its steps.
-ghost use Rattle.std.specs.Prelude.{◌≡◌, ◌↔◌, ◌≤◌, ◌<◌, [], IfOk, IsTrue, OnErr, OnOk, if◌then◌else◌, is_some, length};
-ghost use Rattle.au_base.specs.Limits.{INSTANCES, INSTANCE_SESSIONS};
+//! The engine: the whole state.
+ghost use Rattle.std.specs.Prelude.{◌≡◌, ◌↔◌, ◌<◌, [], IfOk, IsTrue, OnErr, OnOk, if◌then◌else◌, is_some};
+ghost use Rattle.au_base.specs.Limits.{INSTANCES};
+ghost use Rattle.au_base.specs.declared.numbers.ClientNo.{ClientNo as Client};
 ghost use Rattle.au_entries.specs.Imaging.{nothing};
 ghost use Rattle.au_image.specs.Image.{image_of};
 ghost use Rattle.au_opening.specs.Opening.{opening};
+ghost use Rattle.au_step.specs.Abandoning.{abandoned};
+ghost use Rattle.au_step.specs.Lawful.{IsLawfulState};
+ghost use Rattle.au_step.specs.Replaying.{EndsWell, IsImage, IsReplayable, after_frame};
+ghost use Rattle.au_step.specs.Returning.{start_frame};
+ghost use Rattle.au_step.specs.State.{resting, stamp_of};
+ghost use Rattle.au_step.specs.Step.{session_of};
+ghost use Rattle.au_txn.specs.Logs.{changes_of};
+ghost use Rattle.au_step.specs.Sessions.{HaveOneEach};
+ghost use Rattle.au_engine.specs.Prepared.{Fits, after, instance_after};
 ghost use Rattle.rec_codec.specs.Frames.{IsSpellable, framed};
-ghost use Rattle.au_engine.specs.Abandoning.{abandoned};
-ghost use Rattle.au_engine.specs.Answering.{code_reply, reply_of};
-ghost use Rattle.au_engine.specs.Auditing.{records_of};
-ghost use Rattle.au_engine.specs.Deciding.{Decides};
-ghost use Rattle.au_engine.specs.Framing.{Writes};
-ghost use Rattle.au_engine.specs.Lawful.{IsLawfulState};
-ghost use Rattle.au_engine.specs.Prepared.{Fits, after, drawn_after, left_by, made_of};
-ghost use Rattle.au_engine.specs.Reading.{IsReadAs, IsReadOf};
-ghost use Rattle.au_engine.specs.Replaying.{EndsWell, IsImage, IsReplayable, after_frame};
-ghost use Rattle.au_engine.specs.Returning.{start_frame};
-ghost use Rattle.au_engine.specs.State.{IsStampOf, resting, stamp_of};
-ghost use Rattle.au_engine.specs.Step.{IsAsked, LocalStep, LoggedStep, SessionStep, SqlStep, StatementStep, StepAt, after_logon, after_refused_logon, concluded, last_after, logon_records, next_number, no_session, nothing_logged, recorded, session_of};
 
-use crate::answer::{code_reply, reply};
-use crate::auditing::records_for;
-use crate::deciding::decide;
-use crate::decision::Decision;
-use crate::facts::{logon_facts, logon_place, statement_facts, statement_place};
-use crate::form::BuiltForm;
-use crate::framing::{asks_are_text, with_frame};
-use crate::outcome::{Outcome, SessionChange};
-use crate::place::Place;
 use crate::prepared::Prepared;
-use crate::reading::built;
-use crate::session::Session;
-use crate::sessions::{counted, drawn_after, end_session, entries_after, session_of, settle};
-use crate::trail::last_after;
-use au_base::built_in::SYS;
-use au_base::limits::{INSTANCE_SESSIONS, OPEN_SESSIONS};
-use au_base::{
-    Ask, ClientNo, Code, LAST_MOMENT, List, Memory, Name, Reply, SessionNo, Stamp, Text,
-};
-use au_catalog::{Change, Facts, Kept, Record};
+use crate::sessions::{drawn_after, end_session, settle};
+use au_base::{ClientNo, LAST_MOMENT, List, Memory, Name, Reply, Stamp};
+use au_entries::{Change, Kept, Record};
 use au_kept::Keeping;
 use au_opening::opening_changes;
+use au_step::{Session, ends_stay_lawful, starts_can_be_written};
 use rec_codec::Frame;
-use sql_ast::Statement;
 use std::alloc::Global;
 use std::marker::Model;
 
@@ -49,26 +31,25 @@ use std::marker::Model;
 /// yet, and the numbers of rows, records and sessions for which room is reserved.
 #[derive(Drop)]
 pub struct Engine {
-    keeping: Keeping,
-    sessions: Vec<Session>,
+    pub(crate) keeping: Keeping,
+    pub(crate) sessions: Vec<Session>,
     /// How many sessions the instance has drawn.
-    drawn: u32,
+    pub(crate) drawn: u32,
     /// The results that are kept of conditions which are evaluated once an instance.
-    results: List<(Name, bool)>,
+    pub(crate) results: List<(Name, bool)>,
     /// For so many more sessions there is room.
-    seats: usize,
+    pub(crate) seats: usize,
 }
 
 impl Model for Engine {
     ghost use Rattle.std.specs.Prelude.{◌≡◌, ◌+◌, ◌≤◌, [], vec_len, vec_capacity};
-    ghost use Rattle.std.specs.List.{AllByRecursion};
     ghost use Rattle.std.specs.Coded.{codes as value_codes};
-    ghost use Rattle.au_base.specs.Limits.{INSTANCE_SESSIONS};
     ghost use Rattle.au_base.specs.declared.numbers.ClientNo.{ClientNo as Client};
     ghost use Rattle.au_txn.specs.Logs.{changes_of};
     ghost use Rattle.sql_ast.specs.contracts.expression.Expr as expression;
-    ghost use Rattle.au_engine.specs.Lawful.{IsLawfulSession};
-    ghost use Rattle.au_engine.specs.State.{Reserved};
+    ghost use Rattle.au_step.specs.Lawful.{IsLawfulState};
+    ghost use Rattle.au_step.specs.Sessions.{HaveOneEach};
+    ghost use Rattle.au_engine.specs.Reserved.{Reserved};
 
     ghost Value = { Reserved };
 
@@ -82,7 +63,10 @@ impl Model for Engine {
       seats = e.seats;
     } };
 
-    ghost invariant = { λ e. (vec_len e.sessions + e.seats ≤ vec_capacity e.sessions) × (e.drawn ≤ INSTANCE_SESSIONS) × AllByRecursion IsLawfulSession e.sessions.items × ((client : Client) → changes_of client e.keeping.logs ≡ []) };
+    ghost invariant = { λ e. (vec_len e.sessions + e.seats ≤ vec_capacity e.sessions)
+        × IsLawfulState (record { kept = e.keeping.kept; sessions = e.sessions.items; drawn = e.drawn; results = e.results })
+        × HaveOneEach e.sessions.items
+        × ((client : Client) → changes_of client e.keeping.logs ≡ []) };
 }
 
 impl Engine {
@@ -140,15 +124,18 @@ impl Engine {
 
     /// Replays a frame: `true` exactly where it goes on from what is kept, which is then what it
     /// makes of it. Where it doesn't, all stays as it was. An image comes to an engine that keeps
-    /// nothing.
+    /// nothing. No client has a session.
     pub fn replay(&mut self, alloc: Global, frame: Frame) -> Result<bool, Memory>
         requires spelled { IsSpellable frame }
         requires first { IsImage frame → self.old.state.kept ≡ nothing }
+        requires idle { self.old.state.sessions ≡ [] }
         ensures rule { IfOk result (λ done. IsTrue done ↔ IsReplayable self.old.state.kept frame) }
         ensures state { IfOk result (λ done. self.new.state ≡ (if done then record self.old.state { kept = after_frame self.old.state.kept frame } else self.old.state)) }
         ensures err { OnErr result (self.new.state ≡ self.old.state) }
     {
-        self.keeping.replay(alloc, frame)
+        let done = self.keeping.replay(alloc, frame);
+        self.keeping.holds_together();
+        done
     }
 
     /// The event with which the next instance begins, at this reading of the clock.
@@ -157,7 +144,8 @@ impl Engine {
         ensures frame { IfOk result (λ frame. frame ≡ start_frame self.now.state.kept reading) }
         ensures spellable { IsSpellable (start_frame self.now.state.kept reading) }
     {
-        self.can_start(reading);
+        self.lawful();
+        starts_can_be_written();
         let mut changes = List::new(alloc);
         changes.push(Change::Start(self.instance() + 1))?;
         Ok(Frame::Event {
@@ -165,30 +153,6 @@ impl Engine {
             changes,
             records: List::new(alloc),
         })
-    }
-
-    /// Works out the step of a client's ask at this stamp, and leaves the state as it is. A text
-    /// that is asked comes with what it is read as; with another ask any value comes.
-    pub fn prepare(
-        &mut self,
-        alloc: Global,
-        client: ClientNo,
-        ask: &Ask,
-        read: &Result<Statement, Code>,
-        stamp: Stamp,
-    ) -> Result<Prepared, Memory>
-        requires asked { IsAsked ask.now }
-        requires read { IsReadOf ask.now read.now }
-        requires stamp { IsStampOf self.old.state stamp.0 }
-        ensures step { IfOk result (λ prepared. StepAt self.old.state client ask.now stamp.0 prepared.reply (after prepared self.old.state)) }
-        ensures writes { IfOk result (λ prepared. Writes self.old.state client ask.now stamp.0 (after prepared self.old.state) prepared.framed) }
-        ensures keeps { self.new.state ≡ self.old.state }
-        ensures fits { IfOk result (λ prepared. Fits prepared self.new) }
-    {
-        self.reserve()?;
-        let outcome = self.step(alloc, client, ask, read, stamp)?;
-        let outcome = self.framed(alloc, client, ask, stamp, outcome)?;
-        self.ready(alloc, client, ask, stamp, outcome)
     }
 
     /// Makes a step that was worked out. It takes no memory and can't fail.
@@ -200,6 +164,7 @@ impl Engine {
         let Prepared {
             reply,
             sessions,
+            results,
             changes: _,
             staged,
             records,
@@ -211,6 +176,7 @@ impl Engine {
         self.keeping
             .settle(staged, None, records.into_vec(), None, last);
         settle(&mut self.sessions, sessions);
+        set_results(&mut self.results, results);
         reply
     }
 
@@ -218,7 +184,7 @@ impl Engine {
     pub fn stands(&self, client: ClientNo) -> bool
         ensures { result ≡ is_some (session_of self.now.state.sessions client) }
     {
-        session_of(&self.sessions, client).is_some()
+        self.client_session(client).is_some()
     }
 
     /// Ends the client's session, where it has one. Nothing else is changed, and nothing is recorded.
@@ -226,6 +192,8 @@ impl Engine {
     pub fn abandon(&mut self, client: ClientNo)
         ensures { self.new.state ≡ abandoned client self.old.state }
     {
+        self.holds_together();
+        ends_stay_lawful();
         end_session(&mut self.sessions, client);
     }
 
@@ -241,7 +209,24 @@ impl Engine {
     pub fn lawful(&self)
         ensures { IsLawfulState self.now.state }
     {
-        self.keeping.holds_together();
+        self.holds_together();
+    }
+
+    /// No client has two sessions. It does nothing, and states the law for its callers.
+    pub fn sessions_are_apart(&self)
+        ensures { HaveOneEach self.now.state.sessions }
+    {
+        self.holds_together();
+    }
+
+    /// What holds of every engine: its state is lawful, no client has two sessions, and none has
+    /// changes of rows. It does nothing, and states it for its callers.
+    pub(crate) fn holds_together(&self)
+        ensures lawful { IsLawfulState self.now.state }
+        ensures apart { HaveOneEach self.now.state.sessions }
+        ensures quiet { (client : Client) → changes_of client self.now.logs ≡ [] }
+    {
+        let _drawn = self.drawn;
     }
 
     // No instance runs over what is kept, which is nothing.
@@ -250,6 +235,7 @@ impl Engine {
         requires logs { keeping.logs ≡ [] }
         ensures { result.state ≡ resting nothing }
     {
+        keeping.holds_together();
         Engine {
             keeping,
             sessions: Vec::new(alloc),
@@ -277,353 +263,13 @@ impl Engine {
         }
         unreachable!()
     }
+}
 
-    // The event with which the next instance begins can be written.
-    fn can_start(&self, reading: u64)
-        requires { self.now.state.kept.instance < INSTANCES }
-        ensures { IsSpellable (start_frame self.now.state.kept reading) }
-    {
-        self.lawful();
-    }
-
-    // Makes room for a session.
-    fn reserve(&mut self) -> Result<(), Memory>
-        ensures keeps { self.new.state ≡ self.old.state }
-        ensures seat { OnOk result (0 < self.new.seats) }
-    {
-        self.sessions.reserve(1)?;
-        self.seats = 1;
-        Ok(())
-    }
-
-    // The step with the framed bytes of what it writes.
-    fn framed(
-        &self,
-        alloc: Global,
-        client: ClientNo,
-        ask: &Ask,
-        stamp: Stamp,
-        outcome: Outcome,
-    ) -> Result<Outcome, Memory>
-        requires stamp { IsStampOf self.now.state stamp.0 }
-        requires step { LoggedStep self.now.state client ask.now stamp.0 outcome.reply (left_by outcome) (made_of outcome self.now.state) }
-        ensures made { IfOk result (λ made. made ≡ record outcome { framed = made.framed }) }
-        ensures writes { IfOk result (λ made. Writes self.now.state client ask.now stamp.0 (made_of made self.now.state) made.framed) }
-    {
-        self.lawful();
-        asks_are_text(ask);
-        let made = with_frame(alloc, stamp, outcome)?;
-        Ok(made)
-    }
-
-    // The step with its changes ready to be made, and with room for its records.
-    fn ready(
-        &mut self,
-        alloc: Global,
-        client: ClientNo,
-        ask: &Ask,
-        stamp: Stamp,
-        outcome: Outcome,
-    ) -> Result<Prepared, Memory>
-        requires stamp { IsStampOf self.old.state stamp.0 }
-        requires step { LoggedStep self.old.state client ask.now stamp.0 outcome.reply (left_by outcome) (made_of outcome self.old.state) }
-        requires seat { 0 < self.old.seats }
-        requires drawn { drawn_after outcome.sessions self.old.state.drawn ≤ INSTANCE_SESSIONS }
-        ensures reply { IfOk result (λ prepared. prepared.reply ≡ outcome.reply) }
-        ensures after { IfOk result (λ prepared. after prepared self.old.state ≡ made_of outcome self.old.state) }
-        ensures framed { IfOk result (λ prepared. prepared.framed ≡ outcome.framed) }
-        ensures keeps { self.new.state ≡ self.old.state }
-        ensures fits { IfOk result (λ prepared. Fits prepared self.new) }
-    {
-        self.lawful();
-        asks_are_text(ask);
-        au_kept::spellings_are_short();
-        let staged = self
-            .keeping
-            .stage(alloc, outcome.changes.as_slice(), outcome.records.len())?;
-        let Outcome {
-            reply,
-            sessions,
-            changes,
-            records,
-            last,
-            framed,
-        } = outcome;
-        Ok(Prepared {
-            reply,
-            sessions,
-            changes,
-            staged,
-            records,
-            last,
-            framed,
-        })
-    }
-
-    fn step(
-        &self,
-        alloc: Global,
-        client: ClientNo,
-        ask: &Ask,
-        read: &Result<Statement, Code>,
-        stamp: Stamp,
-    ) -> Result<Outcome, Memory>
-        requires asked { IsAsked ask.now }
-        requires read { IsReadOf ask.now read.now }
-        ensures step { IfOk result (λ outcome. LoggedStep self.now.state client ask.now stamp.0 outcome.reply (left_by outcome) (made_of outcome self.now.state)) }
-        ensures drawn { IfOk result (λ outcome. drawn_after outcome.sessions self.now.state.drawn ≤ INSTANCE_SESSIONS) }
-    {
-        match ask {
-            Ask::Local => self.local(alloc, client, stamp),
-            Ask::Sql(text) => self.sql(alloc, client, text, read, stamp),
-            Ask::Logon { .. } | Ask::Logoff => unreachable!(),
-        }
-    }
-
-    // A logon of SYS without a password.
-    fn local(&self, alloc: Global, client: ClientNo, stamp: Stamp) -> Result<Outcome, Memory>
-        ensures step { IfOk result (λ outcome. LocalStep self.now.state client stamp.0 outcome.reply (left_by outcome) (made_of outcome self.now.state)) }
-        ensures drawn { IfOk result (λ outcome. drawn_after outcome.sessions self.now.state.drawn ≤ INSTANCE_SESSIONS) }
-    {
-        if session_of(&self.sessions, client).is_some() {
-            return Ok(self.unchanged(alloc, code_reply(alloc, Code::SESSION_PRESENT)));
-        }
-        let user = Name::from_str(alloc, SYS)?;
-        if self.sessions.len() >= OPEN_SESSIONS || self.drawn >= INSTANCE_SESSIONS {
-            return self.refuse_logon(alloc, user, Code::TOO_MANY_SESSIONS, stamp);
-        }
-        self.log_on(alloc, client, user, stamp)
-    }
-
-    // A step that answers this and changes nothing.
-    fn unchanged(&self, alloc: Global, reply: Reply) -> Outcome
-        ensures reply { result.reply ≡ reply }
-        ensures logged { left_by result ≡ nothing_logged }
-        ensures same { made_of result self.now.state ≡ self.now.state }
-        ensures drawn { drawn_after result.sessions self.now.state.drawn ≤ INSTANCE_SESSIONS }
-    {
-        Outcome {
-            reply,
-            sessions: SessionChange::Nothing,
-            changes: List::new(alloc),
-            records: List::new(alloc),
-            last: self.keeping.last(),
-            framed: None,
-        }
-    }
-
-    // A logon that is refused with this code.
-    fn refuse_logon(
-        &self,
-        alloc: Global,
-        user: Name,
-        code: Code,
-        stamp: Stamp,
-    ) -> Result<Outcome, Memory>
-        ensures reply { IfOk result (λ outcome. outcome.reply ≡ code_reply code) }
-        ensures logged { IfOk result (λ outcome. left_by outcome ≡ recorded (logon_records self.now.state.kept user code no_session stamp.0)) }
-        ensures next { IfOk result (λ outcome. made_of outcome self.now.state ≡ after_refused_logon self.now.state user code stamp.0) }
-        ensures drawn { IfOk result (λ outcome. drawn_after outcome.sessions self.now.state.drawn ≤ INSTANCE_SESSIONS) }
-    {
-        self.has_drawn_few();
-        let facts = logon_facts(alloc, user, code);
-        let place = logon_place(SessionNo(0), stamp);
-        let records = self.records_for(alloc, facts, place)?;
-        Ok(Outcome {
-            reply: code_reply(alloc, code),
-            sessions: SessionChange::Nothing,
-            changes: List::new(alloc),
-            last: self.last_after(stamp, &[], records.as_slice()),
-            records,
-            framed: None,
-        })
-    }
-
-    // A logon that begins the instance's next session.
-    fn log_on(
-        &self,
-        alloc: Global,
-        client: ClientNo,
-        user: Name,
-        stamp: Stamp,
-    ) -> Result<Outcome, Memory>
-        requires { self.now.state.drawn < INSTANCE_SESSIONS }
-        ensures reply { IfOk result (λ outcome. outcome.reply ≡ code_reply Code.DONE) }
-        ensures logged { IfOk result (λ outcome. left_by outcome ≡ recorded (logon_records self.now.state.kept user Code.DONE (next_number self.now.state) stamp.0)) }
-        ensures next { IfOk result (λ outcome. made_of outcome self.now.state ≡ after_logon self.now.state client user stamp.0) }
-        ensures drawn { IfOk result (λ outcome. drawn_after outcome.sessions self.now.state.drawn ≤ INSTANCE_SESSIONS) }
-    {
-        let number = self.next_number();
-        let facts = logon_facts(alloc, user.clone()?, Code::DONE);
-        let place = logon_place(number, stamp);
-        let records = self.records_for(alloc, facts, place)?;
-        let session = Session {
-            client,
-            user,
-            number,
-            statements: 0,
-            entries: records.len() as u32,
-            results: List::new(alloc),
-        };
-        Ok(Outcome {
-            reply: code_reply(alloc, Code::DONE),
-            sessions: SessionChange::Begins(session),
-            changes: List::new(alloc),
-            last: self.last_after(stamp, &[], records.as_slice()),
-            records,
-            framed: None,
-        })
-    }
-
-    fn next_number(&self) -> SessionNo
-        requires { self.now.state.drawn < INSTANCE_SESSIONS }
-        ensures { result ≡ next_number self.now.state }
-    {
-        SessionNo(u64::from(self.instance()) * 1_000_000_000 + (u64::from(self.drawn) + 1))
-    }
-
-    // A text of a client.
-    fn sql(
-        &self,
-        alloc: Global,
-        client: ClientNo,
-        text: &Text,
-        read: &Result<Statement, Code>,
-        stamp: Stamp,
-    ) -> Result<Outcome, Memory>
-        requires { IsReadAs text.now read.now }
-        ensures step { IfOk result (λ outcome. SqlStep self.now.state client text.now stamp.0 outcome.reply (left_by outcome) (made_of outcome self.now.state)) }
-        ensures drawn { IfOk result (λ outcome. drawn_after outcome.sessions self.now.state.drawn ≤ INSTANCE_SESSIONS) }
-    {
-        match session_of(&self.sessions, client) {
-            None => Ok(self.unchanged(alloc, code_reply(alloc, Code::NOT_LOGGED_ON))),
-            Some(session) => self.text(alloc, session, text, read, stamp),
-        }
-    }
-
-    // A text of a client that has this session.
-    fn text(
-        &self,
-        alloc: Global,
-        session: &Session,
-        text: &Text,
-        read: &Result<Statement, Code>,
-        stamp: Stamp,
-    ) -> Result<Outcome, Memory>
-        requires { IsReadAs text.now read.now }
-        ensures step { IfOk result (λ outcome. SessionStep self.now.state session.now text.now stamp.0 outcome.reply (left_by outcome) (made_of outcome self.now.state)) }
-        ensures drawn { IfOk result (λ outcome. drawn_after outcome.sessions self.now.state.drawn ≤ INSTANCE_SESSIONS) }
-    {
-        match built(text, read) {
-            Ok(form) => {
-                let outcome = self.statement(alloc, session, form, text, stamp)?;
-                Ok(outcome)
-            }
-            Err(code) => Ok(self.unchanged(alloc, code_reply(alloc, code))),
-        }
-    }
-
-    // A text that was read as a built statement.
-    fn statement(
-        &self,
-        alloc: Global,
-        session: &Session,
-        form: BuiltForm,
-        text: &Text,
-        stamp: Stamp,
-    ) -> Result<Outcome, Memory>
-        ensures step { IfOk result (λ outcome. StatementStep self.now.state session.now form text.now stamp.0 outcome.reply (left_by outcome) (made_of outcome self.now.state)) }
-        ensures drawn { IfOk result (λ outcome. drawn_after outcome.sessions self.now.state.drawn ≤ INSTANCE_SESSIONS) }
-    {
-        let decision = self.decide(alloc, &session.user, form)?;
-        let Decision {
-            code,
-            used,
-            changes,
-        } = decision;
-        let reply = self.reply(alloc, form, code)?;
-        let facts = statement_facts(alloc, &session.user, form, used, code)?;
-        let place = statement_place(alloc, session, form, text, stamp)?;
-        let records = self.records_for(alloc, facts, place)?;
-        let outcome = self.concluded(reply, session, changes, records, stamp);
-        Ok(outcome)
-    }
-
-    // A statement of the session with these changes and records.
-    fn concluded(
-        &self,
-        reply: Reply,
-        session: &Session,
-        changes: List<Change>,
-        records: List<Record>,
-        stamp: Stamp,
-    ) -> Outcome
-        ensures reply { result.reply ≡ reply }
-        ensures logged { left_by result ≡ record { changes = changes; records = records } }
-        ensures next { made_of result self.now.state ≡ concluded self.now.state session.now stamp.0 changes records }
-        ensures drawn { drawn_after result.sessions self.now.state.drawn ≤ INSTANCE_SESSIONS }
-    {
-        self.has_drawn_few();
-        Outcome {
-            reply,
-            sessions: SessionChange::Counts {
-                client: session.client,
-                statements: counted(session.statements),
-                entries: entries_after(session.entries, records.len()),
-            },
-            last: self.last_after(stamp, changes.as_slice(), records.as_slice()),
-            changes,
-            records,
-            framed: None,
-        }
-    }
-
-    // The instance has drawn no more sessions than there are numbers of them. It does nothing, and
-    // states the law for its callers.
-    fn has_drawn_few(&self)
-        ensures { self.now.state.drawn ≤ INSTANCE_SESSIONS }
-    {
-        let _drawn = self.drawn;
-    }
-
-    // What is decided of a built statement of the user.
-    fn decide(&self, alloc: Global, user: &Name, form: BuiltForm) -> Result<Decision, Memory>
-        ensures { IfOk result (Decides self.now.state.kept.grants self.now.state.kept.policies self.now.state.kept.enabled user.now form) }
-    {
-        decide(
-            alloc,
-            self.keeping.catalog(),
-            self.keeping.grants(),
-            user,
-            form,
-        )
-    }
-
-    // The reply to a statement with this code.
-    fn reply(&self, alloc: Global, form: BuiltForm, code: Code) -> Result<Reply, Memory>
-        ensures { IfOk result (λ reply. reply ≡ reply_of (length self.now.state.kept.trail) form code) }
-    {
-        reply(alloc, self.keeping.trail().len(), form, code)
-    }
-
-    // What an event leaves in the trail.
-    fn records_for(&self, alloc: Global, facts: Facts, place: Place) -> Result<List<Record>, Memory>
-        ensures records { IfOk result (λ records. records ≡ records_of self.now.state.kept.grants self.now.state.kept.policies self.now.state.kept.enabled facts place) }
-        ensures few { IfOk result (λ records. length records ≤ 1) }
-    {
-        records_for(
-            alloc,
-            self.keeping.catalog(),
-            self.keeping.grants(),
-            facts,
-            place,
-        )
-    }
-
-    // The last stamp after an event with these changes and records.
-    fn last_after(&self, stamp: Stamp, changes: &[Change], records: &[Record]) -> Stamp
-        ensures { result ≡ last_after self.now.state.kept.last stamp.0 changes.now records.now }
-    {
-        last_after(self.keeping.last(), stamp, changes, records)
+// Sets the instance's results, where there are others. It takes no memory.
+fn set_results(results: &mut List<(Name, bool)>, others: Option<List<(Name, bool)>>)
+    ensures { results.new ≡ instance_after others results.old }
+{
+    if let Some(others) = others {
+        *results = others;
     }
 }

@@ -3,13 +3,13 @@ ghost use Rattle.std.specs.Prelude.{◌≡◌, IfOk, Option};
 ghost use Rattle.au_kept.specs.Quick.{changes_in};
 ghost use Rattle.rec_codec.specs.declared.frame.Frame.{Frame as AnyFrame};
 ghost use Rattle.rec_codec.specs.Frames.{IsSpellable, framed, spelled};
-ghost use Rattle.au_engine.specs.Framing.{IsText, IsWritable, event_of, framed_option, records_in};
-ghost use Rattle.au_engine.specs.Prepared.{left_by};
-ghost use Rattle.au_engine.specs.Step.{is_idle};
+ghost use Rattle.au_step.specs.Framing.{IsText, IsWritable, event_of, framed_option, records_in};
+ghost use Rattle.au_engine.specs.Prepared.{logged_by};
+ghost use Rattle.au_step.specs.Step.{is_idle};
 
 use crate::outcome::Outcome;
 use au_base::{Ask, List, Memory, Stamp};
-use au_catalog::{Change, Record};
+use au_entries::{Change, Record};
 use rec_codec::{Frame, write_framed};
 use std::alloc::Global;
 
@@ -23,8 +23,8 @@ struct EventBytes {
 
 /// The step with the framed bytes of the event at this stamp, where it leaves something to be kept.
 pub(crate) fn with_frame(alloc: Global, stamp: Stamp, outcome: Outcome) -> Result<Outcome, Memory>
-    requires { IsWritable (event_of stamp.0 (left_by outcome)) }
-    ensures { IfOk result (λ made. made ≡ record outcome { framed = framed_option (event_of stamp.0 (left_by outcome)) }) }
+    requires { IsWritable (event_of stamp.0 (logged_by outcome)) }
+    ensures { IfOk result (λ made. made ≡ record outcome { framed = framed_option (event_of stamp.0 (logged_by outcome)) }) }
 {
     if is_idle(&outcome.changes, &outcome.records) {
         return Ok(without_frame(outcome));
@@ -45,6 +45,7 @@ fn with_event(alloc: Global, stamp: Stamp, outcome: Outcome) -> Result<Outcome, 
     let Outcome {
         reply,
         sessions,
+        results,
         changes,
         records,
         last,
@@ -59,6 +60,7 @@ fn with_event(alloc: Global, stamp: Stamp, outcome: Outcome) -> Result<Outcome, 
     Ok(Outcome {
         reply,
         sessions,
+        results,
         changes,
         records,
         last,
@@ -130,7 +132,7 @@ pub fn body_in(bytes: &[u8]) -> &[u8]
     bytes[..end].get(8..).unwrap_or(&[])
 }
 
-/// A text that is asked is UTF-8. It does nothing, and states the law for its callers.
+/// The texts of an ask are UTF-8. It does nothing, and states the law for its callers.
 pub fn asks_are_text(ask: &Ask)
     ensures { IsText ask.now }
 {
@@ -138,6 +140,10 @@ pub fn asks_are_text(ask: &Ask)
         Ask::Sql(text) => {
             let _bytes = text.as_bytes();
         }
-        Ask::Local | Ask::Logon { .. } | Ask::Logoff => {}
+        Ask::Logon { user, password } => {
+            let _user = user.as_bytes();
+            let _password = password.as_bytes();
+        }
+        Ask::Local | Ask::Logoff => {}
     }
 }

@@ -4,12 +4,12 @@ ghost use Rattle.std.specs.Prelude.{◌≡◌, Option, option_map};
 ghost use Rattle.std.specs.Option.{option_copied};
 ghost use Rattle.rec_codec.specs.declared.frame.Frame.{Frame};
 ghost use Rattle.rec_codec.specs.Frames.{spelled};
-ghost use Rattle.au_engine.specs.Framing.{framed_option};
+ghost use Rattle.au_step.specs.Framing.{framed_option};
 
 use crate::framing::body_in;
 use crate::outcome::SessionChange;
-use au_base::{List, Reply, Stamp};
-use au_catalog::{Change, Record};
+use au_base::{List, Name, Reply, Stamp};
+use au_entries::{Change, Record};
 use au_kept::Staged;
 
 /// A step that is worked out and not made yet: what it makes otherwise, ready to be made without
@@ -18,6 +18,8 @@ use au_kept::Staged;
 pub struct Prepared {
     pub reply: Reply,
     pub sessions: SessionChange,
+    /// The instance's results of conditions after the step, where it doesn't leave them as they are.
+    pub results: Option<List<(Name, bool)>>,
     /// What it changes of what is kept, in the order in which it happens.
     pub changes: List<Change>,
     /// The same changes, ready to be made.

@@ -8,7 +8,7 @@ use Rattle.au_journal.specs.Creation.{IsSelectedFormatted}
 use Rattle.au_journal.specs.Walk.{IsUnformatted}
 use Rattle.au_store.specs.declared.open_fault.OpenFault.{OpenFault}
 use Rattle.au_store.specs.declared.open_fault.OpenFault.TheVariants as fault
-use Rattle.au_engine.specs.State.{State}
+use Rattle.au_step.specs.State.{State}
 use Rattle.au_store.specs.Starting.{IsOfBytes, IsOpened, OpenCause, OpenSays}
 use Rattle.au_store.specs.Stored.{Stored}
 use Rattle.au_main.specs.declared.status.Status.{Status}

@@ -83,11 +83,11 @@ Gathers-more old mid new left mids now line g none more count = record {
   whole = g.whole;
 }
 
-pub NextLine-last : (old mid new : Stretch) (left mids now : Option (List ℕ)) (line : List ℕ) (v : Vec ℕ Global) → Gathers old mid left mids line → mid.bytes ≡ [] → Keeps mids now → IsAtEnd now → line ≡ v.items → 0 < length line → NextLine old new left now (Last v)
-NextLine-last old mid new left mids now line v g none kept at_end same some = record {
+pub NextLine-last : (old mid new : Stretch) (left mids now : Option (List ℕ)) (line : List ℕ) (v : Vec ℕ Global) → Gathers old mid left mids line → mid.bytes ≡ [] → Keeps mids now → IsAtEnd now → line ≡ v.items → 0 < length line → new.taken ≡ mid.taken → NextLine old new left now (Last v)
+NextLine-last old mid new left mids now line v g none kept at_end same some count = record {
   got = g.got;
   taken = Consumes-kept left mids now g.got g.taken kept;
-  next = (subst HasNoEnd same g.whole, joined_alone old mid left mids line g none ∙ same, at_end, rw (sym same) some);
+  next = (subst HasNoEnd same g.whole, joined_alone old mid left mids line g none ∙ same, at_end, rw (sym same) some, count ∙ g.count);
 }
 
 pub NextLine-end : (old mid new : Stretch) (left mids now : Option (List ℕ)) (line : List ℕ) → Gathers old mid left mids line → mid.bytes ≡ [] → Keeps mids now → IsAtEnd now → line ≡ [] → NextLine old new left now End

@@ -1,7 +1,8 @@
 -- Histories, and runs over lines, that go on by one.
-use Rattle.std.proofs.Common.{◌≡◌, ◌≢◌, ◌⊎◌, ◌≤◌, inl, inr, ⊎_elim, ℕ, List, [], ◌∷◌, ◌++◌, length, refl, sym, ap, ◌∙◌, subst, append-nil, append_assoc, length-append, arith}
+use Rattle.std.proofs.Common.{◌≡◌, ◌≢◌, ◌⊎◌, ◌≤◌, inl, inr, ⊎_elim, ℕ, ◌+◌, Bool, true, false, if◌then◌else◌, List, [], ◌∷◌, ◌++◌, length, refl, sym, ap, ◌∙◌, subst, append-nil, append_assoc, length-append, arith}
 use Rattle.std.specs.Prelude.{Option, Some, None, flat_map}
-use Rattle.std.specs.List.{AllByRecursion, AllZip}
+use Rattle.std.specs.List.{AllByRecursion, AllZip, list_any}
+use Rattle.std.specs.Str.{bytes_eq}
 use Rattle.std.proofs.lemmas.List.{map-append}
 use Rattle.std.proofs.lemmas.List.Concat.{flat_map-append}
 use Rattle.au_base.specs.declared.ask.Ask.{Ask}
@@ -11,17 +12,18 @@ use Rattle.au_base.specs.declared.reply.Said.TheVariants.{Replied, Disk, Full, M
 use Rattle.au_io.specs.Moments.{CountsNow, OnlyNow}
 use Rattle.au_io.specs.Time.{Ticking, Reads, after_reading}
 use Rattle.au_journal.specs.declared.doubt.Doubt.TheVariants.{Settled}
-use Rattle.au_engine.specs.State.{State}
+use Rattle.au_step.specs.State.{State}
 use Rattle.au_script.specs.declared.lines.ScriptLine.{ScriptLine}
 use Rattle.au_script.specs.declared.lines.ScriptLine.TheVariants as line
+use Rattle.au_script.specs.Labels.{Label, number_of, used_with}
+use Rattle.au_script.specs.Lines.{Says}
 use Rattle.au_journal.specs.declared.seat.Seat.{Seat}
 use Rattle.au_store.specs.declared.entry.Entry.{Entry}
-use Rattle.au_store.specs.declared.entry.Entry.TheVariants.{Opened, Stepped, Abandoned, Faulted, Filled}
-use Rattle.au_store.specs.History.{GoesBy, GoesOver, IsFaulted, IsStepped, IsUnchanged, Reached, StandsFor, first_of, reached_of}
+use Rattle.au_store.specs.declared.entry.Entry.TheVariants.{Stepped, Faulted, Filled}
+use Rattle.au_store.specs.History.{GoesOver, IsFaulted, IsStepped, IsUnchanged, Reached, StandsFor, first_of, reached_of}
 use Rattle.au_store.specs.Steps.{event_at}
 use Rattle.au_store.specs.Stored.{Stored, IsKeptOn}
-use Rattle.au_main.specs.Answers.{AllTell, Answer, AreUnmended, AnswerTells, IsLegalBy, LeavesDoubt, Made, Unmended, ReadAll, UnmendedInDoubt, asks_of, line_of, readings_of, said_of, steps_of, texts}
-use Rattle.au_main.specs.Built.{IsScriptLine}
+use Rattle.au_main.specs.Answers.{AllTell, Answer, AnswerTells, IsLegalBy, LeavesDoubt, Made, Unmended, ReadAll, UnmendedInDoubt, asks_after, asks_of, labels_after, line_of, readings_of, said_of, steps_of, texts}
 use Rattle.au_main.specs.Means.{Means}
 use Rattle.au_main.specs.Ran.{Ran}
 use Rattle.au_main.specs.descent.Serving.{Answers, Does, DoubtBy, Serves, StateBy}
@@ -194,16 +196,35 @@ doubt_push answers (Unmended client ask) s t doubt by unsettled = LeavesDoubt-mo
 
 -- ---- runs over lines
 
-asks_of-append : (s t : List ScriptLine) → asks_of (s ++ t) ≡ asks_of s ++ asks_of t
-asks_of-append [] t = refl
-asks_of-append (line.Skip ∷ s) t = asks_of-append s t
-asks_of-append (line.Ask label ask ∷ s) t = ap (λ xs. (1, ask) ∷ xs) (asks_of-append s t)
+asks_after-append : (used : List Label) (s t : List ScriptLine) → asks_after used (s ++ t) ≡ asks_after used s ++ asks_after (labels_after used s) t
+asks_after-append used [] t = refl
+asks_after-append used (line.Skip ∷ s) t = asks_after-append used s t
+asks_after-append used (line.Ask label ask ∷ s) t = ap (λ xs. (number_of used label, ask) ∷ xs) (asks_after-append (used_with used label) s t)
+
+labels_after-append : (used : List Label) (s t : List ScriptLine) → labels_after used (s ++ t) ≡ labels_after (labels_after used s) t
+labels_after-append used [] t = refl
+labels_after-append used (line.Skip ∷ s) t = labels_after-append used s t
+labels_after-append used (line.Ask label ask ∷ s) t = labels_after-append (used_with used label) s t
+
+used_with-below : (used : List Label) (label : Label) (b : Bool) → length (if b then used else used ++ label ∷ []) ≤ length used + 1
+used_with-below used label true = omega arith
+used_with-below used label false = omega (arith, length-append used (label ∷ []))
+
+-- a line has at most one label that wasn't used before
+pub labels_after-below : (used : List Label) (said : ScriptLine) → length (labels_after used (said ∷ [])) ≤ length used + 1
+labels_after-below used line.Skip = omega arith
+labels_after-below used (line.Ask label ask) = used_with-below used label (list_any (bytes_eq label) used)
+
+-- these lines were done, and these labels are used behind them
+pub record RanWith {D C : Type 0} (means : Means D C) (used : List Label) (lines : List (List ℕ)) (opened here : Stored D C) (answers : List Answer) (text : List ℕ) : Type 0 where
+  pub ran : Ran means lines opened here answers text
+  pub labels : used ≡ labels_after [] ran.script
 
 -- a store was opened, and no line was done yet
-pub Ran-none : {D C : Type 0} (means : Means D C) (s : Stored D C)
+Ran-opened : {D C : Type 0} (means : Means D C) (s : Stored D C)
     → CountsNow (means.meaning s.disk) → OnlyNow (means.meaning s.disk) → s.seat.doubt ≡ Settled → (means.told → IsKeptOn s.state.kept (means.meaning s.disk) s.seat)
     → Ran means [] s s [] []
-Ran-none means s counts only settled kept = record {
+Ran-opened means s counts only settled kept = record {
   script = [];
   spelled = tt;
   asks = refl;
@@ -216,12 +237,19 @@ Ran-none means s counts only settled kept = record {
   text_is = refl;
 }
 
+pub Ran-none : {D C : Type 0} (means : Means D C) (s : Stored D C)
+    → CountsNow (means.meaning s.disk) → OnlyNow (means.meaning s.disk) → s.seat.doubt ≡ Settled → (means.told → IsKeptOn s.state.kept (means.meaning s.disk) s.seat)
+    → RanWith means [] [] s s [] []
+unfolding Ran-opened
+Ran-none means s counts only settled kept =
+    record { ran = Ran-opened means s counts only settled kept; labels = refl }
+
 Ran-skip : {D C : Type 0} (means : Means D C) (lines : List (List ℕ)) (bytes : List ℕ) (o s : Stored D C) (answers : List Answer) (text : List ℕ)
-    → IsScriptLine bytes line.Skip → Ran means lines o s answers text → Ran means (lines ++ bytes ∷ []) o s answers text
+    → Says bytes line.Skip → Ran means lines o s answers text → Ran means (lines ++ bytes ∷ []) o s answers text
 Ran-skip means lines bytes o s answers text spelled ran = record {
   script = ran.script ++ line.Skip ∷ [];
-  spelled = AllZip-append IsScriptLine lines (bytes ∷ []) ran.script (line.Skip ∷ []) ran.spelled (spelled, tt);
-  asks = ran.asks ∙ sym (asks_of-append ran.script (line.Skip ∷ []) ∙ append-nil (asks_of ran.script));
+  spelled = AllZip-append Says lines (bytes ∷ []) ran.script (line.Skip ∷ []) ran.spelled (spelled, tt);
+  asks = ran.asks ∙ sym (asks_after-append [] ran.script (line.Skip ∷ []) ∙ append-nil (asks_of ran.script));
   read = ran.read;
   history = ran.history;
   legal = ran.legal;
@@ -231,9 +259,19 @@ Ran-skip means lines bytes o s answers text spelled ran = record {
   text_is = ran.text_is;
 }
 
-Ran-ask : {D C : Type 0} (means : Means D C) (lines : List (List ℕ)) (bytes label : List ℕ) (ask : Ask) (a : Answer) (o s t : Stored D C) (answers : List Answer) (text : List ℕ)
-    → IsScriptLine bytes (line.Ask label ask) → Ran means lines o s answers text → Answers means s t ask a → Ran means (lines ++ bytes ∷ []) o t (answers ++ a ∷ []) (text ++ line_of (said_of a))
-Ran-ask means lines bytes label ask a o s t answers text spelled ran answer =
+RanWith-skip : {D C : Type 0} (means : Means D C) (used : List Label) (lines : List (List ℕ)) (bytes : List ℕ) (o s : Stored D C) (answers : List Answer) (text : List ℕ)
+    → Says bytes line.Skip → RanWith means used lines o s answers text → RanWith means used (lines ++ bytes ∷ []) o s answers text
+unfolding Ran-skip
+RanWith-skip means used lines bytes o s answers text spelled done = record {
+  ran = Ran-skip means lines bytes o s answers text spelled done.ran;
+  labels = done.labels ∙ sym (labels_after-append [] done.ran.script (line.Skip ∷ []));
+}
+
+Ran-ask : {D C : Type 0} (means : Means D C) (used : List Label) (lines : List (List ℕ)) (bytes label : List ℕ) (ask : Ask) (a : Answer) (o s t : Stored D C) (answers : List Answer) (text : List ℕ)
+    → Says bytes (line.Ask label ask) → (done : RanWith means used lines o s answers text) → Answers means s t (number_of used label) ask a
+    → Ran means (lines ++ bytes ∷ []) o t (answers ++ a ∷ []) (text ++ line_of (said_of a))
+Ran-ask means used lines bytes label ask a o s t answers text spelled done answer =
+    let ran = done.ran in
     let opened = reached_of means.faults o in
     let faults = opened.faults in
     let before = counted faults (reached_of means.faults s) in
@@ -242,8 +280,8 @@ Ran-ask means lines bytes label ask a o s t answers text spelled ran answer =
     over_append opened before here (flat_map steps_of answers) (steps_of a) ran.history (answer_goes means faults s t a answer.history) in
     record {
       script = ran.script ++ line.Ask label ask ∷ [];
-      spelled = AllZip-append IsScriptLine lines (bytes ∷ []) ran.script (line.Ask label ask ∷ []) ran.spelled (spelled, tt);
-      asks = rw (map-append, ran.asks, asks_of-append) (ap (λ x. asks_of ran.script ++ x ∷ []) answer.asks);
+      spelled = AllZip-append Says lines (bytes ∷ []) ran.script (line.Ask label ask ∷ []) ran.spelled (spelled, tt);
+      asks = rw (map-append, ran.asks, asks_after-append) (ap (λ x. asks_of ran.script ++ x ∷ []) (answer.asks ∙ ap (λ u. (number_of u label, ask)) done.labels));
       read = rw (flat_map-append readings_of answers (a ∷ []), append-nil (readings_of a))
           (ReadAll-append (means.ticking o.clock) (means.ticking s.clock) (means.ticking t.clock) (flat_map readings_of answers) (readings_of a) ran.read answer.read);
       history = subst (λ (l : List Entry). GoesOver opened l here) (sym (steps_of-push answers a)) history;
@@ -255,28 +293,37 @@ Ran-ask means lines bytes label ask a o s t answers text spelled ran answer =
       text_is = rw ran.text_is (sym (flat_map-append (λ x. line_of (said_of x)) answers (a ∷ []) ∙ ap (λ l. texts answers ++ l) (append-nil (line_of (said_of a)))));
     }
 
+RanWith-ask : {D C : Type 0} (means : Means D C) (used : List Label) (lines : List (List ℕ)) (bytes label : List ℕ) (ask : Ask) (a : Answer) (o s t : Stored D C) (answers : List Answer) (text : List ℕ)
+    → Says bytes (line.Ask label ask) → RanWith means used lines o s answers text → Answers means s t (number_of used label) ask a
+    → RanWith means (used_with used label) (lines ++ bytes ∷ []) o t (answers ++ a ∷ []) (text ++ line_of (said_of a))
+unfolding Ran-ask
+RanWith-ask means used lines bytes label ask a o s t answers text spelled done answer = record {
+  ran = Ran-ask means used lines bytes label ask a o s t answers text spelled done answer;
+  labels = ap (λ u. used_with u label) done.labels ∙ sym (labels_after-append [] done.ran.script (line.Ask label ask ∷ []));
+}
+
 -- one more line was done, which had one answer or none
-pub record OneMore {D C : Type 0} (means : Means D C) (lines : List (List ℕ)) (bytes : List ℕ) (opened here : Stored D C) (answers : List Answer) (text more : List ℕ) : Type 0 where
+pub record OneMore {D C : Type 0} (means : Means D C) (used : List Label) (lines : List (List ℕ)) (bytes : List ℕ) (opened here : Stored D C) (answers : List Answer) (text more : List ℕ) : Type 0 where
   pub last : List Answer
   pub one : length last ≤ 1
   pub more_is : more ≡ texts last
-  pub ran : Ran means (lines ++ bytes ∷ []) opened here (answers ++ last) (text ++ more)
+  pub done : RanWith means used (lines ++ bytes ∷ []) opened here (answers ++ last) (text ++ more)
 
-Ran-does : {D C : Type 0} (means : Means D C) (lines : List (List ℕ)) (bytes : List ℕ) (said : ScriptLine) (o s t : Stored D C) (answers : List Answer) (text more : List ℕ)
-    → IsScriptLine bytes said → Ran means lines o s answers text → Does means s t said more → OneMore means lines bytes o t answers text more
-Ran-does means lines bytes line.Skip o s t answers text more spelled ran does = record {
+Ran-does : {D C : Type 0} (means : Means D C) (used : List Label) (lines : List (List ℕ)) (bytes : List ℕ) (said : ScriptLine) (o s t : Stored D C) (answers : List Answer) (text more : List ℕ)
+    → Says bytes said → RanWith means used lines o s answers text → Does means used s t said more → OneMore means (labels_after used (said ∷ [])) lines bytes o t answers text more
+Ran-does means used lines bytes line.Skip o s t answers text more spelled done does = record {
   last = [];
   one = omega arith;
   more_is = does.1;
-  ran = rw (does.0, does.1, append-nil text, append-nil answers) (Ran-skip means lines bytes o s answers text spelled ran);
+  done = rw (does.0, does.1, append-nil text, append-nil answers) (RanWith-skip means used lines bytes o s answers text spelled done);
 }
-Ran-does means lines bytes (line.Ask label ask) o s t answers text more spelled ran does = record {
+Ran-does means used lines bytes (line.Ask label ask) o s t answers text more spelled done does = record {
   last = does.0 ∷ [];
   one = omega arith;
   more_is = does.2 ∙ sym (append-nil (line_of (said_of does.0)));
-  ran = rw does.2 (Ran-ask means lines bytes label ask does.0 o s t answers text spelled ran does.1);
+  done = rw does.2 (RanWith-ask means used lines bytes label ask does.0 o s t answers text spelled done does.1);
 }
 
-pub Ran-more : {D C : Type 0} (means : Means D C) (lines : List (List ℕ)) (bytes : List ℕ) (o s t : Stored D C) (answers : List Answer) (text more : List ℕ)
-    → Ran means lines o s answers text → Serves means s t bytes more → OneMore means lines bytes o t answers text more
-Ran-more means lines bytes o s t answers text more ran serves = Ran-does means lines bytes serves.said o s t answers text more serves.spelled ran serves.does
+pub Ran-more : {D C : Type 0} (means : Means D C) (used : List Label) (lines : List (List ℕ)) (bytes : List ℕ) (o s t : Stored D C) (answers : List Answer) (text more : List ℕ)
+    → RanWith means used lines o s answers text → (serves : Serves means used s t bytes more) → OneMore means (labels_after used (serves.said ∷ [])) lines bytes o t answers text more
+Ran-more means used lines bytes o s t answers text more done serves = Ran-does means used lines bytes serves.said o s t answers text more serves.spelled done serves.does

@@ -1,5 +1,6 @@
 pub mod Counts
 pub mod Ends
+pub mod Exported
 pub mod Gathering
 pub mod Giving
 pub mod Histories

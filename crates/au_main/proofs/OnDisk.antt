@@ -12,7 +12,7 @@ use Rattle.au_io.specs.Disk.{Meaning, Passes}
 use Rattle.au_io.specs.Moments.{Leaves, LeavesSince, CountsNow, OnlyNow, both_calls, both_pass, no_call, weaker, weaker_since}
 use Rattle.au_journal.specs.declared.doubt.Doubt.TheVariants.{Settled}
 use Rattle.au_journal.specs.declared.seat.Seat.{Seat}
-use Rattle.au_engine.specs.State.{State}
+use Rattle.au_step.specs.State.{State}
 use Rattle.au_store.specs.declared.entry.Entry.{Entry}
 use Rattle.au_store.specs.History.{GoesOver, Reached}
 use Rattle.au_store.specs.Recovery.{RecoversTo, RecoversToEither, ReplayedTo}

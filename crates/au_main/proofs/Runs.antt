@@ -13,22 +13,22 @@ use Rattle.au_io.specs.Moments.{CountsNow, OnlyNow}
 use Rattle.au_journal.specs.declared.doubt.Doubt.TheVariants.{Settled}
 use Rattle.au_store.specs.Stored.{Stored, IsKeptOn}
 use Rattle.au_main.specs.Answers.{Answer, texts}
-use Rattle.au_main.specs.Built.{IsNoScriptLine}
 use Rattle.au_main.specs.Given.{AppendsBehind, AppendsFront}
-use Rattle.au_main.specs.Lines.{AreLines, BeginsWithLines, HasNoEnd, LF, TakenLines, TakenOf, ended, last_line, with_end}
+use Rattle.au_main.specs.Lines.{AreLines, BeginsWithLines, HasNoEnd, LF, TakenLines, TakenOf, ended, last_line, script_limit, with_end}
 use Rattle.au_main.specs.Means.{Means}
 use Rattle.au_main.specs.descent.NextLine.{NextLine, Takes}
-use Rattle.au_script.specs.Lines.{IsContent, carriage_return, line_limit}
+use Rattle.au_script.specs.Labels.{Label}
+use Rattle.au_script.specs.Lines.{IsContent, SaysNothing, carriage_return, line_limit}
 use Rattle.au_main.specs.declared.status.Status.{Status}
 use Rattle.au_main.specs.declared.status.Status.TheVariants.{Done, Usage, ReadFault, WriteFault, DiskFault, Unformatted, Formatted, Damaged, BadLine, TooLong, LobbyFault, Memory, Worn}
-use Rattle.au_main.specs.Ran.{IsReadCause, Ran, RanTo, RanToBadLine, RanToFront}
+use Rattle.au_main.specs.Ran.{IsReadCause, RanTo, RanToBadLine, RanToFront}
 use Rattle.au_main.specs.descent.Serving.{DidNothing, EndsLast, FoundNoMemory, Served, ServedInPart}
 use Rattle.au_main.specs.descent.Stretch.{Stretch}
 use Rattle.au_main.specs.declared.line.Line.TheVariants.{Ended, Last, End, Overlong, Failed, Beyond}
-use Rattle.au_main.proofs.Histories.{AllByRecursion-append, Ran-none, Ran-more}
+use Rattle.au_main.proofs.Histories.{AllByRecursion-append, Ran-none, Ran-more, RanWith, labels_after-below}
 
--- so many lines were taken and done so far, and this is pending
-pub record RanSoFar {D C : Type 0} (means : Means D C) (count : ℕ) (opened here : Stored D C) (pending : Stretch) (left now : Option (List ℕ)) (given gave : Option (List ℕ)) : Type 0 where
+-- so many lines were taken and done so far, these labels are used, no more than lines, and this is pending
+pub record RanSoFar {D C : Type 0} (means : Means D C) (count : ℕ) (used : List Label) (opened here : Stored D C) (pending : Stretch) (left now : Option (List ℕ)) (given gave : Option (List ℕ)) : Type 0 where
   pub lines : List (List ℕ)
   pub got : List ℕ
   pub text : List ℕ
@@ -38,13 +38,14 @@ pub record RanSoFar {D C : Type 0} (means : Means D C) (count : ℕ) (opened her
   pub joined : got ≡ ended lines ++ pending.bytes
   pub size : pending.taken ≡ length got
   pub answers : List Answer
-  pub ran : Ran means lines opened here answers text
+  pub done : RanWith means used lines opened here answers text
+  pub few : length used ≤ count
   pub given_all : Appends given gave text
 
 -- a store was opened, and nothing was taken yet
 pub RanSoFar-none : {D C : Type 0} (means : Means D C) (s : Stored D C) (p : Stretch) (a : Option (List ℕ)) (g : Option (List ℕ))
     → CountsNow (means.meaning s.disk) → OnlyNow (means.meaning s.disk) → s.seat.doubt ≡ Settled → (means.told → IsKeptOn s.state.kept (means.meaning s.disk) s.seat)
-    → p.bytes ≡ [] → p.taken ≡ 0 → RanSoFar means 0 s s p a a g g
+    → p.bytes ≡ [] → p.taken ≡ 0 → RanSoFar means 0 [] s s p a a g g
 RanSoFar-none means s p a g counts only settled kept none zero = record {
   lines = [];
   got = [];
@@ -55,7 +56,8 @@ RanSoFar-none means s p a g counts only settled kept none zero = record {
   joined = sym none;
   size = zero;
   answers = [];
-  ran = Ran-none means s counts only settled kept;
+  done = Ran-none means s counts only settled kept;
+  few = omega arith;
   given_all = Appends-nil g;
 }
 
@@ -100,8 +102,8 @@ first_end (b ∷ bytes) = dite (ℕ_discrete b LF)
     (λ ne. ⊎_elim (λ found. inl (b ∷ found.0, found.1, All-cons (λ x. x ≢ LF) b found.0 ne found.2, ap (λ l. b ∷ l) found.3)) (λ none. inr (All-cons (λ x. x ≢ LF) b bytes ne none)) (first_end bytes))
 
 -- no script line is so long
-too_long : (bytes : List ℕ) → line_limit + 1 < length bytes → IsNoScriptLine bytes
-too_long bytes long = λ said spelled. fits spelled.0.content spelled.0.content_is spelled.0.fits where
+too_long : (bytes : List ℕ) → line_limit + 1 < length bytes → SaysNothing bytes
+too_long bytes long = λ said spelled. fits spelled.content spelled.content_is spelled.fits where
   fits : (content : List ℕ) → IsContent bytes content → length content ≤ line_limit → ⊥
   fits content (inl e) short = omega (arith, ap length e, length-append content (carriage_return ∷ []))
   fits content (inr same) short = omega (arith, ap length same.1)
@@ -156,9 +158,43 @@ module _ {D C : Type 0} (means : Means D C) where
   abbrev Ended-so : Status → (left now : Option (List ℕ)) (o m : Stored D C) (given gave : Option (List ℕ)) → Type 0
   Ended-so status left now o m given gave = (answers : List Answer) × RanTo means status left now o m answers given gave
 
-  module _ (count : ℕ) (o m : Stored D C) (p : Stretch) (a b : Option (List ℕ)) (g h : Option (List ℕ)) (so_far : RanSoFar means count o m p a b g h) where
+  module _ (count : ℕ) (used : List Label) (o m : Stored D C) (p : Stretch) (a b : Option (List ℕ)) (g h : Option (List ℕ)) (so_far : RanSoFar means count used o m p a b g h) where
     pub count-below : count ≤ p.taken
     count-below = omega (arith, so_far.number, so_far.size, lines_below so_far.lines, ap length so_far.joined, length-append (ended so_far.lines) p.bytes)
+
+    -- a line with its end has a byte at least, so there is a number for one label more
+    pub room_ended : (q : Stretch) (c : Option (List ℕ)) (v : Vec ℕ Global) → NextLine p q b c (Ended v) → q.taken ≤ script_limit → length used < script_limit
+    room_ended q c v line within = omega (
+      arith,
+      within,
+      so_far.few,
+      so_far.number,
+      so_far.size,
+      lines_below so_far.lines,
+      ap length so_far.joined,
+      length-append (ended so_far.lines) p.bytes,
+      line.next.2,
+      ap length line.next.1,
+      length-append p.bytes line.got,
+      length-append v.items (LF ∷ q.bytes),
+    )
+
+    -- and so has a last line
+    pub room_last : (q : Stretch) (c : Option (List ℕ)) (v : Vec ℕ Global) → NextLine p q b c (Last v) → q.taken ≤ script_limit → length used < script_limit
+    room_last q c v line within = omega (
+      arith,
+      within,
+      so_far.few,
+      so_far.number,
+      so_far.size,
+      lines_below so_far.lines,
+      ap length so_far.joined,
+      length-append (ended so_far.lines) p.bytes,
+      line.next.4,
+      line.next.3,
+      ap length line.next.1,
+      length-append p.bytes line.got,
+    )
 
     -- all that was taken, with what the next call took
     taken_next : (c : Option (List ℕ)) (got : List ℕ) → Consumes b c got → Consumes a c (ended so_far.lines ++ (p.bytes ++ got))
@@ -175,10 +211,10 @@ module _ {D C : Type 0} (means : Means D C) where
       whole = so_far.whole;
       taken = Consumes-trans a b c so_far.got more so_far.taken then;
       begins = inl (p.bytes ++ more, ap (λ l. l ++ more) so_far.joined ∙ append_assoc (ended so_far.lines) p.bytes more);
-      ran = so_far.ran;
+      ran = so_far.done.ran;
       split = sym (append-nil so_far.answers);
       one = omega arith;
-      given_front = behind_none g h so_far.text (texts so_far.answers) so_far.ran.text_is so_far.given_all;
+      given_front = behind_none g h so_far.text (texts so_far.answers) so_far.done.ran.text_is so_far.given_all;
     }
 
     pub no_memory_before : (c : Option (List ℕ)) → Takes b c → Ended-so Memory a c o m g h
@@ -194,7 +230,7 @@ module _ {D C : Type 0} (means : Means D C) where
           text = so_far.text;
           whole = AreLines-push so_far.lines (p.bytes ++ line.got) so_far.whole line.next;
           taken = taken_next c line.got line.taken;
-          ran = so_far.ran;
+          ran = so_far.done.ran;
           given_all = so_far.given_all;
         },
       )
@@ -211,7 +247,7 @@ module _ {D C : Type 0} (means : Means D C) where
           taken = subst (λ l. Consumes a c (ended so_far.lines ++ l)) line.next.split (taken_next c line.got line.taken);
           full = omega (arith, line.next.count, so_far.size, ap length so_far.joined, ap length line.next.split, length-append (ended so_far.lines) p.bytes, length-append (ended so_far.lines) line.next.within, length-append p.bytes line.got, length-append line.next.within line.next.more);
           beyond = line.next.some;
-          ran = so_far.ran;
+          ran = so_far.done.ran;
           given_all = so_far.given_all;
         },
       )
@@ -227,14 +263,14 @@ module _ {D C : Type 0} (means : Means D C) where
           whole = AreLines-push so_far.lines [] so_far.whole (All-nil (λ b. b ≢ LF));
           taken = subst (λ l. Consumes a c (ended so_far.lines ++ l)) line.next.0 (taken_next c line.got line.taken);
           at_end = line.next.1;
-          ran = rw (append-nil so_far.lines) so_far.ran;
+          ran = rw (append-nil so_far.lines) so_far.done.ran;
           given_all = so_far.given_all;
         },
       )
 
       module _ (number : ℕ) (counted : number ≡ count + 1) where
         RanToBadLine-line : (line got : List ℕ) → HasNoEnd line → IfSome a (BeginsWithLines (so_far.lines ++ line ∷ [])) → Consumes a c (ended so_far.lines ++ got) → TakenOf line got c
-            → IsNoScriptLine line → RanToBadLine means number a c o m so_far.answers g h
+            → SaysNothing line → RanToBadLine means number a c o m so_far.answers g h
         RanToBadLine-line line got whole stands taken of_bad nothing = record {
           lines = so_far.lines;
           bad = line;
@@ -246,7 +282,7 @@ module _ {D C : Type 0} (means : Means D C) where
           taken = taken;
           of_bad = of_bad;
           says_nothing = nothing;
-          ran = so_far.ran;
+          ran = so_far.done.ran;
           given_all = so_far.given_all;
         }
 
@@ -262,9 +298,9 @@ module _ {D C : Type 0} (means : Means D C) where
 
       -- behind another line
       module _ (n : Stored D C) (i : Option (List ℕ)) (line more : List ℕ) (whole : HasNoEnd line) (then : Consumes b c more) where
-        in_part : TakenLines (so_far.lines ++ line ∷ []) (so_far.got ++ more) c → ServedInPart means m n line h i → (answers : List Answer) × RanToFront means a c o n answers g i
+        in_part : TakenLines (so_far.lines ++ line ∷ []) (so_far.got ++ more) c → ServedInPart means used m n line h i → (answers : List Answer) × RanToFront means a c o n answers g i
         in_part begins served =
-            let ran = Ran-more means so_far.lines line o m n so_far.answers so_far.text served.text so_far.ran served.serves in (
+            let ran = Ran-more means used so_far.lines line o m n so_far.answers so_far.text served.text so_far.done served.serves in (
               so_far.answers ++ ran.last,
               record {
                 lines = so_far.lines ++ line ∷ [];
@@ -275,10 +311,10 @@ module _ {D C : Type 0} (means : Means D C) where
                 whole = AreLines-push so_far.lines line so_far.whole whole;
                 taken = Consumes-trans a b c so_far.got more so_far.taken then;
                 begins = begins;
-                ran = ran.ran;
+                ran = ran.done.ran;
                 split = refl;
                 one = ran.one;
-                given_front = behind g h i so_far.text (texts so_far.answers) served.text (texts ran.last) so_far.ran.text_is ran.more_is so_far.given_all served.given_front;
+                given_front = behind g h i so_far.text (texts so_far.answers) served.text (texts ran.last) so_far.done.ran.text_is ran.more_is so_far.given_all served.given_front;
               },
             )
 
@@ -286,12 +322,12 @@ module _ {D C : Type 0} (means : Means D C) where
         stayed : DidNothing m n h i → Ended-so Memory a c o n g i
         stayed stays = rw (stays.0, stays.1) (so_far.answers, RanToFront-before c more then)
 
-        no_memory : TakenLines (so_far.lines ++ line ∷ []) (so_far.got ++ more) c → FoundNoMemory means m n line h i → Ended-so Memory a c o n g i
+        no_memory : TakenLines (so_far.lines ++ line ∷ []) (so_far.got ++ more) c → FoundNoMemory means used m n line h i → Ended-so Memory a c o n g i
         no_memory begins (inl stays) = stayed stays
         no_memory begins (inr served) = in_part begins served
 
         bad_line : (number : ℕ) (got : List ℕ) → number ≡ count + 1 → IfSome a (BeginsWithLines (so_far.lines ++ line ∷ [])) → Consumes a c (ended so_far.lines ++ got) → TakenOf line got c
-            → IsNoScriptLine line → DidNothing m n h i → Ended-so (BadLine number) a c o n g i
+            → SaysNothing line → DidNothing m n h i → Ended-so (BadLine number) a c o n g i
         bad_line number got counted stands taken of_bad nothing stays =
             rw (stays.0, stays.1) (so_far.answers, RanToBadLine-line number counted line got whole stands taken of_bad nothing)
 
@@ -303,9 +339,9 @@ module _ {D C : Type 0} (means : Means D C) where
         joined_ended : so_far.got ++ line.got ≡ ended (so_far.lines ++ v.items ∷ []) ++ q.bytes
         joined_ended = ap (λ l. l ++ line.got) so_far.joined ∙ append_assoc (ended so_far.lines) p.bytes line.got ∙ ap (λ l. ended so_far.lines ++ l) line.next.1 ∙ ended-next so_far.lines v.items q.bytes
 
-        pub RanSoFar-more : (next : ℕ) → next ≡ count + 1 → Served means m n v.items h i → RanSoFar means next o n q a c g i
-        RanSoFar-more next counted served =
-            let ran = Ran-more means so_far.lines v.items o m n so_far.answers so_far.text served.text so_far.ran served.serves in
+        pub RanSoFar-more : (next : ℕ) → next ≡ count + 1 → (using : List Label) → Served means used using m n v.items h i → RanSoFar means next using o n q a c g i
+        RanSoFar-more next counted using served =
+            let ran = Ran-more means used so_far.lines v.items o m n so_far.answers so_far.text served.text so_far.done served.serves in
             record {
               lines = so_far.lines ++ v.items ∷ [];
               got = so_far.got ++ line.got;
@@ -316,17 +352,18 @@ module _ {D C : Type 0} (means : Means D C) where
               joined = joined_ended;
               size = omega (arith, line.next.2, so_far.size, length-append so_far.got line.got);
               answers = so_far.answers ++ ran.last;
-              ran = ran.ran;
+              done = rw served.labels ran.done;
+              few = rw served.labels (omega (arith, counted, so_far.few, labels_after-below used served.serves.said));
               given_all = Appends-trans g h i so_far.text served.text so_far.given_all served.given_all;
             }
 
-        pub RanToFront-ended : ServedInPart means m n v.items h i → Ended-so WriteFault a c o n g i
+        pub RanToFront-ended : ServedInPart means used m n v.items h i → Ended-so WriteFault a c o n g i
         RanToFront-ended served = in_part n i v.items line.got line.next.0 line.taken (inl (q.bytes, joined_ended)) served
 
-        pub RanToFront-no_memory : FoundNoMemory means m n v.items h i → Ended-so Memory a c o n g i
+        pub RanToFront-no_memory : FoundNoMemory means used m n v.items h i → Ended-so Memory a c o n g i
         RanToFront-no_memory found = no_memory n i v.items line.got line.next.0 line.taken (inl (q.bytes, joined_ended)) found
 
-        pub RanToBadLine-ended : (number : ℕ) → number ≡ count + 1 → IsNoScriptLine v.items → DidNothing m n h i → Ended-so (BadLine number) a c o n g i
+        pub RanToBadLine-ended : (number : ℕ) → number ≡ count + 1 → SaysNothing v.items → DidNothing m n h i → Ended-so (BadLine number) a c o n g i
         RanToBadLine-ended number counted nothing stays =
             bad_line n i v.items line.got line.next.0 line.taken number (v.items ++ LF ∷ q.bytes) counted (begins-ended so_far.lines v.items q.bytes a c taken_ended) taken_ended (inl (q.bytes, refl)) nothing stays
 
@@ -345,9 +382,9 @@ module _ {D C : Type 0} (means : Means D C) where
           line.next.2,
         )
 
-        RanToEnd-last : Served means m n v.items h i → Ended-so Done a c o n g i
-        RanToEnd-last served =
-            let ran = Ran-more means so_far.lines v.items o m n so_far.answers so_far.text served.text so_far.ran served.serves in (
+        RanToEnd-last : (using : List Label) → Served means used using m n v.items h i → Ended-so Done a c o n g i
+        RanToEnd-last using served =
+            let ran = Ran-more means used so_far.lines v.items o m n so_far.answers so_far.text served.text so_far.done served.serves in (
               so_far.answers ++ ran.last,
               record {
                 lines = so_far.lines;
@@ -356,47 +393,47 @@ module _ {D C : Type 0} (means : Means D C) where
                 whole = AreLines-push so_far.lines v.items so_far.whole line.next.0;
                 taken = taken_last;
                 at_end = line.next.2;
-                ran = rw (last_line-some v.items line.next.3) ran.ran;
+                ran = rw (last_line-some v.items line.next.3) ran.done.ran;
                 given_all = Appends-trans g h i so_far.text served.text so_far.given_all served.given_all;
               },
             )
 
         -- the end of the last line is that of the run
-        pub RanTo-last : (number : ℕ) → number ≡ count + 1 → (status : Status) → EndsLast means number status m n v.items h i → Ended-so status a c o n g i
-        RanTo-last number counted Done served = RanToEnd-last served
-        RanTo-last number counted (BadLine k) bad =
+        pub RanTo-last : (using : List Label) (number : ℕ) → number ≡ count + 1 → (status : Status) → EndsLast means used using number status m n v.items h i → Ended-so status a c o n g i
+        RanTo-last using number counted Done served = RanToEnd-last using served
+        RanTo-last using number counted (BadLine k) bad =
             rw bad.0 (bad_line n i v.items line.got line.next.0 line.taken number v.items counted stands_last taken_last (inr (inl (refl, line.next.2))) bad.1 bad.2)
-        RanTo-last number counted WriteFault served = in_part n i v.items line.got line.next.0 line.taken begins_last served
-        RanTo-last number counted Memory found = no_memory n i v.items line.got line.next.0 line.taken begins_last found
-        RanTo-last number counted ReadFault h = absurd h
-        RanTo-last number counted TooLong h = absurd h
-        RanTo-last number counted Usage h = absurd h
-        RanTo-last number counted DiskFault h = absurd h
-        RanTo-last number counted Unformatted h = absurd h
-        RanTo-last number counted Formatted h = absurd h
-        RanTo-last number counted (Damaged area at) h = absurd h
-        RanTo-last number counted LobbyFault h = absurd h
-        RanTo-last number counted Worn h = absurd h
+        RanTo-last using number counted WriteFault served = in_part n i v.items line.got line.next.0 line.taken begins_last served
+        RanTo-last using number counted Memory found = no_memory n i v.items line.got line.next.0 line.taken begins_last found
+        RanTo-last using number counted ReadFault h = absurd h
+        RanTo-last using number counted TooLong h = absurd h
+        RanTo-last using number counted Usage h = absurd h
+        RanTo-last using number counted DiskFault h = absurd h
+        RanTo-last using number counted Unformatted h = absurd h
+        RanTo-last using number counted Formatted h = absurd h
+        RanTo-last using number counted (Damaged area at) h = absurd h
+        RanTo-last using number counted LobbyFault h = absurd h
+        RanTo-last using number counted Worn h = absurd h
 
   -- a last line is no read fault
-  pub IsReadCause-last : (status : Status) (number : ℕ) (m n : Stored D C) (bytes : List ℕ) (h i : Option (List ℕ)) (before now : ℕ) → EndsLast means number status m n bytes h i → now ≡ before → IsReadCause status before now
-  IsReadCause-last ReadFault number m n bytes h i before now ends e = absurd ends
-  IsReadCause-last Done number m n bytes h i before now ends e = e
-  IsReadCause-last (BadLine k) number m n bytes h i before now ends e = e
-  IsReadCause-last WriteFault number m n bytes h i before now ends e = e
-  IsReadCause-last Memory number m n bytes h i before now ends e = e
-  IsReadCause-last TooLong number m n bytes h i before now ends e = e
-  IsReadCause-last Usage number m n bytes h i before now ends e = e
-  IsReadCause-last DiskFault number m n bytes h i before now ends e = e
-  IsReadCause-last Unformatted number m n bytes h i before now ends e = e
-  IsReadCause-last Formatted number m n bytes h i before now ends e = e
-  IsReadCause-last (Damaged area at) number m n bytes h i before now ends e = e
-  IsReadCause-last LobbyFault number m n bytes h i before now ends e = e
-  IsReadCause-last Worn number m n bytes h i before now ends e = e
+  pub IsReadCause-last : (status : Status) (used using : List Label) (number : ℕ) (m n : Stored D C) (bytes : List ℕ) (h i : Option (List ℕ)) (before now : ℕ) → EndsLast means used using number status m n bytes h i → now ≡ before → IsReadCause status before now
+  IsReadCause-last ReadFault used using number m n bytes h i before now ends e = absurd ends
+  IsReadCause-last Done used using number m n bytes h i before now ends e = e
+  IsReadCause-last (BadLine k) used using number m n bytes h i before now ends e = e
+  IsReadCause-last WriteFault used using number m n bytes h i before now ends e = e
+  IsReadCause-last Memory used using number m n bytes h i before now ends e = e
+  IsReadCause-last TooLong used using number m n bytes h i before now ends e = e
+  IsReadCause-last Usage used using number m n bytes h i before now ends e = e
+  IsReadCause-last DiskFault used using number m n bytes h i before now ends e = e
+  IsReadCause-last Unformatted used using number m n bytes h i before now ends e = e
+  IsReadCause-last Formatted used using number m n bytes h i before now ends e = e
+  IsReadCause-last (Damaged area at) used using number m n bytes h i before now ends e = e
+  IsReadCause-last LobbyFault used using number m n bytes h i before now ends e = e
+  IsReadCause-last Worn used using number m n bytes h i before now ends e = e
 
   -- nothing was taken yet
   pub RanToFront-opened : (s : Stored D C) (a : Option (List ℕ)) (g : Option (List ℕ)) → CountsNow (means.meaning s.disk) → OnlyNow (means.meaning s.disk)
       → s.seat.doubt ≡ Settled → (means.told → IsKeptOn s.state.kept (means.meaning s.disk) s.seat) → Ended-so Memory a a s s g g
   RanToFront-opened s a g counts only settled kept =
       let nothing : Stretch = record { bytes = []; taken = 0 } in
-      no_memory_before 0 s s nothing a a g g (RanSoFar-none means s nothing a g counts only settled kept refl refl) a ([], Consumes-nil a)
+      no_memory_before 0 [] s s nothing a a g g (RanSoFar-none means s nothing a g counts only settled kept refl refl) a ([], Consumes-nil a)

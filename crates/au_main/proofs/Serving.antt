@@ -1,6 +1,7 @@
 -- One line of a script, and one step.
-use Rattle.std.proofs.Common.{◌≡◌, ◌≢◌, ◌⊎◌, inl, inr, ℕ, List, [], ◌∷◌, refl, subst, ap}
-use Rattle.std.specs.Prelude.{Option, Some, None}
+use Rattle.std.proofs.Common.{◌≡◌, ◌≢◌, ◌⊎◌, inl, inr, ℕ, List, [], ◌∷◌, refl, subst}
+use Rattle.std.specs.Prelude.{Option, Some, None, Result, Ok, Err, OnOk}
+use Rattle.std.proofs.KnownBytes.{Appends-nil}
 use Rattle.au_base.specs.declared.ask.Ask.{Ask}
 use Rattle.au_base.specs.declared.numbers.ClientNo.{ClientNo}
 use Rattle.au_base.specs.declared.reply.Said.{Said}
@@ -10,19 +11,19 @@ use Rattle.au_io.specs.Disk.{Passes}
 use Rattle.au_io.specs.Moments.{LeavesSince}
 use Rattle.au_io.specs.Time.{Ticking, Reads}
 use Rattle.au_journal.specs.declared.doubt.Doubt.TheVariants.{Settled}
-use Rattle.au_engine.specs.State.{State}
-use Rattle.au_engine.specs.Step.{Event}
+use Rattle.au_step.specs.State.{State}
+use Rattle.au_step.specs.Step.{Event}
 use Rattle.au_script.specs.declared.lines.ScriptLine.TheVariants as line
-use Rattle.au_script.specs.Lines.{Says, SaysNothing, SaysOneThing}
+use Rattle.au_script.specs.Labels.{Label, number_of, used_with}
+use Rattle.au_script.specs.Lines.{Says}
 use Rattle.au_store.specs.declared.entry.Entry.{Entry}
 use Rattle.au_store.specs.History.{HistoryGoesOn, Tells}
 use Rattle.au_store.specs.Steps.{IsTried, IsUnmended, StepLeaves, StepsBy, event_at}
 use Rattle.au_store.specs.Doubts.{IsStoodOn}
 use Rattle.au_store.specs.Stored.{Stored, IsKeptOn}
 use Rattle.au_main.specs.Answers.{AnswerTells, Made, Unmended, ReadAll, line_of, said_of}
-use Rattle.au_main.specs.Built.{IsBuilt, IsBuiltLine, IsNoScriptLine, IsScriptLine}
 use Rattle.au_main.specs.Means.{Means}
-use Rattle.au_main.specs.descent.Serving.{AnswersBy, Served, ServedInPart, Told, ToldInPart}
+use Rattle.au_main.specs.descent.Serving.{Answers, AnswersBy, Served, ServedInPart, Told, ToldInPart}
 
 read_one : (t u : Option Ticking) (reading : ℕ) → Reads t u reading → ReadAll t u (reading ∷ [])
 read_one None u reading h = tt
@@ -40,7 +41,7 @@ state_stays : (m n : State) (event : Event) (said : Said) → said ≡ Disk → 
 state_stays m n event said is step = subst (λ (a : Said). StepsBy m event a n) is step
 
 -- what a step of the store did is an answer to the ask
-pub answers_by : {D C : Type 0} (means : Means D C) (s t : Stored D C) (client : ClientNo) (ask : Ask) (said : Said) → client.0 ≡ 1
+pub answers_by : {D C : Type 0} (means : Means D C) (s t : Stored D C) (client : ClientNo) (ask : Ask) (said : Said)
     → StepsBy s.state (event_at client ask t.reading) said t.state
     → HistoryGoesOn means.told means.meaning means.faults client ask s t said
     → IsTried means.told means.meaning means.ticking (event_at client ask t.reading) s t said ⊎ IsUnmended means.told means.meaning s t said
@@ -49,11 +50,11 @@ pub answers_by : {D C : Type 0} (means : Means D C) (s t : Stored D C) (client :
     → (means.told → (doubted : Kept) → IsStoodOn s.state.kept doubted (means.meaning s.disk) s.seat
     → LeavesSince (StepLeaves s.state (event_at client ask t.reading) doubted) (means.meaning s.disk) (means.meaning t.disk))
     → Passes (means.meaning s.disk) (means.meaning t.disk)
-    → AnswersBy means s t ask said
-answers_by means s t client ask said first step history (inl tried) settled kept leaves time = (
+    → AnswersBy means s t client.0 ask said
+answers_by means s t client ask said step history (inl tried) settled kept leaves time = (
   Made client ask t.reading said,
   record {
-    asks = ap (λ n. (n, ask)) first;
+    asks = refl;
     read = read_one (means.ticking s.clock) (means.ticking t.clock) t.reading tried.read;
     state = step;
     history = history;
@@ -63,10 +64,10 @@ answers_by means s t client ask said first step history (inl tried) settled kept
   },
   refl,
 )
-answers_by means s t client ask said first step history (inr unmended) settled kept leaves time = (
+answers_by means s t client ask said step history (inr unmended) settled kept leaves time = (
   Unmended client ask,
   record {
-    asks = ap (λ n. (n, ask)) first;
+    asks = refl;
     read = rw unmended.clock (read_none (means.ticking s.clock));
     state = state_stays s.state t.state (event_at client ask t.reading) said unmended.failed step;
     history = λ entries stands. let on = history entries stands in (on.0, entries_faulted client ask t.reading said on.0 unmended.failed on.1, on.2);
@@ -77,25 +78,40 @@ answers_by means s t client ask said first step history (inr unmended) settled k
   unmended.failed,
 )
 
-pub IsNoScriptLine-unsaid : (bytes : List ℕ) → SaysNothing bytes → IsNoScriptLine bytes
-IsNoScriptLine-unsaid bytes nothing = λ said spelled. nothing said spelled.0
+pub Served-skip : {D C : Type 0} (means : Means D C) (used : List Label) (s : Stored D C) (bytes : List ℕ) (g : Option (List ℕ)) → Says bytes line.Skip → Served means used used s s bytes g g
+Served-skip means used s bytes g spelled = record {
+  text = [];
+  serves = record { said = line.Skip; spelled = spelled; does = (refl, refl) };
+  labels = refl;
+  given_all = Appends-nil g;
+}
 
--- a line says one thing, and that isn't built
-pub IsNoScriptLine-unbuilt : (bytes label : List ℕ) (ask : Ask) → SaysOneThing bytes → Says bytes (line.Ask label ask) → (IsBuilt label ask → ⊥) → IsNoScriptLine bytes
-IsNoScriptLine-unbuilt bytes label ask once says unbuilt = λ said spelled. unbuilt (subst IsBuiltLine (once said (line.Ask label ask) spelled.0 says) spelled.1)
+-- what is so at no error, of what a call says at none
+pub on_ok : {X E : Type 0} (r : Result X E) (P Q : Type 0) → (P → Q) → OnOk r P → OnOk r Q
+on_ok (Ok x) P Q f p = f p
+on_ok (Err e) P Q f p = tt
 
-pub Served-told : {D C : Type 0} (means : Means D C) (s t : Stored D C) (bytes label : List ℕ) (ask : Ask) (g h : Option (List ℕ))
-    → IsScriptLine bytes (line.Ask label ask) → Told means s t ask g h → Served means s t bytes g h
-Served-told means s t bytes label ask g h spelled told = record {
+pub Served-told : {D C : Type 0} (means : Means D C) (used using : List Label) (s t : Stored D C) (bytes label : List ℕ) (client : ℕ) (ask : Ask) (g h : Option (List ℕ))
+    → Says bytes (line.Ask label ask) → client ≡ number_of used label → using ≡ used_with used label → Told means s t client ask g h → Served means used using s t bytes g h
+Served-told means used using s t bytes label client ask g h spelled number labels told = record {
   text = line_of (said_of told.answer);
-  serves = record { said = line.Ask label ask; spelled = spelled; does = (told.answer, told.answers, refl) };
+  serves = record {
+    said = line.Ask label ask;
+    spelled = spelled;
+    does = (told.answer, subst (λ (n : ℕ). Answers means s t n ask told.answer) number told.answers, refl);
+  };
+  labels = labels;
   given_all = told.given_all;
 }
 
-pub Served-told_in_part : {D C : Type 0} (means : Means D C) (s t : Stored D C) (bytes label : List ℕ) (ask : Ask) (g h : Option (List ℕ))
-    → IsScriptLine bytes (line.Ask label ask) → ToldInPart means s t ask g h → ServedInPart means s t bytes g h
-Served-told_in_part means s t bytes label ask g h spelled told = record {
+pub Served-told_in_part : {D C : Type 0} (means : Means D C) (used : List Label) (s t : Stored D C) (bytes label : List ℕ) (client : ℕ) (ask : Ask) (g h : Option (List ℕ))
+    → Says bytes (line.Ask label ask) → client ≡ number_of used label → ToldInPart means s t client ask g h → ServedInPart means used s t bytes g h
+Served-told_in_part means used s t bytes label client ask g h spelled number told = record {
   text = line_of (said_of told.answer);
-  serves = record { said = line.Ask label ask; spelled = spelled; does = (told.answer, told.answers, refl) };
+  serves = record {
+    said = line.Ask label ask;
+    spelled = spelled;
+    does = (told.answer, subst (λ (n : ℕ). Answers means s t n ask told.answer) number told.answers, refl);
+  };
   given_front = told.given_front;
 }

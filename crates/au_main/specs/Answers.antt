@@ -8,6 +8,7 @@ use Rattle.au_http.specs.Replies.{said_text}
 use Rattle.au_io.specs.Time.{Ticking, after_reading}
 use Rattle.au_script.specs.declared.lines.ScriptLine.{ScriptLine}
 use Rattle.au_script.specs.declared.lines.ScriptLine.TheVariants as line
+use Rattle.au_script.specs.Labels.{Label, number_of, used_with}
 use Rattle.au_store.specs.declared.entry.Entry.{Entry}
 use Rattle.au_store.specs.declared.entry.Entry.TheVariants.{Stepped, Faulted}
 use Rattle.au_store.specs.History.{Leads, StandsFor, Tells, first_of}
@@ -21,11 +22,21 @@ pub data Answer : Type 0 where
   Made : ClientNo → Ask → ℕ → Said → Answer
   Unmended : ClientNo → Ask → Answer
 
--- the asks of a script with their clients; the client with the one label has number 1
+-- the labels used behind these lines, in the order of their first use, where these were used before them
+abbrev pub labels_after : List Label → List ScriptLine → List Label
+labels_after used [] = used
+labels_after used (line.Skip ∷ script) = labels_after used script
+labels_after used (line.Ask label ask ∷ script) = labels_after (used_with used label) script
+
+-- the asks of these lines with the numbers of their clients, where these labels were used before them
+abbrev pub asks_after : List Label → List ScriptLine → List (ℕ × Ask)
+asks_after used [] = []
+asks_after used (line.Skip ∷ script) = asks_after used script
+asks_after used (line.Ask label ask ∷ script) = (number_of used label, ask) ∷ asks_after (used_with used label) script
+
+-- the asks of a script with the numbers of their clients, which count from 1 by the first use of their labels
 abbrev pub asks_of : List ScriptLine → List (ℕ × Ask)
-asks_of [] = []
-asks_of (line.Skip ∷ script) = asks_of script
-asks_of (line.Ask label ask ∷ script) = (1, ask) ∷ asks_of script
+asks_of script = asks_after [] script
 
 abbrev pub asked : Answer → ℕ × Ask
 asked (Made client ask reading said) = (client.0, ask)

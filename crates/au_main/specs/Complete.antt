@@ -4,11 +4,11 @@ use Rattle.au_io.specs.declared.disk.Area.{Area}
 use Rattle.au_io.specs.Areas.{Areas}
 use Rattle.au_io.specs.Faults.{HasRisen}
 use Rattle.au_script.specs.declared.lines.ScriptLine.{ScriptLine}
+use Rattle.au_script.specs.Lines.{Says}
 use Rattle.au_store.specs.declared.open_fault.OpenFault.TheVariants as fault
 use Rattle.au_store.specs.Starting.{OpenSays}
 use Rattle.au_main.specs.declared.status.Status.{Status}
 use Rattle.au_main.specs.declared.status.Status.TheVariants.{Done, DiskFault, Memory}
-use Rattle.au_main.specs.Built.{IsScriptLine}
 use Rattle.au_main.specs.Lines.{AreLines, BeginsWithLines, script_limit}
 
 -- the selected area is formatted and not damaged, and a number is left for another instance
@@ -21,7 +21,7 @@ pub record IsReady (all : Areas) : Type 0 where
 pub record IsScript (bytes : List ℕ) : Type 0 where
   pub short : length bytes ≤ script_limit
   pub spelled : (before : List (List ℕ)) (line : List ℕ) → AreLines (before ++ line ∷ []) → BeginsWithLines (before ++ line ∷ []) bytes
-      → (said : ScriptLine) × IsScriptLine line said
+      → (said : ScriptLine) × Says line said
 
 -- no fault was counted
 abbrev pub NoneRose : ℕ → ℕ → Type 0

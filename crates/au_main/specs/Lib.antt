@@ -1,7 +1,7 @@
 pub mod Answers
-pub mod Built
 pub mod Causes
 pub mod Complete
+pub mod Exports
 pub mod Given
 pub mod Init
 pub mod Lines

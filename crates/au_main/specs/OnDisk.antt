@@ -10,8 +10,8 @@ use Rattle.au_io.specs.Disk.{Meaning, Passes}
 use Rattle.au_io.specs.Moments.{LeavesSince}
 use Rattle.au_journal.specs.declared.doubt.Doubt.TheVariants.{Settled}
 use Rattle.au_journal.specs.declared.seat.Seat.{Seat}
-use Rattle.au_engine.specs.State.{State}
-use Rattle.au_engine.specs.Step.{Event}
+use Rattle.au_step.specs.State.{State}
+use Rattle.au_step.specs.Step.{Event}
 use Rattle.au_store.specs.History.{GoesOver, Reached}
 use Rattle.au_store.specs.Recovery.{RecoversTo, RecoversToEither}
 use Rattle.au_store.specs.Doubts.{HasFrame, IsAfter, IsStoodOn}

@@ -9,6 +9,7 @@ use Rattle.au_io.specs.Moments.{Leaves, LeavesSince}
 use Rattle.au_io.specs.Time.{Reads}
 use Rattle.au_journal.specs.declared.doubt.Doubt.TheVariants.{Settled}
 use Rattle.au_script.specs.declared.lines.ScriptLine.{ScriptLine}
+use Rattle.au_script.specs.Lines.{Says, SaysNothing}
 use Rattle.au_store.specs.declared.open_fault.OpenFault.{OpenFault}
 use Rattle.au_store.specs.declared.open_fault.OpenFault.TheVariants as fault
 use Rattle.au_store.specs.History.{Reached, reached_of}
@@ -17,7 +18,6 @@ use Rattle.au_store.specs.Stored.{Stored}
 use Rattle.au_main.specs.declared.status.Status.{Status}
 use Rattle.au_main.specs.declared.status.Status.TheVariants.{Done, Usage, ReadFault, WriteFault, DiskFault, Unformatted, Formatted, Damaged, BadLine, TooLong, LobbyFault, Memory, Worn}
 use Rattle.au_main.specs.Answers.{Answer, IsLegalBy, LeavesDoubt, ReadAll, RepliesLead, UnmendedInDoubt, asked, asks_of, readings_of, texts}
-use Rattle.au_main.specs.Built.{IsScriptLine, IsNoScriptLine}
 use Rattle.au_main.specs.Given.{AppendsBehind}
 use Rattle.au_main.specs.Lines.{AreLines, ended, last_line, BeginsWithLines, TakenLines, TakenOf, script_limit}
 use Rattle.au_main.specs.Means.{Means}
@@ -28,7 +28,7 @@ use Rattle.au_main.specs.OnDisk.{IsOnDisk, RecoversAfter, RecoversAlong}
 -- replied to, in order, are a legal list; and so are the answers, each in its place, for which the store stands.
 pub record Ran {D C : Type 0} (means : Means D C) (lines : List (List ℕ)) (opened here : Stored D C) (answers : List Answer) (text : List ℕ) : Type 0 where
   pub script : List ScriptLine
-  pub spelled : AllZip IsScriptLine lines script
+  pub spelled : AllZip Says lines script
   pub asks : map asked answers ≡ asks_of script
   pub read : ReadAll (means.ticking opened.clock) (means.ticking here.clock) (flat_map readings_of answers)
   pub history : RepliesLead means opened here answers
@@ -60,7 +60,7 @@ pub record RanToBadLine {D C : Type 0} (means : Means D C) (n : ℕ) (left now :
   pub stands : IfSome left (BeginsWithLines (lines ++ bad ∷ []))
   pub taken : Consumes left now (ended lines ++ got)
   pub of_bad : TakenOf bad got now
-  pub says_nothing : IsNoScriptLine bad
+  pub says_nothing : SaysNothing bad
   pub ran : Ran means lines opened here answers text
   pub given_all : Appends given gave text
 

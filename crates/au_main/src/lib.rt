@@ -1,8 +1,9 @@
 //! The top call: all that the program does, on the outside that it is handed.
 #![tactic(auto)]
 
-mod built;
 mod command;
+mod export;
+mod exporting;
 mod give;
 mod init;
 mod line;
@@ -16,4 +17,5 @@ mod stretch;
 mod words;
 
 pub use command::top;
+pub use export::Export;
 pub use status::Status;

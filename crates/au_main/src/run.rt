@@ -1,5 +1,5 @@
 //! The command `run`.
-ghost use Rattle.std.specs.Prelude.{◌≡◌, ◌⊎◌, List};
+ghost use Rattle.std.specs.Prelude.{◌≡◌, ◌<◌, ◌⊎◌, List, length};
 ghost use Rattle.au_store.specs.Stored.{IsKeptOn};
 ghost use Rattle.au_main.specs.Answers.{Answer};
 ghost use Rattle.au_main.specs.Means.{means_of};
@@ -15,6 +15,7 @@ use crate::stretch::Pending;
 use au_base::Memory;
 use au_io::{Clock, Disk, Sink, Source};
 use au_journal::Doubt;
+use au_script::Labels;
 use au_store::{OpenFault, Store};
 use std::alloc::Global;
 
@@ -71,16 +72,19 @@ fn do_lines<S: Source, W: Sink, D: Disk, C: Clock>(
     let Ok(mut pending) = Pending::new(alloc) else {
         return Status::Memory;
     };
+    let mut labels = Labels::new(alloc);
     let mut number = 1;
     loop {
         match next_line(alloc, source, &mut pending) {
-            Ok(Line::Ended(line)) => match serve_line(alloc, store, sink, &line) {
+            Ok(Line::Ended(line)) => match serve_line(alloc, store, &mut labels, sink, &line) {
                 Ok(()) => number += 1,
                 Err(Stop::BadLine) => return Status::BadLine(number),
                 Err(Stop::WriteFault) => return Status::WriteFault,
                 Err(Stop::Memory) => return Status::Memory,
             },
-            Ok(Line::Last(line)) => return serve_last(alloc, store, sink, &line, number),
+            Ok(Line::Last(line)) => {
+                return serve_last(alloc, store, &mut labels, sink, &line, number);
+            }
             Ok(Line::End) => return Status::Done,
             Ok(Line::Overlong) => return Status::BadLine(number),
             Ok(Line::Failed) => return Status::ReadFault,
@@ -94,14 +98,16 @@ fn do_lines<S: Source, W: Sink, D: Disk, C: Clock>(
 fn serve_last<W: Sink, D: Disk, C: Clock>(
     alloc: Global,
     store: &mut Store<D, C>,
+    labels: &mut Labels,
     sink: &mut W,
     line: &[u8],
     number: u64,
 ) -> Status
-    ensures ends { EndsLast (means_of D.told D.meaning D.faults C.ticking) number result store.old store.new line.now (W.given sink.old) (W.given sink.new) }
+    requires room { length labels.old < u32.MAX }
+    ensures ends { EndsLast (means_of D.told D.meaning D.faults C.ticking) labels.old labels.new number result store.old store.new line.now (W.given sink.old) (W.given sink.new) }
     ensures cause { IsWriteCause result (W.faults sink.old) (W.faults sink.new) }
 {
-    match serve_line(alloc, store, sink, line) {
+    match serve_line(alloc, store, labels, sink, line) {
         Ok(()) => Status::Done,
         Err(Stop::BadLine) => Status::BadLine(number),
         Err(Stop::WriteFault) => Status::WriteFault,

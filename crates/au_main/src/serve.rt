@@ -1,49 +1,46 @@
 //! One line of a script.
-ghost use Rattle.std.specs.Prelude.{◌≡◌, ◌<◌, OnOk, IfOk, IsErrOf};
+ghost use Rattle.std.specs.Prelude.{◌≡◌, ◌<◌, length, OnOk, IfOk, IsErrOf};
 ghost use Rattle.au_io.specs.Faults.{HasRisen};
-ghost use Rattle.au_engine.specs.Step.{IsAsked};
+ghost use Rattle.au_script.specs.Lines.{SaysNothing};
 ghost use Rattle.au_main.specs.Answers.{line_of};
-ghost use Rattle.au_main.specs.Built.{IsNoScriptLine};
 ghost use Rattle.au_main.specs.Means.{means_of};
 ghost use Rattle.au_main.specs.descent.Serving.{AnswersBy, DidNothing, FoundNoMemory, Served, ServedInPart, Told, ToldInPart};
 
-use crate::built::built_ask;
 use crate::give::give_all;
 use crate::stop::Stop;
 use au_base::{Ask, ClientNo, Memory, Said, Steps};
 use au_io::{Clock, Disk, Sink};
-use au_script::{ScriptLine, line, said_text, say_one_thing};
+use au_script::{Labels, ScriptLine, line, said_text};
 use au_store::Store;
 use std::alloc::Global;
 use std::marker::Brand;
 use std::sync::ledger::{Blank, Ledger};
 
-// The client with the one label that is built.
-const CLIENT: ClientNo = ClientNo(1);
-
-/// Does what a line says, and gives the text of what was said.
+/// Does what a line says, and gives the text of what was said. The labels are those of the lines
+/// before it, and then its own too.
 pub(crate) fn serve_line<D: Disk, C: Clock, W: Sink>(
     alloc: Global,
     store: &mut Store<D, C>,
+    labels: &mut Labels,
     sink: &mut W,
     bytes: &[u8],
 ) -> Result<(), Stop>
-    ensures ok { OnOk result (Served (means_of D.told D.meaning D.faults C.ticking) store.old store.new bytes.now (W.given sink.old) (W.given sink.new)) }
-    ensures write_fault { IsErrOf result Stop.WriteFault → ServedInPart (means_of D.told D.meaning D.faults C.ticking) store.old store.new bytes.now (W.given sink.old) (W.given sink.new) }
-    ensures memory { IsErrOf result Stop.Memory → FoundNoMemory (means_of D.told D.meaning D.faults C.ticking) store.old store.new bytes.now (W.given sink.old) (W.given sink.new) }
-    ensures bad { IsErrOf result Stop.BadLine → IsNoScriptLine bytes.now }
+    requires room { length labels.old < u32.MAX }
+    ensures ok { OnOk result (Served (means_of D.told D.meaning D.faults C.ticking) labels.old labels.new store.old store.new bytes.now (W.given sink.old) (W.given sink.new)) }
+    ensures write_fault { IsErrOf result Stop.WriteFault → ServedInPart (means_of D.told D.meaning D.faults C.ticking) labels.old store.old store.new bytes.now (W.given sink.old) (W.given sink.new) }
+    ensures memory { IsErrOf result Stop.Memory → FoundNoMemory (means_of D.told D.meaning D.faults C.ticking) labels.old store.old store.new bytes.now (W.given sink.old) (W.given sink.new) }
+    ensures bad { IsErrOf result Stop.BadLine → SaysNothing bytes.now }
     ensures bad_stays { IsErrOf result Stop.BadLine → DidNothing store.old store.new (W.given sink.old) (W.given sink.new) }
     ensures cause { IsErrOf result Stop.WriteFault → HasRisen (W.faults sink.old) (W.faults sink.new) }
     ensures well { (IsErrOf result Stop.WriteFault → ⊥) → W.faults sink.new ≡ W.faults sink.old }
 {
-    say_one_thing();
     match line(alloc, bytes)? {
         None => Err(Stop::BadLine),
         Some(ScriptLine::Skip) => Ok(()),
-        Some(ScriptLine::Ask { label, ask }) => match built_ask(&label, ask) {
-            None => Err(Stop::BadLine),
-            Some(ask) => answer(alloc, store, sink, &ask),
-        },
+        Some(ScriptLine::Ask { label, ask }) => {
+            let client = labels.client_of(alloc, &label)?;
+            answer(alloc, store, sink, client, &ask)
+        }
     }
 }
 
@@ -52,44 +49,48 @@ fn answer<D: Disk, C: Clock, W: Sink>(
     alloc: Global,
     store: &mut Store<D, C>,
     sink: &mut W,
+    client: ClientNo,
     ask: &Ask,
 ) -> Result<(), Stop>
-    requires { IsAsked ask.now }
-    ensures ok { OnOk result (Told (means_of D.told D.meaning D.faults C.ticking) store.old store.new ask.now (W.given sink.old) (W.given sink.new)) }
-    ensures write_fault { IsErrOf result Stop.WriteFault → ToldInPart (means_of D.told D.meaning D.faults C.ticking) store.old store.new ask.now (W.given sink.old) (W.given sink.new) }
-    ensures memory { IsErrOf result Stop.Memory → ToldInPart (means_of D.told D.meaning D.faults C.ticking) store.old store.new ask.now (W.given sink.old) (W.given sink.new) }
+    ensures ok { OnOk result (Told (means_of D.told D.meaning D.faults C.ticking) store.old store.new client.0 ask.now (W.given sink.old) (W.given sink.new)) }
+    ensures write_fault { IsErrOf result Stop.WriteFault → ToldInPart (means_of D.told D.meaning D.faults C.ticking) store.old store.new client.0 ask.now (W.given sink.old) (W.given sink.new) }
+    ensures memory { IsErrOf result Stop.Memory → ToldInPart (means_of D.told D.meaning D.faults C.ticking) store.old store.new client.0 ask.now (W.given sink.old) (W.given sink.new) }
     ensures bad { IsErrOf result Stop.BadLine → ⊥ }
     ensures cause { IsErrOf result Stop.WriteFault → HasRisen (W.faults sink.old) (W.faults sink.new) }
     ensures well { (IsErrOf result Stop.WriteFault → ⊥) → W.faults sink.new ≡ W.faults sink.old }
 {
-    let said = step(alloc, store, ask);
+    let said = step(alloc, store, client, ask);
     let text = text_line(alloc, &said)?;
     give_all(sink, &text)?;
     Ok(())
 }
 
 // One step of the client, whose count of steps nobody asks.
-fn step<D: Disk, C: Clock>(alloc: Global, store: &mut Store<D, C>, ask: &Ask) -> Said
-    requires { IsAsked ask.now }
-    ensures { AnswersBy (means_of D.told D.meaning D.faults C.ticking) store.old store.new ask.now result }
+fn step<D: Disk, C: Clock>(
+    alloc: Global,
+    store: &mut Store<D, C>,
+    client: ClientNo,
+    ask: &Ask,
+) -> Said
+    ensures { AnswersBy (means_of D.told D.meaning D.faults C.ticking) store.old store.new client.0 ask.now result }
 {
-    counted_step::<D, C, Brand>(alloc, store, ask, Blank::new(1))
+    counted_step::<D, C, Brand>(alloc, store, client, ask, Blank::new(1))
 }
 
 fn counted_step<D: Disk, C: Clock, L: Ledger>(
     alloc: Global,
     store: &mut Store<D, C>,
+    client: ClientNo,
     ask: &Ask,
     blank: Blank,
 ) -> Said
-    requires asked { IsAsked ask.now }
     requires name { blank.name ≡ L.name }
     requires parts { blank.parts ≡ L.parts }
     requires some { 0 < L.parts }
-    ensures { AnswersBy (means_of D.told D.meaning D.faults C.ticking) store.old store.new ask.now result }
+    ensures { AnswersBy (means_of D.told D.meaning D.faults C.ticking) store.old store.new client.0 ask.now result }
 {
     let mut steps = Steps::<L>::new(blank);
-    store.step(alloc, CLIENT, ask, &mut steps)
+    store.step(alloc, client, ask, &mut steps)
 }
 
 // The text of what was said, with the LF that ends it.

@@ -15,9 +15,9 @@ use Rattle.au_journal.specs.declared.seat.Seat.{Seat}
 use Rattle.rec_codec.specs.declared.frame.Frame.{Frame}
 use Rattle.rec_codec.specs.Frames.{IsFrame, IsSpellable, framed}
 use Rattle.au_entries.specs.Imaging.{nothing}
-use Rattle.au_engine.specs.Replaying.{EndsWell, IsReplayable, after_frame, IsImage}
-use Rattle.au_engine.specs.Returning.{LeadsTo, start_frame}
-use Rattle.au_engine.specs.State.{State, resting, start}
+use Rattle.au_step.specs.Replaying.{EndsWell, IsReplayable, after_frame, IsImage}
+use Rattle.au_step.specs.Returning.{LeadsTo, start_frame}
+use Rattle.au_step.specs.State.{State, resting, start}
 use Rattle.au_store.specs.Recovery.{BeginsBy, GoesOnBy, RecoversToEither, ReplayedTo}
 use Rattle.au_store.specs.Looking.{LookCause, LookMeets, LookSays, look_fault_of}
 use Rattle.au_store.specs.Starting.{OpenCosts}

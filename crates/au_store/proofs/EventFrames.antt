@@ -8,9 +8,9 @@ use Rattle.au_journal.specs.declared.seat.Seat.{Seat}
 use Rattle.rec_codec.specs.declared.frame.Frame.{Frame}
 use Rattle.rec_codec.specs.declared.frame.Frame.TheVariants.{Image, Event, Purge}
 use Rattle.rec_codec.specs.Frames.{framed}
-use Rattle.au_engine.specs.Framing.{framed_option}
-use Rattle.au_engine.specs.State.{State, stamp_of}
-use Rattle.au_engine.specs.Step.{Event as Asked, is_idle}
+use Rattle.au_step.specs.Framing.{framed_option}
+use Rattle.au_step.specs.State.{State, stamp_of}
+use Rattle.au_step.specs.Step.{Event as Asked, is_idle}
 use Rattle.au_store.specs.Doubts.{EventWrites}
 use Rattle.au_store.specs.Kinds.{GoesOnSeat, IsFree, area_after, cost_by, cost_of, used_after}
 use Rattle.au_store.specs.Steps.{FitsUnder, IsMovedTo}

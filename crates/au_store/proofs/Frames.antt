@@ -11,11 +11,11 @@ use Rattle.au_journal.specs.Seats.{IsFramed, needed_of}
 use Rattle.rec_codec.specs.declared.frame.Frame.{Frame}
 use Rattle.rec_codec.specs.declared.frame.Frame.TheVariants.{Image, Event, Purge}
 use Rattle.rec_codec.specs.Frames.{spelled, framed}
-use Rattle.au_engine.specs.Framing.{IsFrameOf, IsWritable, Writes, framed_option}
-use Rattle.au_engine.specs.Replaying.{IsImage}
-use Rattle.au_engine.specs.Returning.{LeadsTo}
-use Rattle.au_engine.specs.State.{State}
-use Rattle.au_engine.specs.Step.{is_idle}
+use Rattle.au_step.specs.Framing.{IsFrameOf, IsWritable, Writes, framed_option}
+use Rattle.au_step.specs.Replaying.{IsImage}
+use Rattle.au_step.specs.Returning.{LeadsTo}
+use Rattle.au_step.specs.State.{State}
+use Rattle.au_step.specs.Step.{is_idle}
 use Rattle.au_store.specs.Recovery.{GoesOnBy, GoesOnTo, Replayed}
 use Rattle.au_store.specs.descent.Making.{AreFramed, Carries, CarriesTo, IsWithin}
 

@@ -1,5 +1,5 @@
 -- A history that a store stands for goes on by one entry.
-use Rattle.std.proofs.Common.{◌≡◌, ◌≢◌, ◌⊎◌, inl, inr, ⊎_elim, ℕ, ◌+◌, List, [], ◌∷◌, ◌++◌, Option, refl, sym, ◌∙◌, ap, subst, append-nil, append_assoc, arith}
+use Rattle.std.proofs.Common.{◌≡◌, ◌≢◌, ◌⊎◌, inl, inr, ⊎_elim, ℕ, List, [], ◌∷◌, ◌++◌, Option, refl, sym, ◌∙◌, ap, subst, append-nil, append_assoc, arith}
 use Rattle.std.specs.List.{AllByRecursion}
 use Rattle.au_base.specs.declared.ask.Ask.{Ask}
 use Rattle.au_base.specs.declared.numbers.ClientNo.{ClientNo}
@@ -12,13 +12,13 @@ use Rattle.au_io.specs.Time.{Ticking}
 use Rattle.au_journal.specs.declared.doubt.Doubt.TheVariants.{Settled}
 use Rattle.au_journal.specs.declared.seat.Seat.{Seat}
 use Rattle.au_journal.specs.Seats.{mended}
-use Rattle.au_engine.specs.Abandoning.{abandoned}
-use Rattle.au_engine.specs.State.{State}
-use Rattle.au_engine.specs.Step.{Event}
+use Rattle.au_step.specs.Abandoning.{abandoned}
+use Rattle.au_step.specs.State.{State}
+use Rattle.au_step.specs.Step.{Event}
 use Rattle.au_store.specs.declared.entry.Entry.{Entry}
 use Rattle.au_store.specs.declared.entry.Entry.TheVariants.{Opened, Stepped, Abandoned, Faulted, Filled}
 use Rattle.au_store.specs.Doubts.{IsStoodOn}
-use Rattle.au_store.specs.History.{BeginsInDoubt, GoesBy, GoesOver, HistoryGoesOn, IsDoubtIn, IsQuiet, Leads, Reached, StandsFor, Tells, first_of, reached_of}
+use Rattle.au_store.specs.History.{BeginsInDoubt, GoesBy, GoesOver, HistoryGoesOn, IsDoubtIn, IsQuiet, Leads, Reached, StandsFor, first_of, reached_of}
 use Rattle.au_store.specs.Steps.{Exceeds, HasFrameWithin, IsMovedTo, IsTried, IsUnmended, StepCause, StepDoubts, StepMoves, StepsBy, event_at}
 use Rattle.au_store.specs.Stored.{Stored}
 

@@ -1,5 +1,5 @@
 -- What a mend and an append make of what a journal stands on, for any property of its bodies.
-use Rattle.std.proofs.Common.{◌≡◌, ◌≢◌, inl, inr, ⊎_elim, ℕ, ◌≤◌, arith, Bool, false, List, [], ◌∷◌, ◌++◌, refl, sym, ◌∙◌, ap, subst}
+use Rattle.std.proofs.Common.{◌≡◌, ◌≢◌, inl, inr, ⊎_elim, ℕ, Bool, false, List, [], ◌∷◌, ◌++◌, refl, sym, ◌∙◌, ap, subst}
 use Rattle.au_io.specs.declared.disk.Area.{Area}
 use Rattle.au_io.specs.Areas.{Areas, area_of}
 use Rattle.au_io.specs.Disk.{Meaning, Passes}

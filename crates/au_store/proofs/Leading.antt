@@ -1,12 +1,12 @@
 -- That a list of entries leads to one place.
-use Rattle.std.proofs.Common.{◌≡◌, ℕ, List, [], ◌∷◌, Option, refl, sym, ◌∙◌, ap, subst}
+use Rattle.std.proofs.Common.{◌≡◌, ℕ, List, [], ◌∷◌, Option, sym, ◌∙◌, ap, subst}
 use Rattle.au_base.specs.declared.ask.Ask.{Ask}
 use Rattle.au_base.specs.declared.numbers.ClientNo.{ClientNo}
 use Rattle.au_base.specs.declared.reply.Reply.{Reply}
 use Rattle.rec_codec.specs.declared.frame.Frame.{Frame}
-use Rattle.au_engine.specs.Framing.{event_of}
-use Rattle.au_engine.specs.State.{State, stamp_of}
-use Rattle.au_engine.specs.Step.{Event, Logged, LoggedStep, StepAt}
+use Rattle.au_step.specs.Framing.{event_of}
+use Rattle.au_step.specs.State.{State, stamp_of}
+use Rattle.au_step.specs.Step.{Event, Logged, LoggedStep, StepAt}
 use Rattle.au_store.specs.declared.entry.Entry.{Entry}
 use Rattle.au_store.specs.declared.entry.Entry.TheVariants.{Opened, Stepped, Abandoned, Faulted, Filled}
 use Rattle.au_store.specs.Doubts.{EventWrites}

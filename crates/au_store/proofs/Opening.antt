@@ -1,5 +1,5 @@
 -- That the image of a new store is replayed to what it keeps.
-use Rattle.std.proofs.Common.{◌≡◌, ◌⊎◌, inl, inr, ⊎_elim, ℕ, List, [], ◌∷◌, refl, sym, Some}
+use Rattle.std.proofs.Common.{◌⊎◌, inl, inr, ⊎_elim, ℕ, List, [], ◌∷◌, refl, sym, Some}
 use Rattle.au_io.specs.declared.disk.Area.TheVariants.{A}
 use Rattle.au_io.specs.Areas.{Areas}
 use Rattle.au_io.specs.Disk.{Meaning}
@@ -11,7 +11,7 @@ use Rattle.rec_codec.specs.Frames.{IsSpellable, spelled}
 use Rattle.au_entries.specs.Imaging.{nothing}
 use Rattle.au_image.specs.Image.{image_of}
 use Rattle.au_opening.specs.Opening.{opening}
-use Rattle.au_engine.specs.Returning.{LeadsTo}
+use Rattle.au_step.specs.Returning.{LeadsTo}
 use Rattle.au_store.specs.Creating.{CreateLeaves, IsMade}
 use Rattle.au_store.specs.Recovery.{BeginsBy}
 

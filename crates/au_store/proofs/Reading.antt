@@ -8,7 +8,7 @@ use Rattle.au_io.specs.Disk.{Meaning, Passes, Stays}
 use Rattle.au_io.specs.Moments.{CountsNow, LeavesSince, OnlyNow, both_calls, weaker_since}
 use Rattle.au_io.specs.Time.{Ticking}
 use Rattle.au_journal.specs.declared.seat.Seat.{Seat}
-use Rattle.au_journal.specs.Frames.{frame, front, spelled, IsLimit, IsOpen, IsShut, AreSome, Stands}
+use Rattle.au_journal.specs.Frames.{frame, front, IsLimit, IsOpen, IsShut, AreSome, Stands}
 use Rattle.au_journal.specs.Images.{In, EndsIn}
 use Rattle.au_journal.specs.Lengths.{gate_bytes}
 use Rattle.au_journal.specs.Seats.{IsSettled}
@@ -23,12 +23,12 @@ use Rattle.rec_codec.specs.declared.frame.Frame.{Frame}
 use Rattle.rec_codec.specs.declared.frame.Frame.TheVariants.{Image, Event, Purge}
 use Rattle.rec_codec.specs.Frames.{IsFrame, IsSpellable, spelled as frame_body}
 use Rattle.au_entries.specs.Imaging.{nothing}
-use Rattle.au_engine.specs.Replaying.{EndsWell, IsReplayable, after_frame, IsImage}
-use Rattle.au_engine.specs.State.{State, start}
+use Rattle.au_step.specs.Replaying.{EndsWell, IsReplayable, after_frame, IsImage}
+use Rattle.au_step.specs.State.{State, start}
 use Rattle.au_store.specs.Opened.{AreReplayable, CannotFollow, IsBare, IsFrameDamage}
 use Rattle.au_store.specs.Recovery.{BeginsBy, GoesOnBy, GoesOnTo, ReadsAs, RecoversToEither, Replayed}
 use Rattle.rec_codec.specs.Frames.{framed}
-use Rattle.au_engine.specs.Returning.{start_frame}
+use Rattle.au_step.specs.Returning.{start_frame}
 use Rattle.au_store.specs.Steps.{IsMovedTo}
 use Rattle.au_store.specs.Looking.{LookCause, LookSays, look_fault_of, opening_fault}
 use Rattle.au_store.specs.Starting.{IsOpened, IsSeated, NoneIsBare, OpenCause, OpenLeaves, OpenSays, OpensInVain}

@@ -8,9 +8,9 @@ use Rattle.au_journal.specs.declared.mended.Mended.TheVariants as mend
 use Rattle.au_journal.specs.declared.seat.Seat.{Seat}
 use Rattle.au_journal.specs.Seats.{mended}
 use Rattle.au_base.specs.declared.numbers.ClientNo.{ClientNo}
-use Rattle.au_engine.specs.Abandoning.{abandoned}
-use Rattle.au_engine.specs.Replaying.{EndsWell}
-use Rattle.au_engine.specs.State.{State}
+use Rattle.au_step.specs.Abandoning.{abandoned}
+use Rattle.au_step.specs.Replaying.{EndsWell}
+use Rattle.au_step.specs.State.{State}
 use Rattle.au_store.specs.Doubts.{IsStoodOn}
 use Rattle.au_store.specs.Stored.{IsKeptOn, IsSound}
 use Rattle.au_store.proofs.Keeping.{gated_after}

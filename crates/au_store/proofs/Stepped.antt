@@ -5,10 +5,10 @@ use Rattle.au_base.specs.declared.reply.Said.{Said}
 use Rattle.au_base.specs.declared.reply.Said.TheVariants as said
 use Rattle.au_entries.specs.declared.kept.Kept.{Kept}
 use Rattle.au_engine.specs.declared.prepared.Prepared.{Prepared}
-use Rattle.au_engine.specs.Framing.{Writes, framed_option}
+use Rattle.au_step.specs.Framing.{Writes, framed_option}
 use Rattle.au_engine.specs.Prepared.{after}
-use Rattle.au_engine.specs.State.{State, stamp_of}
-use Rattle.au_engine.specs.Step.{Event, Step}
+use Rattle.au_step.specs.State.{State, stamp_of}
+use Rattle.au_step.specs.Step.{Event, Step}
 use Rattle.au_io.specs.Areas.{Areas}
 use Rattle.au_io.specs.Disk.{Meaning, Passes}
 use Rattle.au_io.specs.Moments.{LeavesSince, weaker_since, both_calls}

@@ -6,11 +6,11 @@ use Rattle.au_entries.specs.declared.kept.Kept.{Kept}
 use Rattle.au_io.specs.Disk.{Meaning}
 use Rattle.au_journal.specs.declared.doubt.Doubt.TheVariants.{Settled}
 use Rattle.au_journal.specs.declared.seat.Seat.{Seat}
-use Rattle.au_engine.specs.Abandoning.{abandoned}
+use Rattle.au_step.specs.Abandoning.{abandoned}
 use Rattle.rec_codec.specs.declared.frame.Frame.{Frame}
-use Rattle.au_engine.specs.Framing.{IsFrameOf}
-use Rattle.au_engine.specs.State.{State, stamp_of}
-use Rattle.au_engine.specs.Step.{Event, Step}
+use Rattle.au_step.specs.Framing.{IsFrameOf}
+use Rattle.au_step.specs.State.{State, stamp_of}
+use Rattle.au_step.specs.Step.{Event, Step}
 use Rattle.au_store.specs.Recovery.{ReplayedTo}
 use Rattle.au_journal.specs.Standing.{StandsOn}
 

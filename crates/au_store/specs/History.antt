@@ -11,9 +11,9 @@ use Rattle.au_io.specs.Disk.{Meaning}
 use Rattle.au_io.specs.Faults.{HasRisen}
 use Rattle.au_journal.specs.declared.doubt.Doubt.TheVariants.{Settled}
 use Rattle.rec_codec.specs.declared.frame.Frame.{Frame}
-use Rattle.au_engine.specs.Abandoning.{abandoned}
-use Rattle.au_engine.specs.State.{State}
-use Rattle.au_engine.specs.Step.{Event, Step}
+use Rattle.au_step.specs.Abandoning.{abandoned}
+use Rattle.au_step.specs.State.{State}
+use Rattle.au_step.specs.Step.{Event, Step}
 use Rattle.au_store.specs.declared.deed.Deed.{Deed}
 use Rattle.au_store.specs.declared.deed.Deed.TheVariants as deed
 use Rattle.au_store.specs.declared.entry.Entry.{Entry}

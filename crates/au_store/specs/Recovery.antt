@@ -8,7 +8,7 @@ use Rattle.au_journal.specs.Images.{In}
 use Rattle.rec_codec.specs.declared.frame.Frame.{Frame}
 use Rattle.rec_codec.specs.Frames.{IsFrame}
 use Rattle.au_entries.specs.Imaging.{nothing}
-use Rattle.au_engine.specs.Replaying.{IsReplayable, after_frame, IsImage}
+use Rattle.au_step.specs.Replaying.{IsReplayable, after_frame, IsImage}
 use Rattle.au_journal.specs.Standing.{Holds, HoldsEither}
 
 -- the bytes are the body of a frame that is no image and goes on from what is kept, and that is kept after it

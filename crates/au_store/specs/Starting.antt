@@ -13,8 +13,8 @@ use Rattle.au_journal.specs.Images.{In}
 use Rattle.au_journal.specs.Lengths.{gate_bytes}
 use Rattle.au_journal.specs.Walk.{IsDamaged, IsUnformatted}
 use Rattle.rec_codec.specs.Frames.{framed}
-use Rattle.au_engine.specs.Returning.{start_frame}
-use Rattle.au_engine.specs.State.{State, start}
+use Rattle.au_step.specs.Returning.{start_frame}
+use Rattle.au_step.specs.State.{State, start}
 use Rattle.au_store.specs.declared.open_fault.OpenFault.{OpenFault}
 use Rattle.au_store.specs.declared.open_fault.OpenFault.TheVariants as fault
 use Rattle.au_store.specs.Opened.{IsBare, IsFrameDamage}

@@ -2,7 +2,6 @@
 use Rattle.std.specs.Prelude.{◌≡◌, ◌≢◌, ◌⊎◌, ◌≤◌, ◌<◌, ⊤, ℕ, ◌+◌, Option, Some}
 use Rattle.au_base.specs.declared.ask.Ask.{Ask}
 use Rattle.au_base.specs.declared.numbers.ClientNo.{ClientNo}
-use Rattle.au_base.specs.declared.reply.Reply.{Reply}
 use Rattle.au_base.specs.declared.reply.Said.{Said}
 use Rattle.au_base.specs.declared.reply.Said.TheVariants as said
 use Rattle.au_entries.specs.declared.kept.Kept.{Kept}
@@ -12,8 +11,8 @@ use Rattle.au_io.specs.Faults.{HasRisen}
 use Rattle.au_journal.specs.declared.seat.Seat.{Seat}
 use Rattle.au_journal.specs.Seats.{mend_bytes}
 use Rattle.rec_codec.specs.declared.frame.Frame.{Frame}
-use Rattle.au_engine.specs.State.{State}
-use Rattle.au_engine.specs.Step.{Event, Step}
+use Rattle.au_step.specs.State.{State}
+use Rattle.au_step.specs.Step.{Event, Step}
 use Rattle.au_io.specs.Moments.{LeavesSince}
 use Rattle.au_io.specs.Time.{Reads, Ticking}
 use Rattle.au_journal.specs.declared.doubt.Doubt.TheVariants.{Settled}

@@ -4,8 +4,9 @@ use Rattle.au_io.specs.Disk.{Meaning}
 use Rattle.au_journal.specs.declared.seat.Seat.{Seat}
 use Rattle.au_entries.specs.declared.kept.Kept.{Kept}
 use Rattle.au_txn.specs.Logs.{Changes}
-use Rattle.au_engine.specs.Replaying.{EndsWell}
-use Rattle.au_engine.specs.State.{State, Reserved}
+use Rattle.au_step.specs.Replaying.{EndsWell}
+use Rattle.au_engine.specs.Reserved.{Reserved}
+use Rattle.au_step.specs.State.{State}
 use Rattle.au_store.specs.Recovery.{ReplayedTo}
 use Rattle.au_store.specs.Doubts.{IsAtRest}
 use Rattle.au_journal.specs.Standing.{IsSettledOn}

@@ -12,9 +12,10 @@ ghost use Rattle.au_store.specs.Creating.{CreateCause, CreateLeaves, IsMade};
 
 use crate::{Created, Store};
 use au_base::Memory;
-use au_engine::{Engine, images_come_back};
+use au_engine::Engine;
 use au_io::{Clock, Disk};
 use au_journal::{Formatting, Journal};
+use au_step::images_come_back;
 use std::alloc::Global;
 
 impl<D: Disk, C: Clock> Store<D, C> {

@@ -1,7 +1,7 @@
 //! What is asked of a store between two steps, and its end.
 ghost use Rattle.std.specs.Prelude.{◌≡◌, ◌++◌, ◌∷◌, [], List, is_some};
-ghost use Rattle.au_engine.specs.Abandoning.{abandoned};
-ghost use Rattle.au_engine.specs.Step.{session_of};
+ghost use Rattle.au_step.specs.Abandoning.{abandoned};
+ghost use Rattle.au_step.specs.Step.{session_of};
 
 use crate::Store;
 use au_base::ClientNo;

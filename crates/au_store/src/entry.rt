@@ -12,7 +12,7 @@ pub struct Whole {
 impl Model for Whole {
     ghost use Rattle.std.specs.Coded.{codes as value_codes};
     ghost use Rattle.sql_ast.specs.contracts.expression.Expr as expression;
-    ghost use Rattle.au_engine.specs.State.{State};
+    ghost use Rattle.au_step.specs.State.{State};
 
     ghost Value = { State };
 

@@ -5,8 +5,8 @@ ghost use Rattle.au_io.specs.Areas.{Areas, IsBounded};
 ghost use Rattle.au_io.specs.declared.disk.Area.{Area};
 ghost use Rattle.au_journal.specs.Walk.{IsUnformatted};
 ghost use Rattle.rec_codec.specs.declared.frame.Frame.{Frame};
-ghost use Rattle.au_engine.specs.State.{State, start};
-ghost use Rattle.au_engine.specs.Step.{Event};
+ghost use Rattle.au_step.specs.State.{State, start};
+ghost use Rattle.au_step.specs.Step.{Event};
 ghost use Rattle.au_store.specs.declared.entry.Entry.{Entry};
 ghost use Rattle.au_store.specs.declared.open_fault.OpenFault.{OpenFault};
 ghost use Rattle.au_store.specs.declared.open_fault.OpenFault.TheVariants as fault;
@@ -16,8 +16,8 @@ ghost use Rattle.au_store.specs.Opened.{IsBare};
 ghost use Rattle.au_store.specs.Recovery.{ReadsAs, RecoversTo};
 ghost use Rattle.au_store.specs.Starting.{IsOfBytes, IsOpened, OpenSays};
 
-use au_engine::one_result;
 use au_journal::{frames_stand_in_a_row, one_standing};
+use au_step::one_result;
 use rec_codec::one_front;
 
 /// Areas read as one thing. Those that recover to what is kept read as it, and don't end where their

@@ -7,19 +7,20 @@ ghost use Rattle.au_io.specs.Moments.{LeavesSince};
 ghost use Rattle.au_io.specs.Time.{Reads};
 ghost use Rattle.au_journal.specs.Causes.{MendCause};
 ghost use Rattle.au_journal.specs.Seats.{IsFullAt, mend_bytes, mended, mended_reads};
-ghost use Rattle.au_engine.specs.Framing.{IsText, Writes};
+ghost use Rattle.au_step.specs.Framing.{Writes};
 ghost use Rattle.au_engine.specs.Prepared.{Fits, after};
-ghost use Rattle.au_engine.specs.Replaying.{EndsWell};
-ghost use Rattle.au_engine.specs.State.{stamp_of};
-ghost use Rattle.au_engine.specs.Step.{IsAsked, Step};
+ghost use Rattle.au_step.specs.Replaying.{EndsWell};
+ghost use Rattle.au_step.specs.State.{stamp_of};
+ghost use Rattle.au_step.specs.Step.{Step};
 
 use crate::Store;
 use crate::preparing::prepare;
 use crate::writing::write;
 use au_base::{Ask, ClientNo, Memory, Said, Steps};
-use au_engine::{Prepared, frames_lead_on};
+use au_engine::{Prepared, asks_are_text};
 use au_io::{Clock, Disk};
 use au_journal::{Appended, Doubt, Mended};
+use au_step::frames_lead_on;
 use std::alloc::Global;
 use std::sync::ledger::Ledger;
 
@@ -46,7 +47,6 @@ impl<D: Disk, C: Clock> Store<D, C> {
         ask: &Ask,
         steps: &mut Steps<L>,
     ) -> Said
-        requires { IsAsked ask.now }
         ensures step { StepsBy self.old.state (event_at client ask.now self.new.reading) result self.new.state }
         ensures moves { StepMoves self.old.state (event_at client ask.now self.new.reading) self.new.state result self.old.seat self.new.seat }
         ensures full { (needed limit : ℕ) → result ≡ Said.Full needed limit → Exceeds self.old.state (event_at client ask.now self.new.reading) self.old.seat needed limit }
@@ -96,7 +96,6 @@ impl<D: Disk, C: Clock> Store<D, C> {
 
     // Reads the clock, and works out the step of the ask.
     fn prepare(&mut self, alloc: Global, client: ClientNo, ask: &Ask) -> Result<Prepared, Memory>
-        requires { IsAsked ask.now }
         ensures reading { Reads (C.ticking self.old.clock) (C.ticking self.new.clock) self.new.reading }
         ensures step { IfOk result (λ prepared. Step self.new.state (event_at client ask.now self.new.reading) prepared.reply (after prepared self.new.state)) }
         ensures writes { IfOk result (λ prepared. Writes self.new.state client ask.now (stamp_of self.new.state self.new.reading) (after prepared self.new.state) prepared.framed) }
@@ -109,7 +108,7 @@ impl<D: Disk, C: Clock> Store<D, C> {
         let reading = self.clock.now();
         self.reading = reading;
         let stamp = self.engine.stamp(reading);
-        text_of(ask);
+        asks_are_text(ask);
         self.engine.lawful();
         frames_lead_on();
         prepare(&mut self.engine, alloc, client, ask, stamp)
@@ -150,18 +149,6 @@ impl<D: Disk, C: Clock> Store<D, C> {
                 Said::Full { needed, limit }
             }
         }
-    }
-}
-
-// A text that is asked is UTF-8. It does nothing.
-fn text_of(ask: &Ask)
-    ensures { IsText ask.now }
-{
-    match ask {
-        Ask::Sql(text) => {
-            let _bytes = text.as_bytes();
-        }
-        Ask::Local | Ask::Logon { .. } | Ask::Logoff => {}
     }
 }
 

@@ -1,4 +1,4 @@
-//! Trials of the engine: steps worked by hand, and beside a plain slow program.
+//! Trials of the engine: what a new store keeps, and its image.
 #![tactic(auto)]
 
 #[cfg(test)]

@@ -1,6 +1,7 @@
 //! Commands on an outside in memory.
 
 mod disks;
+mod exports;
 
 use au_base::Text;
 use au_io::{Area, MemClock, MemDisk, MemSink, MemSource, NoLobby};
@@ -44,9 +45,9 @@ const FIRST_RUN: [(&str, &str); 9] = [
     ("s1 sql SELECT COUNT(*) FROM UNIFIED_AUDIT_TRAIL\n", COUNT_4),
 ];
 
-// a script of refusals, up to its seventh line
+// a script of refusals, up to its eighth line
 const REFUSALS: &str =
-    "s1 sql SELECT 1 FROM DUAL\ns1 local\ns1 local\ns1 sql NOAUDIT POLICY P_ALL\ns1 sql SELEC 1\ns1 sql SELECT COUNT(*) FROM UNIFIED_AUDIT_TRAIL\ns1 logoff\n";
+    "s1 sql SELECT 1 FROM DUAL\ns1 local\ns1 local\ns1 sql NOAUDIT POLICY P_ALL\ns1 sql SELEC 1\ns1 sql SELECT COUNT(*) FROM UNIFIED_AUDIT_TRAIL\ns1 logoff\ns1 loca\n";
 
 const REFUSED: &str = "{\"code\":1012,\"columns\":[],\"count\":0,\"rows\":[]}
 {\"code\":0,\"columns\":[],\"count\":0,\"rows\":[]}
@@ -54,25 +55,26 @@ const REFUSED: &str = "{\"code\":1012,\"columns\":[],\"count\":0,\"rows\":[]}
 {\"code\":46351,\"columns\":[],\"count\":0,\"rows\":[]}
 {\"code\":900,\"columns\":[],\"count\":0,\"rows\":[]}
 {\"code\":0,\"columns\":[\"COUNT(*)\"],\"count\":1,\"rows\":[[1]]}
+{\"code\":0,\"columns\":[],\"count\":0,\"rows\":[]}
 ";
 
-// texts that are built statements in other words, statements that aren't built, and no statements
+// texts that are statements in other words, and no statements
 const READINGS: &str =
     "s1 local\ns1 sql SELECT 7 FROM SYS.\"DUAL\" D\ns1 sql SELECT COUNT(*) FROM AUDSYS.UNIFIED_AUDIT_TRAIL T;\ns1 sql SELECT 1 ONE FROM DUAL\ns1 sql SELECT \"dual\" FROM \"DUAL\"\ns1 sql CREATE ROLE R\ns1 sql SELECT 'a\ns1 sql SELECT 1 FROM DUAL;;\ns1 sql SELECT (((((((((((((((((((((((((((((((((((((((((((((((((((((((((((((((((((((((((((((((((((((((((((((((((((((\ns1 sql SELECT ((((((((((((((((((((((((((((((((((((((((((((((((((((((((((((((((((((((((((((((((((((((((((((((((((((\ns1 sql SELECT ((((((((((((((((((((((((((((((((((((((((((((((((((((((((((((((((((((((((((((((((((((((((((((((((((((( '\ns1 sql NOAUDIT POLICY \"P_ALL\"\ns1 sql NOAUDIT POLICY P_ALL BY SYS\n";
 
 const READ: &str = "{\"code\":0,\"columns\":[],\"count\":0,\"rows\":[]}
 {\"code\":0,\"columns\":[\"C1\"],\"count\":1,\"rows\":[[7]]}
 {\"code\":0,\"columns\":[\"COUNT(*)\"],\"count\":1,\"rows\":[[0]]}
-{\"code\":900,\"columns\":[],\"count\":0,\"rows\":[]}
-{\"code\":900,\"columns\":[],\"count\":0,\"rows\":[]}
-{\"code\":900,\"columns\":[],\"count\":0,\"rows\":[]}
+{\"code\":0,\"columns\":[\"ONE\"],\"count\":1,\"rows\":[[1]]}
+{\"code\":904,\"columns\":[],\"count\":0,\"rows\":[]}
+{\"code\":0,\"columns\":[],\"count\":0,\"rows\":[]}
 {\"code\":900,\"columns\":[],\"count\":0,\"rows\":[]}
 {\"code\":900,\"columns\":[],\"count\":0,\"rows\":[]}
 {\"code\":99006,\"columns\":[],\"count\":0,\"rows\":[]}
 {\"code\":900,\"columns\":[],\"count\":0,\"rows\":[]}
 {\"code\":900,\"columns\":[],\"count\":0,\"rows\":[]}
 {\"code\":46351,\"columns\":[],\"count\":0,\"rows\":[]}
-{\"code\":900,\"columns\":[],\"count\":0,\"rows\":[]}
+{\"code\":46351,\"columns\":[],\"count\":0,\"rows\":[]}
 ";
 
 const OK: &str = "{\"code\":0,\"columns\":[],\"count\":0,\"rows\":[]}\n";
@@ -86,9 +88,9 @@ const COUNT_2: &str = "{\"code\":0,\"columns\":[\"COUNT(*)\"],\"count\":1,\"rows
 const COUNT_4: &str = "{\"code\":0,\"columns\":[\"COUNT(*)\"],\"count\":1,\"rows\":[[4]]}\n";
 
 // a script, how it ends, and what it gives
-const SCRIPTS: [(&str, Status, &str); 23] = [
+const SCRIPTS: [(&str, Status, &str); 27] = [
     ("", Status::Done, ""),
-    (REFUSALS, Status::BadLine(7), REFUSED),
+    (REFUSALS, Status::BadLine(8), REFUSED),
     (READINGS, Status::Done, READ),
     ("s1 local\r\n", Status::Done, OK),
     ("s1 local\n# x\r\n\r\n   \n\n", Status::Done, OK),
@@ -104,15 +106,23 @@ const SCRIPTS: [(&str, Status, &str); 23] = [
     ("s1  local\n", Status::BadLine(1), ""),
     ("s1 sql \n", Status::BadLine(1), ""),
     ("\t\n", Status::BadLine(1), ""),
-    // no other label, logon or logoff is built
-    ("s2 local\n", Status::BadLine(1), ""),
+    // each label has a client of its own
+    ("s2 local\n", Status::Done, OK),
     (
         "s1 local\ns2 sql SELECT 1 FROM DUAL\n",
-        Status::BadLine(2),
-        OK,
+        Status::Done,
+        OK_NOT_LOGGED_ON,
     ),
-    ("s1 logon SYS p\n", Status::BadLine(1), ""),
-    ("s1 logoff", Status::BadLine(1), ""),
+    (
+        "b1 local\na2 local\nb1 local\n",
+        Status::Done,
+        OK_OK_PRESENT,
+    ),
+    ("s1 local\nS2 local\n", Status::BadLine(2), OK),
+    ("s1 logon SYS p\n", Status::Done, OK),
+    ("s1 logon SYS \n", Status::BadLine(1), ""),
+    ("s1 logon SYS\n", Status::BadLine(1), ""),
+    ("s1 logoff", Status::Done, NOT_LOGGED_ON),
     ("s1 local\ns1 sql SELECT 1 FROM DUAL;", Status::Done, OK_ONE),
     (
         "s1 local\ns1 sql   select 1 from dual  \r\n",
@@ -120,6 +130,17 @@ const SCRIPTS: [(&str, Status, &str); 23] = [
         OK_ONE,
     ),
 ];
+
+const NOT_LOGGED_ON: &str = "{\"code\":1012,\"columns\":[],\"count\":0,\"rows\":[]}\n";
+
+const OK_NOT_LOGGED_ON: &str = "{\"code\":0,\"columns\":[],\"count\":0,\"rows\":[]}
+{\"code\":1012,\"columns\":[],\"count\":0,\"rows\":[]}
+";
+
+const OK_OK_PRESENT: &str = "{\"code\":0,\"columns\":[],\"count\":0,\"rows\":[]}
+{\"code\":0,\"columns\":[],\"count\":0,\"rows\":[]}
+{\"code\":99008,\"columns\":[],\"count\":0,\"rows\":[]}
+";
 
 const OK_ONE: &str = "{\"code\":0,\"columns\":[],\"count\":0,\"rows\":[]}
 {\"code\":0,\"columns\":[\"C1\"],\"count\":1,\"rows\":[[1]]}

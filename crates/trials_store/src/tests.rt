@@ -1,6 +1,5 @@
 //! Stores on disks in memory: made, used, shut and opened again.
-ghost use Rattle.std.specs.Prelude.{◌≡◌, ◌<◌, IfOk};
-ghost use Rattle.au_engine.specs.Step.{IsAsked};
+ghost use Rattle.std.specs.Prelude.{◌≡◌, ◌<◌};
 
 use au_base::{Ask, Cell, ClientNo, Memory, Said, Steps, Text};
 use au_io::{Area, Disk, Failed, MemClock, MemDisk};
@@ -60,9 +59,7 @@ fn begun(alloc: Global, limit: u32, failing: u64) -> Result<Store<MemDisk, MemCl
 }
 
 // A local logon, or a text.
-fn ask_of(alloc: Global, asked: Option<&str>) -> Result<Ask, Memory>
-    ensures { IfOk result IsAsked }
-{
+fn ask_of(alloc: Global, asked: Option<&str>) -> Result<Ask, Memory> {
     match asked {
         None => Ok(Ask::Local),
         Some(text) => Ok(Ask::Sql(Text::from_str(alloc, text)?)),
@@ -117,7 +114,6 @@ fn counted<L: Ledger>(
     ask: &Ask,
     blank: Blank,
 ) -> Said
-    requires asked { IsAsked ask.now }
     requires name { blank.name ≡ L.name }
     requires parts { blank.parts ≡ L.parts }
     requires some { 0 < L.parts }
@@ -187,6 +183,26 @@ fn the_trail_is_kept(rt: HostRuntime) -> Result<(), Fail> {
     let (disk, _) = store.shut();
     let mut again = opened(alloc, disk)?;
     assert!(rt; answers(alloc, &mut again, &AGAIN)?);
+    Ok(())
+}
+
+// what a client is told whose session was ended
+const ABANDONED: [(Option<&str>, Told); 3] = [
+    (AUDIT, Told::Code(1012)),
+    (None, Told::Code(0)),
+    (COUNT, Told::Number(0)),
+];
+
+#[test]
+fn an_abandoned_session_has_ended(rt: HostRuntime) -> Result<(), Fail> {
+    let alloc = rt.alloc();
+    let mut store = begun(alloc, LIMIT, u64::MAX)?;
+    assert!(rt; answers(alloc, &mut store, &[(None, Told::Code(0))])?);
+    assert!(rt; store.stands(ClientNo(1)));
+    store.abandon(ClientNo(1));
+    assert!(rt; !store.stands(ClientNo(1)));
+    assert_eq!(rt; store.reading(), 1_000_001);
+    assert!(rt; answers(alloc, &mut store, &ABANDONED)?);
     Ok(())
 }
 

@@ -20,7 +20,7 @@ pub record IsBeyond (taken : ℕ) (begun got : List ℕ) : Type 0 where
 -- the next line, of what was pending and what the source gave in this call
 abbrev pub IsNext : Stretch → Stretch → List ℕ → Option (List ℕ) → Line → Type 0
 IsNext old new got now (Ended line) = HasNoEnd line.items × (old.bytes ++ got ≡ line.items ++ LF ∷ new.bytes) × (new.taken ≡ old.taken + length got)
-IsNext old new got now (Last line) = HasNoEnd line.items × (old.bytes ++ got ≡ line.items) × IsAtEnd now × (0 < length line.items)
+IsNext old new got now (Last line) = HasNoEnd line.items × (old.bytes ++ got ≡ line.items) × IsAtEnd now × (0 < length line.items) × (new.taken ≡ old.taken + length got)
 IsNext old new got now End = (old.bytes ++ got ≡ []) × IsAtEnd now
 -- longer than a line with its CR may be
 IsNext old new got now Overlong = HasNoEnd (old.bytes ++ got) × (line_limit + 1 < length (old.bytes ++ got))

@@ -8,10 +8,10 @@ use Rattle.au_journal.specs.declared.seat.Seat.{Seat}
 use Rattle.au_journal.specs.Seats.{IsFramed, needed_of}
 use Rattle.rec_codec.specs.declared.frame.Frame.{Frame}
 use Rattle.rec_codec.specs.Frames.{IsSpellable, framed}
-use Rattle.au_engine.specs.Replaying.{IsReplayable, after_frame, IsImage}
+use Rattle.au_step.specs.Replaying.{IsReplayable, after_frame, IsImage}
 use Rattle.au_engine.specs.declared.prepared.Prepared.{Prepared}
 use Rattle.au_engine.specs.Prepared.{after}
-use Rattle.au_engine.specs.State.{State}
+use Rattle.au_step.specs.State.{State}
 use Rattle.au_store.specs.Steps.{IsMovedTo}
 
 -- the frame goes on from what is kept, and that is kept after it

@@ -8,7 +8,7 @@ use Rattle.au_io.specs.Time.{Reads, Ticking}
 use Rattle.au_journal.specs.declared.seat.Seat.{Seat}
 use Rattle.au_journal.specs.Seats.{IsSettled}
 use Rattle.au_journal.specs.Walk.{IsWalked}
-use Rattle.au_engine.specs.State.{start}
+use Rattle.au_step.specs.State.{start}
 use Rattle.au_store.specs.declared.open_fault.OpenFault.{OpenFault}
 use Rattle.au_store.specs.declared.open_fault.OpenFault.TheVariants as fault
 use Rattle.au_store.specs.Recovery.{RecoversToEither, Replayed}

@@ -37,7 +37,10 @@ pub returns-in-None-clause-init_completes : goal.returns-in-None-clause-init_com
 returns-in-None-clause-init_completes g c = λ password limit is. absurd (c.in-None.ensures password limit is)
 
 pub returns-in-None-clause-usage : goal.returns-in-None-clause-usage
-returns-in-None-clause-usage g c = ((λ same. ((λ run. let no : true ≡ false = sym (c.is_run.ensures.1 run) ∙ c.if-is_run.false in cc), c.in-None.ensures)), λ none. refl)
+returns-in-None-clause-usage g c = (
+  (λ same. ((λ run. let no : true ≡ false = sym (c.is_run.ensures.1 run) ∙ c.if-is_run.false in cc), c.in-None.ensures, c.export-status.ensures.usage.0 same)),
+  (λ none. c.export-status.ensures.usage.1 none.2),
+)
 
 pub returns-in-None-clause-init_over : goal.returns-in-None-clause-init_over
 returns-in-None-clause-init_over g c = λ password limit is. absurd (c.in-None.ensures password limit is)

@@ -9,7 +9,7 @@ invariant-loop-line g l =
     let source = g.S.Stream in
     let sink = g.W.Stream in
     record {
-      ran : RanSoFar (means_of g.D.Disk.told g.D.Disk.meaning g.D.Disk.faults g.C.Clock.ticking) (l.number - 1) l.fn.store l.store l.pending (source.left l.fn.source) (source.left l.source) (sink.given l.fn.sink) (sink.given l.sink);
+      ran : RanSoFar (means_of g.D.Disk.told g.D.Disk.meaning g.D.Disk.faults g.C.Clock.ticking) (l.number - 1) l.labels l.fn.store l.store l.pending (source.left l.fn.source) (source.left l.source) (sink.given l.fn.sink) (sink.given l.sink);
       counts : 1 ≤ l.number;
       within : l.pending.taken ≤ script_limit;
       read : source.faults l.source ≡ source.faults l.fn.source;

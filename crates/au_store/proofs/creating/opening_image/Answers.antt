@@ -1,7 +1,7 @@
-use Rattle.std.proofs.Common.{◌≡◌, ◌∙◌, ap, subst}
+use Rattle.std.proofs.Common.{◌∙◌, ap, subst}
 use Rattle.au_image.specs.Image.{image_of}
 use Rattle.rec_codec.specs.Frames.{IsSpellable, framed}
-use Rattle.au_engine.specs.State.{State}
+use Rattle.au_step.specs.State.{State}
 use Rattle.au_store.proofs.creating.opening_image.Goals as goal
 
 pub returns-clause-bytes : goal.returns-clause-bytes

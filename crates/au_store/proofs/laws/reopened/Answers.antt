@@ -1,6 +1,6 @@
 use Rattle.std.proofs.Common.{◌∙◌, ap}
 use Rattle.au_entries.specs.declared.kept.Kept.{Kept}
-use Rattle.au_engine.specs.State.{start}
+use Rattle.au_step.specs.State.{start}
 use Rattle.au_store.proofs.laws.reopened.Goals as goal
 
 pub returns : goal.returns

@@ -1,6 +1,6 @@
 use Rattle.std.proofs.Common.{◌∙◌, sym, ap}
 use Rattle.std.proofs.lemmas.Bool.{false≢true}
-use Rattle.au_engine.specs.State.{State}
+use Rattle.au_step.specs.State.{State}
 use Rattle.au_store.proofs.Begun.{begun, begun_ends, begun_resting, not_begun}
 use Rattle.au_store.proofs.Reading.{no_beginning, wrong_beginning}
 use Rattle.au_store.proofs.replaying.begin_by.Goals as goal

@@ -1,8 +1,8 @@
 use Rattle.std.proofs.Common.{◌≡◌}
 use Rattle.au_io.specs.Disk.{Stays}
 use Rattle.au_journal.specs.Journals.{disk_of, seat_of}
-use Rattle.au_engine.specs.Replaying.{EndsWell}
-use Rattle.au_engine.specs.State.{resting}
+use Rattle.au_step.specs.Replaying.{EndsWell}
+use Rattle.au_step.specs.State.{resting}
 use Rattle.au_store.specs.descent.Opening.{IsTaken}
 use Rattle.au_store.proofs.replaying.go_on.Given as goal
 

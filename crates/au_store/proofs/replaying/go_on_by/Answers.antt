@@ -1,6 +1,6 @@
 use Rattle.std.proofs.Common.{◌∙◌, sym}
 use Rattle.std.proofs.lemmas.Bool.{false≢true}
-use Rattle.au_engine.specs.Replaying.{IsImage}
+use Rattle.au_step.specs.Replaying.{IsImage}
 use Rattle.au_store.proofs.Begun.{ends_after, gone_after, resting_after}
 use Rattle.au_store.proofs.Reading.{no_going_on, wrong_going_on}
 use Rattle.au_store.proofs.replaying.go_on_by.Goals as goal

@@ -1,6 +1,6 @@
 use Rattle.std.proofs.Common.{◌∙◌, sym, ap, subst}
 use Rattle.rec_codec.specs.Frames.{IsSpellable, framed}
-use Rattle.au_engine.specs.Replaying.{IsImage}
+use Rattle.au_step.specs.Replaying.{IsImage}
 use Rattle.au_store.proofs.Begun.{start_carries, started}
 use Rattle.au_store.proofs.starting.next_instance.Goals as goal
 

@@ -1,8 +1,8 @@
-use Rattle.std.proofs.Common.{List, ap, sym, subst}
+use Rattle.std.proofs.Common.{List, sym, subst}
 use Rattle.std.specs.Prelude.{None}
 use Rattle.au_entries.specs.declared.trail_record.Record.{Record}
 use Rattle.au_kept.specs.Staging.{CanSettle}
-use Rattle.au_engine.specs.State.{Reserved, contents_of}
+use Rattle.au_engine.specs.Reserved.{Reserved, contents_of}
 use Rattle.au_engine.proofs.engine.Engine.apply.Goals as goal
 
 pub settle-requires-clause-can : goal.settle-requires-clause-can

@@ -1,5 +1,5 @@
 use Rattle.std.proofs.Common.{sym, subst, refl}
-use Rattle.au_engine.specs.State.{State}
+use Rattle.au_step.specs.State.{State}
 use Rattle.au_store.specs.Stored.{IsSound}
 use Rattle.au_store.proofs.Going.{ended_on}
 use Rattle.au_store.proofs.Sound.{abandoned_sound}

@@ -1,12 +1,12 @@
-use Rattle.std.proofs.Common.{◌≡◌, ◌∙◌, inl, inr, List, ℕ, length, Some, refl, sym, ap, subst, arith}
+use Rattle.std.proofs.Common.{◌≡◌, ◌∙◌, inr, List, ℕ, length, Some, refl, sym, ap, subst, arith}
 use Rattle.au_journal.specs.Journals.{disk_of, seat_of}
-use Rattle.au_engine.specs.State.{State, start}
+use Rattle.au_step.specs.State.{State, start}
 use Rattle.rec_codec.specs.Frames.{framed}
-use Rattle.au_engine.specs.Returning.{start_frame}
+use Rattle.au_step.specs.Returning.{start_frame}
 use Rattle.au_store.specs.Steps.{IsMovedTo}
 use Rattle.au_store.specs.descent.Making.{CarriesTo}
 use Rattle.au_store.specs.Stored.{IsKeptOn, IsSound}
-use Rattle.au_store.proofs.Begun.{no_cost, no_time, start_cost, unstarted}
+use Rattle.au_store.proofs.Begun.{no_cost, no_time, start_cost}
 use Rattle.au_store.proofs.Sound.{settled_sound}
 use Rattle.au_store.proofs.store.Store.begin.Goals as goal
 

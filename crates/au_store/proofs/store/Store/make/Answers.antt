@@ -1,7 +1,7 @@
 use Rattle.std.proofs.Common.{◌≡◌, sym, subst}
 use Rattle.au_journal.specs.declared.appended.Appended.TheVariants as answer
 use Rattle.au_engine.specs.Prepared.{after}
-use Rattle.au_engine.specs.State.{State}
+use Rattle.au_step.specs.State.{State}
 use Rattle.au_store.specs.Recovery.{ReplayedTo}
 use Rattle.au_store.specs.Stored.{IsKeptOn, IsSound}
 use Rattle.au_store.proofs.Frames.{are_framed}

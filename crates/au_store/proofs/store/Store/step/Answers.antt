@@ -5,7 +5,7 @@ use Rattle.au_journal.specs.declared.doubt.Doubt.TheVariants.{Settled}
 use Rattle.au_journal.specs.Seats.{mend_bytes, mended}
 use Rattle.au_base.specs.declared.reply.Said.TheVariants as said
 use Rattle.au_engine.specs.Prepared.{after}
-use Rattle.au_engine.specs.State.{State}
+use Rattle.au_step.specs.State.{State}
 use Rattle.au_store.specs.Recovery.{RecoversToEither}
 use Rattle.au_store.specs.Steps.{Exceeds, HasFrameWithin, StepCause, StepCosts, StepDoubts, StepLeaves, StepMoves, StepsBy, event_at}
 use Rattle.au_store.proofs.Going.{goes_on, mended_moved, same_moved, still_on}

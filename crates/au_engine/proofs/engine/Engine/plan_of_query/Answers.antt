@@ -1,0 +1,29 @@
+use Rattle.std.proofs.Common.{refl, subst}
+use Rattle.au_expr.specs.Sessions.{Session}
+use Rattle.au_fga.specs.Testing.{truth_over}
+use Rattle.au_replay.specs.Reading.{conditions}
+use Rattle.au_ruling.specs.Rulings.{sight_in}
+use Rattle.au_step.specs.Step.{ground_of}
+use Rattle.au_world.specs.Plans.{IsPlanOf}
+use Rattle.au_world.specs.Sights.{sight_of}
+use Rattle.au_engine.specs.Reserved.{contents_of}
+use Rattle.au_engine.proofs.Plans.{plan_in, shows_same, truth_over_table}
+use Rattle.au_engine.proofs.Settles.{quiet_desk}
+use Rattle.au_engine.proofs.engine.Engine.plan_of_query.Goals as goal
+
+pub plan-requires-clause-planned : goal.plan-requires-clause-planned
+plan-requires-clause-planned c =
+    c.lawful_catalogues_can_be_planned.ensures conditions c.args.self.now.state.kept c.world.result truth_over_table c.holds_together.ensures.lawful.kept.lawful c.world.ensures.catalog
+
+pub returns : goal.returns
+returns c =
+    let a = c.args in
+    let m = a.self.now.state in
+    let basis = ground_of m a.session.now a.stamp.0 in
+    let world = c.world.result in
+    let client = a.session.now.client in
+    let contents = contents_of a.self.now in
+    let shows = shows_same world client contents basis refl c.world.ensures.catalog c.world.ensures.grants c.world.ensures.desk c.world.ensures.records (quiet_desk contents c.holds_together.ensures.quiet) in
+    let carries = c.plans_hold.ensures.same (truth_over basis.session m.kept.tables) (sight_of world client) (sight_in basis) basis.session a.statement.now c.in_ok-plan.plan shows in
+    let given = subst (λ (s : Session). IsPlanOf (truth_over s world.catalog.now.tables) (sight_of world client) s a.statement.now c.in_ok-plan.plan) c.in_ok-facts.ensures c.in_ok-plan.ensures in
+    plan_in world client basis a.statement.now c.in_ok-plan.plan c.world.ensures.catalog carries given

@@ -1,0 +1,18 @@
+-- What contracts see of an engine.
+use Rattle.std.specs.Prelude.{ℕ, List}
+use Rattle.au_kept.specs.Keeping.{Contents}
+use Rattle.au_step.specs.State.{State}
+use Rattle.au_txn.specs.Logs.{Changes}
+
+-- a state; each client's changes of rows that aren't committed; and for how many more rows and tables, records and
+-- sessions its engine has room
+pub record Reserved : Type 0 where
+  pub state : State
+  pub logs : List Changes
+  pub spare : ℕ
+  pub room : ℕ
+  pub seats : ℕ
+
+-- what is kept of it, as its keeping sees it
+abbrev pub contents_of : Reserved → Contents
+contents_of engine = record { kept = engine.state.kept; logs = engine.logs; spare = engine.spare; room = engine.room }

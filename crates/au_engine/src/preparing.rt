@@ -1,0 +1,160 @@
+//! Steps, worked out and made ready.
+ghost use Rattle.std.specs.Prelude.{◌≡◌, ◌<◌, IfOk, OnOk};
+ghost use Rattle.au_step.specs.Framing.{Writes};
+ghost use Rattle.au_step.specs.Planning.{IsPlanFor};
+ghost use Rattle.au_step.specs.Reading.{IsReadOf};
+ghost use Rattle.au_step.specs.Replaying.{EndsWell};
+ghost use Rattle.au_step.specs.State.{IsStampOf};
+ghost use Rattle.au_step.specs.Step.{LoggedStep, StepAt, last_after};
+ghost use Rattle.au_engine.specs.Prepared.{Fits, after, logged_by, made_of};
+
+use crate::Engine;
+use crate::framing::{asks_are_text, with_frame};
+use crate::outcome::Outcome;
+use crate::prepared::Prepared;
+use crate::trail::last_after;
+use au_base::{Ask, ClientNo, Code, Memory, Stamp};
+use au_entries::{Change, Record};
+use au_kept::spellings_are_short;
+use au_step::{clients_have_one_session, frames_lead_on, steps_hold};
+use au_world::RowPlan;
+use sql_ast::Statement;
+use std::alloc::Global;
+
+impl Engine {
+    /// Works out the step of a client's ask at this stamp, and leaves the state as it is. A text
+    /// that is asked comes with what it is read as, and with its plan; with another ask any reading
+    /// comes. The results that the session and the instance keep of conditions are copied.
+    pub fn prepare(
+        &mut self,
+        alloc: Global,
+        client: ClientNo,
+        ask: &Ask,
+        read: &Result<Statement, Code>,
+        plan: Option<RowPlan>,
+        stamp: Stamp,
+    ) -> Result<Prepared, Memory>
+        requires read { IsReadOf ask.now read.now }
+        requires stamp { IsStampOf self.old.state stamp.0 }
+        requires seated { EndsWell self.old.state.kept }
+        requires planned { IsPlanFor self.old.state client ask.now stamp.0 read.now plan }
+        ensures step { IfOk result (λ prepared. StepAt self.old.state client ask.now stamp.0 prepared.reply (after prepared self.old.state)) }
+        ensures writes { IfOk result (λ prepared. Writes self.old.state client ask.now stamp.0 (after prepared self.old.state) prepared.framed) }
+        ensures keeps { self.new.state ≡ self.old.state }
+        ensures fits { IfOk result (λ prepared. Fits prepared self.new) }
+    {
+        self.reserve()?;
+        let outcome = self.step(alloc, client, ask, read, plan, stamp)?;
+        let outcome = self.framed(alloc, client, ask, stamp, outcome)?;
+        self.ready(alloc, client, ask, stamp, outcome)
+    }
+
+    // Makes room for a session.
+    fn reserve(&mut self) -> Result<(), Memory>
+        ensures keeps { self.new.state ≡ self.old.state }
+        ensures seat { OnOk result (0 < self.new.seats) }
+    {
+        self.sessions.reserve(1)?;
+        self.seats = 1;
+        Ok(())
+    }
+
+    // The step of the ask.
+    fn step(
+        &self,
+        alloc: Global,
+        client: ClientNo,
+        ask: &Ask,
+        read: &Result<Statement, Code>,
+        plan: Option<RowPlan>,
+        stamp: Stamp,
+    ) -> Result<Outcome, Memory>
+        requires read { IsReadOf ask.now read.now }
+        requires planned { IsPlanFor self.now.state client ask.now stamp.0 read.now plan }
+        ensures { IfOk result (λ outcome. LoggedStep self.now.state client ask.now stamp.0 outcome.reply (logged_by outcome) (made_of outcome self.now.state)) }
+    {
+        match ask {
+            Ask::Local => self.local(alloc, client, stamp),
+            Ask::Logon { user, password } => self.logon(alloc, client, user, password, stamp),
+            Ask::Sql(text) => self.sql(alloc, client, text, read, plan, stamp),
+            Ask::Logoff => self.logoff(alloc, client, stamp),
+        }
+    }
+
+    // The step with the framed bytes of what it writes.
+    fn framed(
+        &self,
+        alloc: Global,
+        client: ClientNo,
+        ask: &Ask,
+        stamp: Stamp,
+        outcome: Outcome,
+    ) -> Result<Outcome, Memory>
+        requires stamp { IsStampOf self.now.state stamp.0 }
+        requires seated { EndsWell self.now.state.kept }
+        requires step { LoggedStep self.now.state client ask.now stamp.0 outcome.reply (logged_by outcome) (made_of outcome self.now.state) }
+        ensures made { IfOk result (λ made. made ≡ record outcome { framed = made.framed }) }
+        ensures writes { IfOk result (λ made. Writes self.now.state client ask.now stamp.0 (made_of made self.now.state) made.framed) }
+    {
+        self.lawful();
+        asks_are_text(ask);
+        frames_lead_on();
+        let made = with_frame(alloc, stamp, outcome)?;
+        Ok(made)
+    }
+
+    // The step with its changes ready to be made, and with room for its records.
+    fn ready(
+        &mut self,
+        alloc: Global,
+        client: ClientNo,
+        ask: &Ask,
+        stamp: Stamp,
+        outcome: Outcome,
+    ) -> Result<Prepared, Memory>
+        requires stamp { IsStampOf self.old.state stamp.0 }
+        requires seated { EndsWell self.old.state.kept }
+        requires step { LoggedStep self.old.state client ask.now stamp.0 outcome.reply (logged_by outcome) (made_of outcome self.old.state) }
+        requires seat { 0 < self.old.seats }
+        ensures reply { IfOk result (λ prepared. prepared.reply ≡ outcome.reply) }
+        ensures after { IfOk result (λ prepared. after prepared self.old.state ≡ made_of outcome self.old.state) }
+        ensures framed { IfOk result (λ prepared. prepared.framed ≡ outcome.framed) }
+        ensures keeps { self.new.state ≡ self.old.state }
+        ensures fits { IfOk result (λ prepared. Fits prepared self.new) }
+    {
+        self.holds_together();
+        asks_are_text(ask);
+        steps_hold();
+        clients_have_one_session();
+        spellings_are_short();
+        let staged = self
+            .keeping
+            .stage(alloc, outcome.changes.as_slice(), outcome.records.len())?;
+        let Outcome {
+            reply,
+            sessions,
+            results,
+            changes,
+            records,
+            last,
+            framed,
+        } = outcome;
+        Ok(Prepared {
+            reply,
+            sessions,
+            results,
+            changes,
+            staged,
+            records,
+            last,
+            framed,
+        })
+    }
+
+    /// The last stamp after an event with these changes and records.
+    pub(crate) fn last_after(&self, stamp: Stamp, changes: &[Change], records: &[Record]) -> Stamp
+        ensures { result ≡ last_after self.now.state.kept.last stamp.0 changes.now records.now }
+    {
+        last_after(self.keeping.last(), stamp, changes, records)
+    }
+}

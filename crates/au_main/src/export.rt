@@ -1,0 +1,10 @@
+//! The commands that write what a store keeps.
+
+/// What is written of a store, which isn't opened for it.
+#[derive(Clone, Copy, Debug, PartialEq, Eq)]
+pub enum Export {
+    /// The trail as comma-separated values.
+    Trail,
+    /// The counts of what is kept.
+    Check,
+}
