@@ -1,11 +1,15 @@
 -- What a step that is worked out writes.
-use Rattle.std.proofs.Common.{◌≡◌, ℕ, List, refl}
-use Rattle.std.specs.Prelude.{Option}
+use Rattle.std.proofs.Common.{◌≡◌, ℕ, List, refl, ap}
+use Rattle.std.specs.Prelude.{Option, Some, None, if◌then◌else◌}
+use Rattle.std.proofs.lemmas.List.{take-append-drop}
 use Rattle.au_base.specs.declared.ask.Ask.{Ask}
 use Rattle.au_base.specs.declared.numbers.ClientNo.{ClientNo}
-use Rattle.au_step.specs.Framing.{IsFrameOf, IsWritable, Writes, event_of, framed_option}
+use Rattle.au_base.specs.declared.numbers.Stamp.{Stamp}
+use Rattle.au_entries.specs.declared.change.Change.{Change}
+use Rattle.au_step.specs.Framing.{IsFrameOf, IsWritable, Writes, event_of, frame_by, framed_option}
 use Rattle.au_step.specs.State.{State}
-use Rattle.au_step.specs.Step.{LoggedStep}
+use Rattle.au_step.specs.Step.{LoggedStep, is_nothing}
+use Rattle.rec_codec.specs.declared.frame.Frame.{Frame}
 use Rattle.au_engine.specs.declared.outcome.Outcome.{Outcome}
 use Rattle.au_engine.specs.Prepared.{logged_by, made_of}
 
@@ -22,3 +26,10 @@ step_writes m client ask stamp p bytes step can written = record {
   writable = can;
   bytes_are = written;
 }
+
+abbrev frame_if : Stamp → List Change → Outcome → Option Frame
+frame_if stamp cs p = if is_nothing cs p.purge p.records then None else Some (frame_by p.purge stamp cs p.records)
+
+-- the frame of all its changes, where there is something to be kept
+pub event_is : (stamp : Stamp) (p : Outcome) → event_of stamp.0 (logged_by p) ≡ (if is_nothing p.changes p.purge p.records then None else Some (frame_by p.purge stamp p.changes p.records))
+event_is stamp p = ap (λ (cs : List Change). frame_if stamp cs p) (take-append-drop p.finals p.changes)

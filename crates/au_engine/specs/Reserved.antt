@@ -1,8 +1,9 @@
 -- What contracts see of an engine.
 use Rattle.std.specs.Prelude.{ℕ, List}
 use Rattle.au_kept.specs.Keeping.{Contents}
-use Rattle.au_step.specs.State.{State}
-use Rattle.au_txn.specs.Logs.{Changes}
+use Rattle.au_step.specs.declared.session.Session.{Session}
+use Rattle.au_step.specs.State.{OpenSession, State}
+use Rattle.au_txn.specs.Logs.{Changes, changes_of}
 
 -- a state; each client's changes of rows that aren't committed; and for how many more rows and tables, records and
 -- sessions its engine has room
@@ -16,3 +17,7 @@ pub record Reserved : Type 0 where
 -- what is kept of it, as its keeping sees it
 abbrev pub contents_of : Reserved → Contents
 contents_of engine = record { kept = engine.state.kept; logs = engine.logs; spare = engine.spare; room = engine.room }
+
+-- a session with what its client has changed and not committed
+abbrev pub with_changes : List Changes → Session → OpenSession
+with_changes logs session = record { session = session; transaction = changes_of session.client logs }

@@ -1,5 +1,5 @@
 //! The engine: the whole state.
-ghost use Rattle.std.specs.Prelude.{◌≡◌, ◌↔◌, ◌<◌, [], IfOk, IsTrue, OnErr, OnOk, if◌then◌else◌, is_some};
+ghost use Rattle.std.specs.Prelude.{◌≡◌, ◌↔◌, ◌<◌, [], IfOk, IsTrue, None, OnErr, OnOk, if◌then◌else◌, is_some};
 ghost use Rattle.au_base.specs.Limits.{INSTANCES};
 ghost use Rattle.au_base.specs.declared.numbers.ClientNo.{ClientNo as Client};
 ghost use Rattle.au_entries.specs.Imaging.{nothing};
@@ -10,25 +10,29 @@ ghost use Rattle.au_step.specs.Lawful.{IsLawfulState};
 ghost use Rattle.au_step.specs.Replaying.{EndsWell, IsImage, IsReplayable, after_frame};
 ghost use Rattle.au_step.specs.Returning.{start_frame};
 ghost use Rattle.au_step.specs.State.{resting, stamp_of};
-ghost use Rattle.au_step.specs.Step.{session_of};
+ghost use Rattle.au_step.specs.Step.{session_of, transaction_of};
+ghost use Rattle.au_txn.specs.Desks.{open_of};
 ghost use Rattle.au_txn.specs.Logs.{changes_of};
 ghost use Rattle.au_step.specs.Sessions.{HaveOneEach};
 ghost use Rattle.au_engine.specs.Prepared.{Fits, after, instance_after};
+ghost use Rattle.au_engine.specs.Reserved.{contents_of};
+ghost use Rattle.au_kept.specs.Keeping.{HoldsTogether, desk_of};
 ghost use Rattle.rec_codec.specs.Frames.{IsSpellable, framed};
 
 use crate::prepared::Prepared;
-use crate::sessions::{drawn_after, end_session, settle};
+use crate::sessions::{drawn_after, end_session};
+use crate::settling::{KeptChange, forget, settle};
 use au_base::{ClientNo, LAST_MOMENT, List, Memory, Name, Reply, Stamp};
 use au_entries::{Change, Kept, Record};
-use au_kept::Keeping;
+use au_kept::{Keeping, transactions_hold};
 use au_opening::opening_changes;
 use au_step::{Session, ends_stay_lawful, starts_can_be_written};
 use rec_codec::Frame;
 use std::alloc::Global;
 use std::marker::Model;
 
-/// The whole state. Contracts see it beside each client's changes of rows, of which there are none
-/// yet, and the numbers of rows, records and sessions for which room is reserved.
+/// The whole state. Contracts see it beside each client's changes of rows, and the numbers of rows,
+/// records and sessions for which room is reserved.
 #[derive(Drop)]
 pub struct Engine {
     pub(crate) keeping: Keeping,
@@ -42,21 +46,22 @@ pub struct Engine {
 }
 
 impl Model for Engine {
-    ghost use Rattle.std.specs.Prelude.{◌≡◌, ◌+◌, ◌≤◌, [], vec_len, vec_capacity};
+    ghost use Rattle.std.specs.Prelude.{◌≡◌, ◌+◌, ◌≤◌, [], None, map, vec_len, vec_capacity};
     ghost use Rattle.std.specs.Coded.{codes as value_codes};
     ghost use Rattle.au_base.specs.declared.numbers.ClientNo.{ClientNo as Client};
     ghost use Rattle.au_txn.specs.Logs.{changes_of};
     ghost use Rattle.sql_ast.specs.contracts.expression.Expr as expression;
     ghost use Rattle.au_step.specs.Lawful.{IsLawfulState};
     ghost use Rattle.au_step.specs.Sessions.{HaveOneEach};
-    ghost use Rattle.au_engine.specs.Reserved.{Reserved};
+    ghost use Rattle.au_step.specs.Step.{session_of};
+    ghost use Rattle.au_engine.specs.Reserved.{Reserved, with_changes};
 
     ghost Value = { Reserved };
 
     ghost coded = { Prim.hlevel (value_codes, expression.the_row.coded) };
 
     ghost view = { λ e. record {
-      state = record { kept = e.keeping.kept; sessions = e.sessions.items; drawn = e.drawn; results = e.results };
+      state = record { kept = e.keeping.kept; sessions = map (with_changes e.keeping.logs) e.sessions.items; drawn = e.drawn; results = e.results };
       logs = e.keeping.logs;
       spare = e.keeping.spare;
       room = e.keeping.room;
@@ -64,9 +69,9 @@ impl Model for Engine {
     } };
 
     ghost invariant = { λ e. (vec_len e.sessions + e.seats ≤ vec_capacity e.sessions)
-        × IsLawfulState (record { kept = e.keeping.kept; sessions = e.sessions.items; drawn = e.drawn; results = e.results })
-        × HaveOneEach e.sessions.items
-        × ((client : Client) → changes_of client e.keeping.logs ≡ []) };
+        × IsLawfulState (record { kept = e.keeping.kept; sessions = map (with_changes e.keeping.logs) e.sessions.items; drawn = e.drawn; results = e.results })
+        × HaveOneEach (map (with_changes e.keeping.logs) e.sessions.items)
+        × ((client : Client) → session_of (map (with_changes e.keeping.logs) e.sessions.items) client ≡ None → changes_of client e.keeping.logs ≡ []) };
 }
 
 impl Engine {
@@ -133,6 +138,7 @@ impl Engine {
         ensures state { IfOk result (λ done. self.new.state ≡ (if done then record self.old.state { kept = after_frame self.old.state.kept frame } else self.old.state)) }
         ensures err { OnErr result (self.new.state ≡ self.old.state) }
     {
+        transactions_hold();
         let done = self.keeping.replay(alloc, frame);
         self.keeping.holds_together();
         done
@@ -161,21 +167,28 @@ impl Engine {
         ensures reply { result ≡ prepared.reply }
         ensures next { self.new.state ≡ after prepared self.old.state }
     {
+        self.keeping.holds_together();
         let Prepared {
             reply,
             sessions,
             results,
+            finals: _,
             changes: _,
             staged,
+            purge,
             records,
             last,
             framed: _,
         } = prepared;
         self.seats -= 1;
         self.drawn = drawn_after(&sessions, self.drawn);
-        self.keeping
-            .settle(staged, None, records.into_vec(), None, last);
-        settle(&mut self.sessions, sessions);
+        let kept = KeptChange {
+            staged,
+            purge,
+            records: records.into_vec(),
+            last,
+        };
+        settle(&mut self.keeping, &mut self.sessions, sessions, kept);
         set_results(&mut self.results, results);
         reply
     }
@@ -187,13 +200,13 @@ impl Engine {
         self.client_session(client).is_some()
     }
 
-    /// Ends the client's session, where it has one. Nothing else is changed, and nothing is recorded.
-    /// It takes no memory and can't fail.
+    /// Ends the client's session, where it has one, and its transaction is lost. Nothing else is
+    /// changed, and nothing is recorded. It takes no memory and can't fail.
     pub fn abandon(&mut self, client: ClientNo)
         ensures { self.new.state ≡ abandoned client self.old.state }
     {
-        self.holds_together();
         ends_stay_lawful();
+        forget(&mut self.keeping, client);
         end_session(&mut self.sessions, client);
     }
 
@@ -219,14 +232,17 @@ impl Engine {
         self.holds_together();
     }
 
-    /// What holds of every engine: its state is lawful, no client has two sessions, and none has
-    /// changes of rows. It does nothing, and states it for its callers.
+    /// What holds of every engine: its state is lawful, no client has two sessions, one without a
+    /// session has no changes of rows, and the desk has each client's transaction. It does nothing, and
+    /// states it for its callers.
     pub(crate) fn holds_together(&self)
         ensures lawful { IsLawfulState self.now.state }
         ensures apart { HaveOneEach self.now.state.sessions }
-        ensures quiet { (client : Client) → changes_of client self.now.logs ≡ [] }
+        ensures quiet { (client : Client) → session_of self.now.state.sessions client ≡ None → changes_of client self.now.logs ≡ [] }
+        ensures open_to { (client : Client) → open_of (desk_of (contents_of self.now)) client ≡ transaction_of self.now.state.sessions client }
+        ensures together { HoldsTogether self.now.state.kept (desk_of (contents_of self.now)) }
     {
-        let _drawn = self.drawn;
+        self.keeping.holds_together();
     }
 
     // No instance runs over what is kept, which is nothing.
@@ -235,6 +251,7 @@ impl Engine {
         requires logs { keeping.logs ≡ [] }
         ensures { result.state ≡ resting nothing }
     {
+        transactions_hold();
         keeping.holds_together();
         Engine {
             keeping,

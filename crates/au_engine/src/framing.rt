@@ -3,56 +3,53 @@ ghost use Rattle.std.specs.Prelude.{◌≡◌, IfOk, Option};
 ghost use Rattle.au_kept.specs.Quick.{changes_in};
 ghost use Rattle.rec_codec.specs.declared.frame.Frame.{Frame as AnyFrame};
 ghost use Rattle.rec_codec.specs.Frames.{IsSpellable, framed, spelled};
-ghost use Rattle.au_step.specs.Framing.{IsText, IsWritable, event_of, framed_option, records_in};
+ghost use Rattle.au_step.specs.Framing.{IsText, IsWritable, event_of, frame_by, framed_option, records_in};
 ghost use Rattle.au_engine.specs.Prepared.{logged_by};
-ghost use Rattle.au_step.specs.Step.{is_idle};
 
 use crate::outcome::Outcome;
+use crate::trail::is_nothing;
 use au_base::{Ask, List, Memory, Stamp};
 use au_entries::{Change, Record};
 use rec_codec::{Frame, write_framed};
 use std::alloc::Global;
 
-// An event's framed bytes, beside what was written.
+// A frame's bytes, beside what was written.
 #[derive(Drop)]
-struct EventBytes {
+struct FrameBytes {
     bytes: Vec<u8>,
     changes: List<Change>,
     records: List<Record>,
 }
 
-/// The step with the framed bytes of the event at this stamp, where it leaves something to be kept.
+/// The step with the framed bytes of the event, or of the purge, at this stamp, where it leaves
+/// something to be kept.
 pub(crate) fn with_frame(alloc: Global, stamp: Stamp, outcome: Outcome) -> Result<Outcome, Memory>
     requires { IsWritable (event_of stamp.0 (logged_by outcome)) }
     ensures { IfOk result (λ made. made ≡ record outcome { framed = framed_option (event_of stamp.0 (logged_by outcome)) }) }
 {
-    if is_idle(&outcome.changes, &outcome.records) {
+    if is_nothing(&outcome.changes, &outcome.purge, &outcome.records) {
         return Ok(without_frame(outcome));
     }
-    with_event(alloc, stamp, outcome)
+    with_bytes(alloc, stamp, outcome)
 }
 
-fn is_idle(changes: &List<Change>, records: &List<Record>) -> bool
-    ensures { result ≡ is_idle changes.now records.now }
-{
-    changes.is_empty() && records.is_empty()
-}
-
-fn with_event(alloc: Global, stamp: Stamp, outcome: Outcome) -> Result<Outcome, Memory>
-    requires { IsSpellable (AnyFrame.Event stamp outcome.changes outcome.records) }
-    ensures { IfOk result (λ made. made ≡ record outcome { framed = Option.Some (framed (AnyFrame.Event stamp outcome.changes outcome.records)) }) }
+fn with_bytes(alloc: Global, stamp: Stamp, outcome: Outcome) -> Result<Outcome, Memory>
+    requires { IsSpellable (frame_by outcome.purge stamp outcome.changes outcome.records) }
+    ensures { IfOk result (λ made. made ≡ record outcome { framed = Option.Some (framed (frame_by outcome.purge stamp outcome.changes outcome.records)) }) }
 {
     let Outcome {
         reply,
         sessions,
         results,
+        finals,
         changes,
+        purge,
         records,
         last,
         framed: _,
     } = outcome;
-    let written = write_event(alloc, stamp, changes, records)?;
-    let EventBytes {
+    let written = write_frame(alloc, stamp, purge, changes, records)?;
+    let FrameBytes {
         bytes,
         changes,
         records,
@@ -61,7 +58,9 @@ fn with_event(alloc: Global, stamp: Stamp, outcome: Outcome) -> Result<Outcome, 
         reply,
         sessions,
         results,
+        finals,
         changes,
+        purge,
         records,
         last,
         framed: Some(List::from_vec(bytes)),
@@ -77,29 +76,52 @@ fn without_frame(outcome: Outcome) -> Outcome
     }
 }
 
-fn write_event(
+fn write_frame(
     alloc: Global,
     stamp: Stamp,
+    purge: Option<Option<Stamp>>,
     changes: List<Change>,
     records: List<Record>,
-) -> Result<EventBytes, Memory>
-    requires { IsSpellable (AnyFrame.Event stamp changes records) }
-    ensures bytes { IfOk result (λ written. written.bytes.items ≡ framed (AnyFrame.Event stamp changes records)) }
+) -> Result<FrameBytes, Memory>
+    requires { IsSpellable (frame_by purge stamp changes records) }
+    ensures bytes { IfOk result (λ written. written.bytes.items ≡ framed (frame_by purge stamp changes records)) }
     ensures changes { IfOk result (λ written. written.changes ≡ changes) }
     ensures records { IfOk result (λ written. written.records ≡ records) }
 {
-    let frame = Frame::Event {
-        stamp,
-        changes,
-        records,
-    };
+    let frame = frame_by(purge, stamp, changes, records);
     let bytes = write_framed(alloc, &frame)?;
     let (changes, records) = parts_of(frame);
-    Ok(EventBytes {
+    Ok(FrameBytes {
         bytes,
         changes,
         records,
     })
+}
+
+// An event or, where it purges, a purge.
+fn frame_by(
+    purge: Option<Option<Stamp>>,
+    stamp: Stamp,
+    changes: List<Change>,
+    records: List<Record>,
+) -> Frame
+    ensures frame { result ≡ frame_by purge stamp changes records }
+    ensures changes { changes_in result ≡ changes }
+    ensures records { records_in result ≡ records }
+{
+    match purge {
+        None => Frame::Event {
+            stamp,
+            changes,
+            records,
+        },
+        Some(before) => Frame::Purge {
+            stamp,
+            before,
+            changes,
+            records,
+        },
+    }
 }
 
 fn parts_of(frame: Frame) -> (List<Change>, List<Record>)

@@ -1,6 +1,8 @@
 //! The whole state, and one step of it.
 #![tactic(auto)]
 
+mod busy;
+mod concluding;
 mod engine;
 mod framing;
 mod logons;
@@ -12,7 +14,9 @@ mod preparing;
 mod reading;
 mod recording;
 mod replies;
+mod rows;
 mod sessions;
+mod settling;
 mod statements;
 mod trail;
 
@@ -21,8 +25,8 @@ pub use au_step::{
     images_come_back, one_result, starts_can_be_written, starts_lead_on, steps_hold,
 };
 pub use engine::Engine;
-pub use framing::asks_are_text;
-pub use outcome::SessionChange;
+pub use framing::{asks_are_text, body_in};
+pub use outcome::{RowsChange, SessionChange};
 pub use prepared::Prepared;
 pub use reading::reading_of;
-pub use statements::built_texts_are_read;
+pub use statements::reads_soundly;

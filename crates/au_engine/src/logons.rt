@@ -5,6 +5,7 @@ ghost use Rattle.au_base.specs.Limits.{INSTANCE_SESSIONS};
 ghost use Rattle.au_logon.specs.Admitting.{Admits, IsLocal};
 ghost use Rattle.au_step.specs.Lawful.{IsLawfulSession};
 ghost use Rattle.au_step.specs.Step.{AdmittedStep, EndStep, LogoffStep, LogonStep, after_logoff, after_logon, is_crowded, logoff_left, logon_left, logon_number, next_number, recorded};
+ghost use Rattle.au_engine.specs.Inside.{CanBeMade, IsOwn};
 ghost use Rattle.au_engine.specs.Logons.{after_admission, after_refusal};
 ghost use Rattle.au_engine.specs.Prepared.{logged_by, made_of};
 ghost use Rattle.au_ruling.specs.Rulings.{code_reply};
@@ -12,7 +13,6 @@ ghost use Rattle.au_ruling.specs.Rulings.{code_reply};
 use crate::Engine;
 use crate::outcome::{Outcome, SessionChange};
 use crate::places::{logoff_facts, logoff_place, logon_facts, logon_place};
-use crate::replies::code_reply;
 use au_base::limits::{INSTANCE_SESSIONS, OPEN_SESSIONS};
 use au_base::{ClientNo, Code, List, Memory, SessionNo, Stamp, Text};
 use au_entries::KeptResults;
@@ -29,7 +29,8 @@ impl Engine {
         client: ClientNo,
         stamp: Stamp,
     ) -> Result<Outcome, Memory>
-        ensures { IfOk result (λ outcome. LogonStep (IsLocal (is_crowded self.now.state)) self.now.state client stamp.0 outcome.reply (logged_by outcome) (made_of outcome self.now.state)) }
+        ensures step { IfOk result (λ outcome. LogonStep (IsLocal (is_crowded self.now.state)) self.now.state client stamp.0 outcome.reply (logged_by outcome) (made_of outcome self.now.state)) }
+        ensures made { IfOk result (CanBeMade self.now.state) }
     {
         if self.stands(client) {
             return Ok(self.unchanged(alloc, Code::SESSION_PRESENT));
@@ -49,7 +50,8 @@ impl Engine {
         password: &Text,
         stamp: Stamp,
     ) -> Result<Outcome, Memory>
-        ensures { IfOk result (λ outcome. LogonStep (Admits self.now.state.kept.users self.now.state.kept.grants (is_crowded self.now.state) user.now password.now) self.now.state client stamp.0 outcome.reply (logged_by outcome) (made_of outcome self.now.state)) }
+        ensures step { IfOk result (λ outcome. LogonStep (Admits self.now.state.kept.users self.now.state.kept.grants (is_crowded self.now.state) user.now password.now) self.now.state client stamp.0 outcome.reply (logged_by outcome) (made_of outcome self.now.state)) }
+        ensures made { IfOk result (CanBeMade self.now.state) }
     {
         if self.stands(client) {
             return Ok(self.unchanged(alloc, Code::SESSION_PRESENT));
@@ -91,7 +93,8 @@ impl Engine {
         stamp: Stamp,
     ) -> Result<Outcome, Memory>
         requires open_to { admission.code ≡ DONE → is_crowded self.now.state ≡ false }
-        ensures { IfOk result (λ outcome. AdmittedStep self.now.state client stamp.0 admission outcome.reply (logged_by outcome) (made_of outcome self.now.state)) }
+        ensures step { IfOk result (λ outcome. AdmittedStep self.now.state client stamp.0 admission outcome.reply (logged_by outcome) (made_of outcome self.now.state)) }
+        ensures made { IfOk result (CanBeMade self.now.state) }
     {
         let left = self.logon_left(alloc, &admission, stamp)?;
         Ok(self.opened(alloc, client, admission, left, stamp))
@@ -145,6 +148,7 @@ impl Engine {
         ensures reply { result.reply ≡ code_reply admission.code }
         ensures logged { logged_by result ≡ recorded left }
         ensures next { made_of result self.now.state ≡ after_logon self.now.state client stamp.0 admission left }
+        ensures made { CanBeMade self.now.state result }
     {
         if admission.code.0 == 0 {
             self.begun(alloc, client, admission, left, stamp)
@@ -167,6 +171,7 @@ impl Engine {
         ensures reply { result.reply ≡ code_reply admission.code }
         ensures logged { logged_by result ≡ recorded left }
         ensures next { made_of result self.now.state ≡ after_admission self.now.state client stamp.0 admission left }
+        ensures made { CanBeMade self.now.state result }
     {
         let Admission {
             code,
@@ -178,22 +183,15 @@ impl Engine {
             session: results,
             instance,
         } = results;
-        Outcome {
-            reply: code_reply(alloc, code),
-            sessions: SessionChange::Begins(Session {
-                client,
-                user,
-                number: self.next_number(),
-                statements: 0,
-                entries: records.len() as u32,
-                results,
-            }),
-            results: Some(instance),
-            changes: List::new(alloc),
-            last: self.last_after(stamp, &[], records.as_slice()),
-            records,
-            framed: None,
-        }
+        let begins = SessionChange::Begins(Session {
+            client,
+            user,
+            number: self.next_number(),
+            statements: 0,
+            entries: records.len() as u32,
+            results,
+        });
+        self.recorded(alloc, code, begins, instance, records, stamp)
     }
 
     // A logon that is refused: it is recorded, and begins no session.
@@ -201,21 +199,21 @@ impl Engine {
         ensures reply { result.reply ≡ code_reply admission.code }
         ensures logged { logged_by result ≡ recorded left }
         ensures next { made_of result self.now.state ≡ after_refusal self.now.state stamp.0 left }
+        ensures made { CanBeMade self.now.state result }
     {
         let Left { records, results } = left;
         let KeptResults {
             session: _,
             instance,
         } = results;
-        Outcome {
-            reply: code_reply(alloc, admission.code),
-            sessions: SessionChange::Nothing,
-            results: Some(instance),
-            changes: List::new(alloc),
-            last: self.last_after(stamp, &[], records.as_slice()),
+        self.recorded(
+            alloc,
+            admission.code,
+            SessionChange::Nothing,
+            instance,
             records,
-            framed: None,
-        }
+            stamp,
+        )
     }
 
     /// A logoff of a client.
@@ -225,7 +223,8 @@ impl Engine {
         client: ClientNo,
         stamp: Stamp,
     ) -> Result<Outcome, Memory>
-        ensures { IfOk result (λ outcome. LogoffStep self.now.state client stamp.0 outcome.reply (logged_by outcome) (made_of outcome self.now.state)) }
+        ensures step { IfOk result (λ outcome. LogoffStep self.now.state client stamp.0 outcome.reply (logged_by outcome) (made_of outcome self.now.state)) }
+        ensures made { IfOk result (CanBeMade self.now.state) }
     {
         match self.own_session(client) {
             None => Ok(self.unchanged(alloc, Code::NOT_LOGGED_ON)),
@@ -245,7 +244,8 @@ impl Engine {
         stamp: Stamp,
     ) -> Result<Outcome, Memory>
         requires own { IsLawfulSession self.now.state.kept session.now }
-        ensures { IfOk result (λ outcome. EndStep self.now.state session.now client stamp.0 outcome.reply (logged_by outcome) (made_of outcome self.now.state)) }
+        ensures step { IfOk result (λ outcome. EndStep self.now.state session.now client stamp.0 outcome.reply (logged_by outcome) (made_of outcome self.now.state)) }
+        ensures made { IfOk result (CanBeMade self.now.state) }
     {
         let left = self.logoff_left(alloc, session, stamp)?;
         Ok(self.without(alloc, client, left, stamp))
@@ -267,20 +267,20 @@ impl Engine {
         ensures reply { result.reply ≡ code_reply Code.DONE }
         ensures logged { logged_by result ≡ recorded left }
         ensures next { made_of result self.now.state ≡ after_logoff self.now.state client stamp.0 left }
+        ensures made { CanBeMade self.now.state result }
     {
         let Left { records, results } = left;
         let KeptResults {
             session: _,
             instance,
         } = results;
-        Outcome {
-            reply: code_reply(alloc, Code::DONE),
-            sessions: SessionChange::Ends(client),
-            results: Some(instance),
-            changes: List::new(alloc),
-            last: self.last_after(stamp, &[], records.as_slice()),
+        self.recorded(
+            alloc,
+            Code::DONE,
+            SessionChange::Ends(client),
+            instance,
             records,
-            framed: None,
-        }
+            stamp,
+        )
     }
 }

@@ -1,15 +1,15 @@
-//! Plans of queries, and what their sessions are.
-ghost use Rattle.std.specs.Prelude.{◌≡◌, Ok, IfOk, MatchOption, Some, ⊤, option_map, true};
+//! Plans of statements on rows, and what their sessions are.
+ghost use Rattle.std.specs.Prelude.{◌≡◌, Ok, IfOk, Some, option_map, true};
 ghost use Rattle.std.specs.Option.{option_copied};
 ghost use Rattle.au_base.specs.declared.numbers.ClientNo.{ClientNo as Client};
 ghost use Rattle.au_catalog.specs.Settling.{catalog_of};
 ghost use Rattle.au_kept.specs.Keeping.{desk_of};
-ghost use Rattle.au_ruling.specs.Kinds.{is_query};
+ghost use Rattle.au_ruling.specs.Kinds.{is_on_rows};
 ghost use Rattle.au_ruling.specs.Rulings.{IsPlanIn};
 ghost use Rattle.au_step.specs.declared.session.Session.{Session as AnySession};
-ghost use Rattle.au_step.specs.Lawful.{IsLawfulSession};
 ghost use Rattle.au_step.specs.Planning.{IsPlanFor, IsPlanOfRead, IsPlanOfSql};
 ghost use Rattle.au_step.specs.Step.{facts_at, ground_of, session_of};
+ghost use Rattle.au_engine.specs.Inside.{IsOwn};
 ghost use Rattle.au_engine.specs.Reserved.{contents_of};
 ghost use Rattle.au_world.specs.Sound.{IsSoundWorld};
 
@@ -17,15 +17,15 @@ use crate::Engine;
 use crate::sessions::session_of;
 use au_base::{Ask, ClientNo, Code, Memory, Stamp};
 use au_expr::SessionFacts;
-use au_plan::{lawful_catalogues_can_be_planned, plan};
-use au_ruling::is_query;
+use au_plan::{lawful_catalogues_can_be_planned, plan, plans_hold};
+use au_ruling::is_on_rows;
 use au_step::Session;
-use au_world::{RowPlan, World, plans_hold};
+use au_world::{RowPlan, World};
 use sql_ast::Statement;
 use std::alloc::Global;
 
 impl Engine {
-    /// What is kept, as the world of queries. It copies nothing and takes no memory.
+    /// What is kept, as the world of statements on rows. It copies nothing and takes no memory.
     pub fn world(&self) -> World<'_>
         ensures catalog { result.catalog.now ≡ catalog_of self.now.state.kept }
         ensures grants { result.grants.now ≡ self.now.state.kept.grants }
@@ -44,7 +44,7 @@ impl Engine {
         client: ClientNo,
         stamp: Stamp,
     ) -> Result<Option<SessionFacts>, Memory>
-        ensures { IfOk result (λ found. found ≡ option_map (λ session. facts_at session.user session.number stamp.0) (session_of self.now.state.sessions client)) }
+        ensures { IfOk result (λ found. found ≡ option_map (λ seat. facts_at seat.session.user seat.session.number stamp.0) (session_of self.now.state.sessions client)) }
     {
         match self.client_session(client) {
             None => Ok(None),
@@ -52,8 +52,8 @@ impl Engine {
         }
     }
 
-    /// The plan that goes with the ask, whose text is read so: a query of a client that has a session
-    /// has one. It leaves the state as it is. `Memory` is the only error.
+    /// The plan that goes with the ask, whose text is read so: a statement on rows of a client that
+    /// has a session has one. It leaves the state as it is. `Memory` is the only error.
     pub fn plan(
         &self,
         alloc: Global,
@@ -94,7 +94,7 @@ impl Engine {
         read: &Result<Statement, Code>,
         stamp: Stamp,
     ) -> Result<Option<RowPlan>, Memory>
-        ensures { IfOk result (IsPlanOfRead (ground_of self.now.state session.now stamp.0) read.now) }
+        ensures { IfOk result (IsPlanOfRead self.now.state session.now stamp.0 read.now) }
     {
         match read {
             Err(_) => Ok(None),
@@ -110,25 +110,25 @@ impl Engine {
         statement: &Statement,
         stamp: Stamp,
     ) -> Result<Option<RowPlan>, Memory>
-        ensures { IfOk result (IsPlanOfRead (ground_of self.now.state session.now stamp.0) (Ok statement.now)) }
+        ensures { IfOk result (IsPlanOfRead self.now.state session.now stamp.0 (Ok statement.now)) }
     {
-        if !is_query(statement) {
+        if !is_on_rows(statement) {
             return Ok(None);
         }
-        let plan = self.plan_of_query(alloc, session, statement, stamp)?;
+        let plan = self.plan_on_rows(alloc, session, statement, stamp)?;
         Ok(Some(plan))
     }
 
-    // The plan of a query of the session.
-    fn plan_of_query(
+    // The plan of a statement on rows of the session.
+    fn plan_on_rows(
         &self,
         alloc: Global,
         session: &Session,
         statement: &Statement,
         stamp: Stamp,
     ) -> Result<RowPlan, Memory>
-        requires query { is_query statement.now ≡ true }
-        ensures { IfOk result (IsPlanIn (ground_of self.now.state session.now stamp.0) statement.now) }
+        requires on_rows { is_on_rows statement.now ≡ true }
+        ensures { IfOk result (IsPlanIn (ground_of self.now.state session.now statement.now stamp.0) statement.now) }
     {
         self.holds_together();
         lawful_catalogues_can_be_planned();
@@ -152,15 +152,15 @@ impl Engine {
 
     /// The client's session.
     pub(crate) fn client_session(&self, client: ClientNo) -> Option<&Session>
-        ensures { option_copied result ≡ session_of self.now.state.sessions client }
+        ensures { option_copied result ≡ option_map (λ seat. seat.session) (session_of self.now.state.sessions client) }
     {
         session_of(self.sessions.as_slice(), client)
     }
 
     /// The client's session, which is lawful.
     pub(crate) fn own_session(&self, client: ClientNo) -> Option<&Session>
-        ensures found { option_copied result ≡ session_of self.now.state.sessions client }
-        ensures lawful { (session : AnySession) → option_copied result ≡ Some session → IsLawfulSession self.now.state.kept session }
+        ensures found { option_copied result ≡ option_map (λ seat. seat.session) (session_of self.now.state.sessions client) }
+        ensures own { (session : AnySession) → option_copied result ≡ Some session → IsOwn self.now.state session }
     {
         self.holds_together();
         self.client_session(client)

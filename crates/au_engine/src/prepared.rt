@@ -1,9 +1,10 @@
 //! Steps that are prepared.
 
-ghost use Rattle.std.specs.Prelude.{◌≡◌, Option, option_map};
+ghost use Rattle.std.specs.Prelude.{◌≡◌, Option, is_some, option_map};
 ghost use Rattle.std.specs.Option.{option_copied};
 ghost use Rattle.rec_codec.specs.declared.frame.Frame.{Frame};
 ghost use Rattle.rec_codec.specs.Frames.{spelled};
+ghost use Rattle.au_engine.specs.Prepared.{logged_of};
 ghost use Rattle.au_step.specs.Framing.{framed_option};
 
 use crate::framing::body_in;
@@ -20,15 +21,19 @@ pub struct Prepared {
     pub sessions: SessionChange,
     /// The instance's results of conditions after the step, where it doesn't leave them as they are.
     pub results: Option<List<(Name, bool)>>,
+    /// So many of the changes, in front, are what becomes of the rows that are committed.
+    pub finals: usize,
     /// What it changes of what is kept, in the order in which it happens.
     pub changes: List<Change>,
-    /// The same changes, ready to be made.
+    /// The other changes, ready to be made.
     pub staged: Staged,
+    /// Of a purge: the records stamped before this moment go, or all of them where it names none.
+    pub purge: Option<Option<Stamp>>,
     /// The records that it leaves.
     pub records: List<Record>,
     /// The last stamp after the step.
     pub last: Stamp,
-    /// The framed bytes of the event that it writes, where it leaves something to be kept.
+    /// The framed bytes of the frame that it writes, where it leaves something to be kept.
     pub framed: Option<List<u8>>,
 }
 
@@ -51,5 +56,12 @@ impl Prepared {
             None => None,
             Some(bytes) => Some(bytes.as_slice()),
         }
+    }
+
+    /// Whether the step purges records of the trail.
+    pub fn purges(&self) -> bool
+        ensures { result ≡ is_some (logged_of self.now).purge }
+    {
+        self.purge.is_some()
     }
 }

@@ -1,20 +1,23 @@
 //! Steps, worked out and made ready.
-ghost use Rattle.std.specs.Prelude.{◌≡◌, ◌<◌, IfOk, OnOk};
+ghost use Rattle.std.specs.Prelude.{◌≡◌, ◌≢◌, ◌<◌, ◌≤◌, IfOk, OnOk};
 ghost use Rattle.au_step.specs.Framing.{Writes};
 ghost use Rattle.au_step.specs.Planning.{IsPlanFor};
 ghost use Rattle.au_step.specs.Reading.{IsReadOf};
 ghost use Rattle.au_step.specs.Replaying.{EndsWell};
 ghost use Rattle.au_step.specs.State.{IsStampOf};
-ghost use Rattle.au_step.specs.Step.{LoggedStep, StepAt, last_after};
-ghost use Rattle.au_engine.specs.Prepared.{Fits, after, logged_by, made_of};
+ghost use Rattle.au_step.specs.Step.{LoggedStep, StepAt};
+ghost use Rattle.au_engine.specs.Inside.{CanBeMade};
+ghost use Rattle.au_engine.specs.Prepared.{Fits, HasSpare, after, logged_by, logged_of, made_of};
+ghost use Rattle.au_engine.specs.Reserved.{contents_of};
+ghost use Rattle.au_kept.specs.Keeping.{desk_of};
+ghost use Rattle.au_txn.specs.Desks.{spare_of};
 
 use crate::Engine;
 use crate::framing::{asks_are_text, with_frame};
-use crate::outcome::Outcome;
+use crate::outcome::{Outcome, RowsChange, SessionChange};
 use crate::prepared::Prepared;
-use crate::trail::last_after;
 use au_base::{Ask, ClientNo, Code, Memory, Stamp};
-use au_entries::{Change, Record};
+use au_entries::Change;
 use au_kept::spellings_are_short;
 use au_step::{clients_have_one_session, frames_lead_on, steps_hold};
 use au_world::RowPlan;
@@ -34,11 +37,13 @@ impl Engine {
         plan: Option<RowPlan>,
         stamp: Stamp,
     ) -> Result<Prepared, Memory>
+        requires client { client.0 ≢ 0 }
         requires read { IsReadOf ask.now read.now }
         requires stamp { IsStampOf self.old.state stamp.0 }
         requires seated { EndsWell self.old.state.kept }
         requires planned { IsPlanFor self.old.state client ask.now stamp.0 read.now plan }
         ensures step { IfOk result (λ prepared. StepAt self.old.state client ask.now stamp.0 prepared.reply (after prepared self.old.state)) }
+        ensures logged { IfOk result (λ prepared. LoggedStep self.old.state client ask.now stamp.0 prepared.reply (logged_of prepared) (after prepared self.old.state)) }
         ensures writes { IfOk result (λ prepared. Writes self.old.state client ask.now stamp.0 (after prepared self.old.state) prepared.framed) }
         ensures keeps { self.new.state ≡ self.old.state }
         ensures fits { IfOk result (λ prepared. Fits prepared self.new) }
@@ -46,6 +51,7 @@ impl Engine {
         self.reserve()?;
         let outcome = self.step(alloc, client, ask, read, plan, stamp)?;
         let outcome = self.framed(alloc, client, ask, stamp, outcome)?;
+        self.reserve_rows(alloc, &outcome.sessions)?;
         self.ready(alloc, client, ask, stamp, outcome)
     }
 
@@ -59,6 +65,31 @@ impl Engine {
         Ok(())
     }
 
+    // Makes room for the changes of rows that the step writes.
+    fn reserve_rows(&mut self, alloc: Global, change: &SessionChange) -> Result<(), Memory>
+        ensures keeps { self.new.state ≡ self.old.state }
+        ensures seats { self.new.seats ≡ self.old.seats }
+        ensures spare { OnOk result (HasSpare change.now (desk_of (contents_of self.new))) }
+    {
+        match change {
+            SessionChange::Counts {
+                client,
+                rows: RowsChange::Writes { changes, .. },
+                ..
+            } => self.reserve_for(alloc, *client, changes.len()),
+            _ => Ok(()),
+        }
+    }
+
+    // Makes room for so many changes of rows of the client.
+    fn reserve_for(&mut self, alloc: Global, client: ClientNo, more: usize) -> Result<(), Memory>
+        ensures keeps { self.new.state ≡ self.old.state }
+        ensures seats { self.new.seats ≡ self.old.seats }
+        ensures spare { OnOk result (more ≤ spare_of client (desk_of (contents_of self.new))) }
+    {
+        self.keeping.reserve(alloc, client, more)
+    }
+
     // The step of the ask.
     fn step(
         &self,
@@ -70,8 +101,11 @@ impl Engine {
         stamp: Stamp,
     ) -> Result<Outcome, Memory>
         requires read { IsReadOf ask.now read.now }
+        requires stamp { IsStampOf self.now.state stamp.0 }
+        requires seated { EndsWell self.now.state.kept }
         requires planned { IsPlanFor self.now.state client ask.now stamp.0 read.now plan }
-        ensures { IfOk result (λ outcome. LoggedStep self.now.state client ask.now stamp.0 outcome.reply (logged_by outcome) (made_of outcome self.now.state)) }
+        ensures made { IfOk result (CanBeMade self.now.state) }
+        ensures step { IfOk result (λ outcome. LoggedStep self.now.state client ask.now stamp.0 outcome.reply (logged_by outcome) (made_of outcome self.now.state)) }
     {
         match ask {
             Ask::Local => self.local(alloc, client, stamp),
@@ -90,6 +124,7 @@ impl Engine {
         stamp: Stamp,
         outcome: Outcome,
     ) -> Result<Outcome, Memory>
+        requires client { client.0 ≢ 0 }
         requires stamp { IsStampOf self.now.state stamp.0 }
         requires seated { EndsWell self.now.state.kept }
         requires step { LoggedStep self.now.state client ask.now stamp.0 outcome.reply (logged_by outcome) (made_of outcome self.now.state) }
@@ -112,13 +147,17 @@ impl Engine {
         stamp: Stamp,
         outcome: Outcome,
     ) -> Result<Prepared, Memory>
+        requires client { client.0 ≢ 0 }
         requires stamp { IsStampOf self.old.state stamp.0 }
         requires seated { EndsWell self.old.state.kept }
         requires step { LoggedStep self.old.state client ask.now stamp.0 outcome.reply (logged_by outcome) (made_of outcome self.old.state) }
+        requires made { CanBeMade self.old.state outcome }
         requires seat { 0 < self.old.seats }
+        requires spare { HasSpare outcome.sessions (desk_of (contents_of self.old)) }
         ensures reply { IfOk result (λ prepared. prepared.reply ≡ outcome.reply) }
         ensures after { IfOk result (λ prepared. after prepared self.old.state ≡ made_of outcome self.old.state) }
         ensures framed { IfOk result (λ prepared. prepared.framed ≡ outcome.framed) }
+        ensures logged { IfOk result (λ prepared. logged_of prepared ≡ logged_by outcome) }
         ensures keeps { self.new.state ≡ self.old.state }
         ensures fits { IfOk result (λ prepared. Fits prepared self.new) }
     {
@@ -129,12 +168,14 @@ impl Engine {
         spellings_are_short();
         let staged = self
             .keeping
-            .stage(alloc, outcome.changes.as_slice(), outcome.records.len())?;
+            .stage(alloc, behind(&outcome), outcome.records.len())?;
         let Outcome {
             reply,
             sessions,
             results,
+            finals,
             changes,
+            purge,
             records,
             last,
             framed,
@@ -143,18 +184,24 @@ impl Engine {
             reply,
             sessions,
             results,
+            finals,
             changes,
             staged,
+            purge,
             records,
             last,
             framed,
         })
     }
+}
 
-    /// The last stamp after an event with these changes and records.
-    pub(crate) fn last_after(&self, stamp: Stamp, changes: &[Change], records: &[Record]) -> Stamp
-        ensures { result ≡ last_after self.now.state.kept.last stamp.0 changes.now records.now }
-    {
-        last_after(self.keeping.last(), stamp, changes, records)
-    }
+// The changes of the step behind those of the rows that it commits.
+fn behind(outcome: &Outcome) -> &[Change]
+    ensures { result.now ≡ (logged_by outcome.now).changes }
+{
+    outcome
+        .changes
+        .as_slice()
+        .get(outcome.finals..)
+        .unwrap_or(&[])
 }

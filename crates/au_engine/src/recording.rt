@@ -1,13 +1,17 @@
 //! What auditing leaves of events.
-ghost use Rattle.std.specs.Prelude.{◌≡◌, IfOk, IsTrue};
+ghost use Rattle.std.specs.Prelude.{◌≡◌, [], IfOk, IsTrue, None, Some, if◌then◌else◌};
 ghost use Rattle.au_audit.specs.Conditions.{result_before};
 ghost use Rattle.au_base.specs.Order.{is_in_order};
-ghost use Rattle.au_step.specs.Step.{event_left, results_seen};
+ghost use Rattle.au_ruling.specs.Rulings.{code_reply};
+ghost use Rattle.au_step.specs.Step.{event_left, is_nothing, results_seen};
 
 use crate::Engine;
+use crate::outcome::{Outcome, SessionChange};
+use crate::replies::code_reply;
+use crate::trail::last_after;
 use au_audit::Place;
-use au_base::{List, Memory, Name};
-use au_entries::{Facts, FgaName, KeptResults};
+use au_base::{Code, List, Memory, Name, Stamp};
+use au_entries::{Facts, FgaName, KeptResults, Record};
 use au_expr::SessionFacts;
 use au_policy::lawful_policies_can_be_asked;
 use au_recording::{Audited, Left, left_by};
@@ -50,6 +54,36 @@ impl Engine {
             session: copied(results)?,
             instance: copied(&self.results)?,
         })
+    }
+
+    /// A step at this stamp that is answered with a code, and of which nothing but these records is
+    /// kept.
+    pub(crate) fn recorded(
+        &self,
+        alloc: Global,
+        code: Code,
+        sessions: SessionChange,
+        results: List<(Name, bool)>,
+        records: List<Record>,
+        stamp: Stamp,
+    ) -> Outcome
+        ensures { result ≡ record { reply = code_reply code; sessions = sessions; results = Some results; finals = 0; changes = []; purge = None; records = records; last = if is_nothing [] None records then self.now.state.kept.last else stamp; framed = None } }
+    {
+        let last = last_after(
+            self.keeping.last(),
+            stamp,
+            &List::new(alloc),
+            &None,
+            &records,
+        );
+        Outcome::of_records(
+            alloc,
+            code_reply(alloc, code),
+            sessions,
+            Some(results),
+            records,
+            last,
+        )
     }
 }
 

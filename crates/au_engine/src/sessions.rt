@@ -1,12 +1,10 @@
 //! The list of sessions.
-ghost use Rattle.std.specs.Prelude.{◌≡◌, ◌≤◌, ◌<◌, ◌+◌, IfOk, map, position, vec_len, vec_capacity};
+ghost use Rattle.std.specs.Prelude.{◌≡◌, ◌≤◌, ◌==◌, IfOk, filter, map, not, position, vec_len, vec_capacity};
 ghost use Rattle.std.specs.Option.{option_copied};
 ghost use Rattle.au_base.specs.Limits.{INSTANCE_SESSIONS};
-ghost use Rattle.au_step.specs.Abandoning.{sessions_without};
-ghost use Rattle.au_step.specs.Step.{counted, session_after, session_of, with_more};
-ghost use Rattle.au_step.specs.Sessions.{HaveOneEach};
-ghost use Rattle.au_engine.specs.Prepared.{drawn_after, sessions_after};
-ghost use Rattle.au_engine.specs.Sessions.{forgotten, is_of, with_counts};
+ghost use Rattle.au_step.specs.Step.{counted, counting, with_more};
+ghost use Rattle.au_engine.specs.Prepared.{drawn_after};
+ghost use Rattle.au_engine.specs.Sessions.{AreApart, counted_by, forgotten, found_in, is_of, with_counts};
 
 use crate::outcome::SessionChange;
 use au_base::limits::SESSION_COUNT;
@@ -17,7 +15,7 @@ use std::alloc::Global;
 
 /// The client's session.
 pub(crate) fn session_of(sessions: &[Session], client: ClientNo) -> Option<&Session>
-    ensures { option_copied result ≡ session_of sessions.now client }
+    ensures { option_copied result ≡ found_in sessions.now client }
 {
     sessions.iter().find(|session| session.client.0 == client.0)
 }
@@ -59,40 +57,18 @@ pub(crate) fn drawn_after(change: &SessionChange, drawn: u32) -> u32
     }
 }
 
-/// Makes the change. It takes no memory.
-pub(crate) fn settle(sessions: &mut Vec<Session>, change: SessionChange)
-    requires room { vec_len sessions.old < vec_capacity sessions.old }
-    requires apart { HaveOneEach sessions.old.items }
-    ensures items { sessions.new.items ≡ sessions_after change sessions.old.items }
-    ensures len { vec_len sessions.new ≤ vec_len sessions.old + 1 }
-    ensures capacity { vec_capacity sessions.new ≡ vec_capacity sessions.old }
-{
-    match change {
-        SessionChange::Nothing => {}
-        SessionChange::Begins(session) => sessions.push_reserved(session),
-        SessionChange::Counts {
-            client,
-            statements,
-            entries,
-            results,
-            forgets,
-        } => count(sessions, client, statements, entries, results, forgets),
-        SessionChange::Ends(client) => end_session(sessions, client),
-    }
-}
-
 /// Ends the client's session. It takes no memory.
 pub(crate) fn end_session(sessions: &mut Vec<Session>, client: ClientNo)
-    ensures items { sessions.new.items ≡ sessions_without client sessions.old.items }
+    ensures items { sessions.new.items ≡ filter (λ session. not (session.client.0 == client.0)) sessions.old.items }
     ensures len { vec_len sessions.new ≤ vec_len sessions.old }
     ensures capacity { vec_capacity sessions.new ≡ vec_capacity sessions.old }
 {
     sessions.retain(|session| session.client.0 != client.0);
 }
 
-// Gives the client's session these counts and results. All others forget the results of the
-// policies.
-fn count(
+/// Gives the client's session these counts and results. All others forget the results of the
+/// policies. It takes no memory.
+pub(crate) fn count(
     sessions: &mut Vec<Session>,
     client: ClientNo,
     statements: u32,
@@ -100,8 +76,8 @@ fn count(
     results: List<(Name, bool)>,
     forgets: List<Name>,
 )
-    requires apart { HaveOneEach sessions.old.items }
-    ensures items { sessions.new.items ≡ map (session_after client statements entries results forgets) sessions.old.items }
+    requires apart { AreApart sessions.old.items }
+    ensures items { sessions.new.items ≡ map (counted_by client statements entries results forgets) sessions.old.items }
     ensures len { vec_len sessions.new ≡ vec_len sessions.old }
     ensures capacity { vec_capacity sessions.new ≡ vec_capacity sessions.old }
 {
@@ -134,7 +110,7 @@ fn set_counts(
     entries: u32,
     results: List<(Name, bool)>,
 )
-    requires apart { HaveOneEach sessions.old.items }
+    requires apart { AreApart sessions.old.items }
     ensures items { sessions.new.items ≡ map (with_counts client statements entries results) sessions.old.items }
     ensures len { vec_len sessions.new ≡ vec_len sessions.old }
     ensures capacity { vec_capacity sessions.new ≡ vec_capacity sessions.old }
@@ -154,7 +130,7 @@ fn place_of(sessions: &[Session], client: ClientNo) -> Option<usize>
 }
 
 fn set_counts_of(session: &mut Session, statements: u32, entries: u32, results: List<(Name, bool)>)
-    ensures { session.new ≡ record session.old { statements = statements; entries = entries; results = results } }
+    ensures { session.new ≡ counting statements entries results session.old }
 {
     session.statements = statements;
     session.entries = entries;

@@ -1,24 +1,26 @@
 //! Steps of statements.
-ghost use Rattle.std.specs.Prelude.{◌≡◌, Ok, IfOk, false, true};
+ghost use Rattle.std.specs.Prelude.{◌≡◌, Ok, IfOk, false};
 ghost use Rattle.au_audit.specs.Statements.{IsPlaced};
-ghost use Rattle.au_ruling.specs.Kinds.{is_built, is_query};
+ghost use Rattle.au_ruling.specs.Kinds.{is_on_rows};
 ghost use Rattle.au_ruling.specs.Rulings.{Comes};
 ghost use Rattle.au_step.specs.Lawful.{IsLawfulSession};
 ghost use Rattle.au_step.specs.Planning.{IsPlanOfRead, IsPlanOfSql};
-ghost use Rattle.au_step.specs.Reading.{IsReadAs, ReadsBuilt};
-ghost use Rattle.au_step.specs.Step.{CodeStep, SessionStep, SqlStep, StatementStep, after_statement, busy_in, ground_of, statement_left, statement_logged};
+ghost use Rattle.au_step.specs.Reading.{IsReadAs, ReadsSoundly};
+ghost use Rattle.au_step.specs.Replaying.{EndsWell};
+ghost use Rattle.au_step.specs.State.{IsStampOf};
+ghost use Rattle.au_step.specs.Step.{CodeStep, SessionStep, SqlStep, StatementStep, decided_in, ground_of, statement_left};
+ghost use Rattle.au_engine.specs.Inside.{CanBeMade, IsOwn};
 ghost use Rattle.au_engine.specs.Prepared.{logged_by, made_of};
 ghost use Rattle.sql_parse.specs.Statements.{Reads};
 
 use crate::Engine;
+use crate::concluding::Decided;
 use crate::outcome::{Outcome, SessionChange};
 use crate::places::{statement_facts, statement_place};
 use crate::replies::code_reply;
-use crate::sessions::{counted, entries_after, users_of};
 use au_base::{ClientNo, Code, List, Memory, Stamp, Text};
-use au_entries::{Busy, KeptResults};
 use au_recording::Left;
-use au_ruling::{Ruling, RulingCase, is_built, rule, statements_are_sound};
+use au_ruling::{Ruling, RulingCase, rule, statements_are_sound};
 use au_step::{Session, statements_stand_in_their_texts};
 use au_world::RowPlan;
 use sql_ast::Statement;
@@ -36,28 +38,34 @@ impl Engine {
         stamp: Stamp,
     ) -> Result<Outcome, Memory>
         requires read { IsReadAs text.now read.now }
+        requires stamp { IsStampOf self.now.state stamp.0 }
+        requires seated { EndsWell self.now.state.kept }
         requires planned { IsPlanOfSql self.now.state client stamp.0 read.now plan }
-        ensures { IfOk result (λ outcome. SqlStep self.now.state client text.now stamp.0 outcome.reply (logged_by outcome) (made_of outcome self.now.state)) }
+        ensures step { IfOk result (λ outcome. SqlStep self.now.state client text.now stamp.0 outcome.reply (logged_by outcome) (made_of outcome self.now.state)) }
+        ensures made { IfOk result (CanBeMade self.now.state) }
     {
         match self.own_session(client) {
             None => Ok(self.unchanged(alloc, Code::NOT_LOGGED_ON)),
-            Some(session) => self.text(alloc, session, text, read, plan, stamp),
+            Some(session) => {
+                let outcome = self.text(alloc, session, text, read, plan, stamp)?;
+                Ok(outcome)
+            }
         }
     }
 
     /// A step that answers with the code, and changes nothing.
     pub(crate) fn unchanged(&self, alloc: Global, code: Code) -> Outcome
-        ensures { CodeStep self.now.state code result.reply (logged_by result) (made_of result self.now.state) }
+        ensures step { CodeStep self.now.state code result.reply (logged_by result) (made_of result self.now.state) }
+        ensures made { CanBeMade self.now.state result }
     {
-        Outcome {
-            reply: code_reply(alloc, code),
-            sessions: SessionChange::Nothing,
-            results: None,
-            changes: List::new(alloc),
-            records: List::new(alloc),
-            last: self.keeping.last(),
-            framed: None,
-        }
+        Outcome::of_records(
+            alloc,
+            code_reply(alloc, code),
+            SessionChange::Nothing,
+            None,
+            List::new(alloc),
+            self.keeping.last(),
+        )
     }
 
     // A text of a client that has this session.
@@ -70,14 +78,20 @@ impl Engine {
         plan: Option<RowPlan>,
         stamp: Stamp,
     ) -> Result<Outcome, Memory>
-        requires own { IsLawfulSession self.now.state.kept session.now }
+        requires own { IsOwn self.now.state session.now }
         requires read { IsReadAs text.now read.now }
-        requires planned { IsPlanOfRead (ground_of self.now.state session.now stamp.0) read.now plan }
-        ensures { IfOk result (λ outcome. SessionStep self.now.state session.now text.now stamp.0 outcome.reply (logged_by outcome) (made_of outcome self.now.state)) }
+        requires stamp { IsStampOf self.now.state stamp.0 }
+        requires seated { EndsWell self.now.state.kept }
+        requires planned { IsPlanOfRead self.now.state session.now stamp.0 read.now plan }
+        ensures step { IfOk result (λ outcome. SessionStep self.now.state session.now text.now stamp.0 outcome.reply (logged_by outcome) (made_of outcome self.now.state)) }
+        ensures made { IfOk result (CanBeMade self.now.state) }
     {
         match read {
             Err(code) => Ok(self.unchanged(alloc, *code)),
-            Ok(statement) => self.read(alloc, session, text, statement, plan, stamp),
+            Ok(statement) => {
+                let outcome = self.read(alloc, session, text, statement, plan, stamp)?;
+                Ok(outcome)
+            }
         }
     }
 
@@ -91,20 +105,20 @@ impl Engine {
         plan: Option<RowPlan>,
         stamp: Stamp,
     ) -> Result<Outcome, Memory>
-        requires own { IsLawfulSession self.now.state.kept session.now }
+        requires own { IsOwn self.now.state session.now }
         requires read { Reads text.now statement.now }
-        requires planned { IsPlanOfRead (ground_of self.now.state session.now stamp.0) (Ok statement.now) plan }
-        ensures { IfOk result (λ outcome. SessionStep self.now.state session.now text.now stamp.0 outcome.reply (logged_by outcome) (made_of outcome self.now.state)) }
+        requires stamp { IsStampOf self.now.state stamp.0 }
+        requires seated { EndsWell self.now.state.kept }
+        requires planned { IsPlanOfRead self.now.state session.now stamp.0 (Ok statement.now) plan }
+        ensures step { IfOk result (λ outcome. SessionStep self.now.state session.now text.now stamp.0 outcome.reply (logged_by outcome) (made_of outcome self.now.state)) }
+        ensures made { IfOk result (CanBeMade self.now.state) }
     {
-        if !is_built(statement) {
-            return Ok(self.unchanged(alloc, Code::NOT_READ));
-        }
-        built_texts_are_read(text, statement);
+        reads_soundly(text, statement);
         let outcome = self.statement(alloc, session, text, statement, plan, stamp)?;
         Ok(outcome)
     }
 
-    // A text that is this built statement.
+    // A text that is this statement.
     fn statement(
         &self,
         alloc: Global,
@@ -114,14 +128,24 @@ impl Engine {
         plan: Option<RowPlan>,
         stamp: Stamp,
     ) -> Result<Outcome, Memory>
-        requires own { IsLawfulSession self.now.state.kept session.now }
-        requires read { ReadsBuilt text.now statement.now }
-        requires planned { IsPlanOfRead (ground_of self.now.state session.now stamp.0) (Ok statement.now) plan }
-        ensures { IfOk result (λ outcome. StatementStep self.now.state session.now statement.now text.now stamp.0 outcome.reply (logged_by outcome) (made_of outcome self.now.state)) }
+        requires own { IsOwn self.now.state session.now }
+        requires read { ReadsSoundly text.now statement.now }
+        requires stamp { IsStampOf self.now.state stamp.0 }
+        requires seated { EndsWell self.now.state.kept }
+        requires planned { IsPlanOfRead self.now.state session.now stamp.0 (Ok statement.now) plan }
+        ensures step { IfOk result (λ outcome. StatementStep self.now.state session.now statement.now text.now stamp.0 outcome.reply (logged_by outcome) (made_of outcome self.now.state)) }
+        ensures made { IfOk result (CanBeMade self.now.state) }
     {
+        let finals = self.finals(alloc, session, statement)?;
         let ruling = self.ruling(alloc, session, statement, plan, stamp)?;
         let left = self.statement_left(alloc, session, text, statement, &ruling, stamp)?;
-        Ok(self.concluded(session, ruling, left, stamp))
+        let decided = Decided {
+            finals,
+            ruling,
+            left,
+        };
+        let outcome = self.concluded(alloc, session, statement, decided, stamp)?;
+        Ok(outcome)
     }
 
     // What the statement comes to: that of its plan, where it has one.
@@ -133,17 +157,19 @@ impl Engine {
         plan: Option<RowPlan>,
         stamp: Stamp,
     ) -> Result<Ruling, Memory>
-        requires built { is_built statement.now ≡ true }
-        requires planned { IsPlanOfRead (ground_of self.now.state session.now stamp.0) (Ok statement.now) plan }
-        ensures { IfOk result (Comes (ground_of self.now.state session.now stamp.0) statement.now) }
+        requires planned { IsPlanOfRead self.now.state session.now stamp.0 (Ok statement.now) plan }
+        ensures { IfOk result (Comes (ground_of (decided_in self.now.state session.now.client statement.now) session.now statement.now stamp.0) statement.now) }
     {
         match plan {
             Some(plan) => Ok(Ruling::of_plan(alloc, plan)),
-            None => self.ruled(alloc, session, statement, stamp),
+            None => {
+                let ruling = self.ruled(alloc, session, statement, stamp)?;
+                Ok(ruling)
+            }
         }
     }
 
-    // What a statement comes to that is no query.
+    // What a statement comes to that is on no rows.
     fn ruled(
         &self,
         alloc: Global,
@@ -151,12 +177,11 @@ impl Engine {
         statement: &Statement,
         stamp: Stamp,
     ) -> Result<Ruling, Memory>
-        requires built { is_built statement.now ≡ true }
-        requires other { is_query statement.now ≡ false }
-        ensures { IfOk result (Comes (ground_of self.now.state session.now stamp.0) statement.now) }
+        requires other { is_on_rows statement.now ≡ false }
+        ensures { IfOk result (Comes (ground_of (decided_in self.now.state session.now.client statement.now) session.now statement.now stamp.0) statement.now) }
     {
         self.holds_together();
-        let busy = self.busy(alloc)?;
+        let busy = self.busy(alloc, session, statement)?;
         let facts = self.facts_at(alloc, session, stamp)?;
         let case = RulingCase {
             catalog: self.keeping.catalog(),
@@ -169,17 +194,7 @@ impl Engine {
         Ok(ruling)
     }
 
-    // What sessions hold.
-    fn busy(&self, alloc: Global) -> Result<Busy, Memory>
-        ensures { IfOk result (λ busy. busy ≡ busy_in self.now.state) }
-    {
-        Ok(Busy {
-            connected: users_of(alloc, self.sessions.as_slice())?,
-            tables: List::new(alloc),
-        })
-    }
-
-    // What auditing leaves of a statement that came to this.
+    // What auditing leaves of a statement that came to this, in the state in which it is decided.
     fn statement_left(
         &self,
         alloc: Global,
@@ -191,7 +206,7 @@ impl Engine {
     ) -> Result<Left, Memory>
         requires own { IsLawfulSession self.now.state.kept session.now }
         requires placed { IsPlaced text.now statement.now }
-        ensures { IfOk result (λ left. left ≡ statement_left self.now.state session.now stamp.0 statement.now text.now ruling.now) }
+        ensures { IfOk result (λ left. left ≡ statement_left (decided_in self.now.state session.now.client statement.now) session.now stamp.0 statement.now text.now ruling.now) }
     {
         let facts = statement_facts(alloc, &session.user, statement, ruling)?;
         let place = statement_place(alloc, session, text, statement, stamp)?;
@@ -205,48 +220,12 @@ impl Engine {
         )?;
         Ok(left)
     }
-
-    // A statement of the session that came to this, of which auditing leaves this.
-    fn concluded(&self, session: &Session, ruling: Ruling, left: Left, stamp: Stamp) -> Outcome
-        ensures reply { result.reply ≡ ruling.reply }
-        ensures logged { logged_by result ≡ statement_logged ruling left }
-        ensures next { made_of result self.now.state ≡ after_statement self.now.state session.now stamp.0 ruling left }
-    {
-        let Ruling {
-            code: _,
-            used: _,
-            reply,
-            changes,
-            forgets,
-            fired: _,
-        } = ruling;
-        let Left { records, results } = left;
-        let KeptResults {
-            session: results,
-            instance,
-        } = results;
-        Outcome {
-            reply,
-            sessions: SessionChange::Counts {
-                client: session.client,
-                statements: counted(session.statements),
-                entries: entries_after(session.entries, records.len()),
-                results,
-                forgets,
-            },
-            results: Some(instance),
-            last: self.last_after(stamp, changes.as_slice(), records.as_slice()),
-            changes,
-            records,
-            framed: None,
-        }
-    }
 }
 
-/// A text that is a built statement is read as one whose names are names and whose password stands
-/// in the text. It does nothing, and states the law for its callers.
-pub fn built_texts_are_read(text: &Text, statement: &Statement)
-    ensures { Reads text.now statement.now → is_built statement.now ≡ true → ReadsBuilt text.now statement.now }
+/// A text that is a statement is read as one whose names are names and whose password stands in the
+/// text. It does nothing, and states the law for its callers.
+pub fn reads_soundly(text: &Text, statement: &Statement)
+    ensures { Reads text.now statement.now → ReadsSoundly text.now statement.now }
 {
     let _bytes = text.as_bytes();
     statements_stand_in_their_texts();

@@ -1,15 +1,33 @@
 //! The last stamp.
-ghost use Rattle.std.specs.Prelude.{◌≡◌};
-ghost use Rattle.au_step.specs.Step.{last_after};
+ghost use Rattle.std.specs.Prelude.{◌≡◌, if◌then◌else◌};
+ghost use Rattle.au_step.specs.Step.{is_nothing};
 
-use au_base::Stamp;
+use au_base::{List, Stamp};
 use au_entries::{Change, Record};
 
-/// The last stamp after an event with these changes and records: the event's, where there are some.
-pub(crate) fn last_after(last: Stamp, stamp: Stamp, changes: &[Change], records: &[Record]) -> Stamp
-    ensures { result ≡ last_after last stamp.0 changes.now records.now }
+/// Nothing is changed, purged or recorded.
+pub(crate) fn is_nothing(
+    changes: &List<Change>,
+    purge: &Option<Option<Stamp>>,
+    records: &List<Record>,
+) -> bool
+    ensures { result ≡ is_nothing changes.now purge.now records.now }
 {
-    if changes.is_empty() && records.is_empty() {
+    changes.is_empty() && purge.is_none() && records.is_empty()
+}
+
+/// The last stamp after an event that changes, purges and records this: the event's, where there is
+/// some of it.
+pub(crate) fn last_after(
+    last: Stamp,
+    stamp: Stamp,
+    changes: &List<Change>,
+    purge: &Option<Option<Stamp>>,
+    records: &List<Record>,
+) -> Stamp
+    ensures { result ≡ (if is_nothing changes.now purge.now records.now then last else stamp) }
+{
+    if is_nothing(changes, purge, records) {
         last
     } else {
         stamp

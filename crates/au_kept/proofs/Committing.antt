@@ -45,7 +45,7 @@ Held contents = HoldsTogether contents.kept (desk_of contents)
 abbrev Become : Contents → ClientNo → List Final → Type 0
 Become contents client finals = AreFinals (desk_of contents).rows (open_of (desk_of contents) client) finals
 
-rows_rise : CommitLaws → (contents : Contents) → Held contents → IsTrue (are_in_order (desk_of contents).rows)
+pub rows_rise : CommitLaws → (contents : Contents) → Held contents → IsTrue (are_in_order (desk_of contents).rows)
 rows_rise laws contents h =
     sym (laws.laid.listed (desk_of contents).rows)
     ∙ ap (λ (rows : List KeptRow). is_in_order fields_before (map (λ (row : KeptRow). place_of row.0 row.1) rows)) (laws.triples.forth contents.kept.rows)

@@ -31,5 +31,6 @@ mod Sounds
 mod Spelled
 mod Steps
 mod Tabled
+mod Together
 mod Worlds
 mod Written

@@ -165,7 +165,7 @@ number_stays : (commits : Option ClientNo) (contents : Contents) → (committed_
 number_stays None contents = refl
 number_stays (Some client) contents = refl
 
-rows_stand : Triples → (commits : Option ClientNo) (contents : Contents) → (committed_for commits contents).rows ≡ map triple_of (rows_for commits (desk_of contents))
+pub rows_stand : Triples → (commits : Option ClientNo) (contents : Contents) → (committed_for commits contents).rows ≡ map triple_of (rows_for commits (desk_of contents))
 rows_stand triples None contents = sym (triples.forth contents.kept.rows)
 rows_stand triples (Some client) contents = refl
 

@@ -31,7 +31,7 @@ client_is : (a b : ClientNo) → (a.0 == b.0) ≡ true → b ≡ a
 client_is a b is = let e : b.0 ≡ a.0 = grind (arith, nat_tests) in ap (λ (n : ℕ). let c : ClientNo = record { 0 = n } in c) e
 
 -- a client is the one that commits, or isn't
-which : (commits : Option ClientNo) (client : ClientNo) → (commits ≡ Some client) ⊎ (commits ≢ Some client)
+pub which : (commits : Option ClientNo) (client : ClientNo) → (commits ≡ Some client) ⊎ (commits ≢ Some client)
 which None client = inr (λ e. let no : None ≡ Some client = e in cc)
 which (Some committed) client = which_at (client.0 == committed.0) refl
   where

@@ -34,7 +34,7 @@ use Rattle.au_txn.specs.Transactions.{IsNumber, is_of_row, is_of_table, laid_ove
 
 -- ---- no changes
 
-none_each : (tables : List Table) (changes : List RowChange) → changes ≡ [] → AllByRecursion (IsSoundChange tables) changes
+pub none_each : (tables : List Table) (changes : List RowChange) → changes ≡ [] → AllByRecursion (IsSoundChange tables) changes
 none_each tables changes none = subst (AllByRecursion (IsSoundChange tables)) (sym none) tt
 
 none_short : (changes : List RowChange) → changes ≡ [] → length changes ≤ TRANSACTION_CHANGES

@@ -144,7 +144,7 @@ left_free : (commits : Option ClientNo) (desk : Desk) (table : TableName) → ((
 left_free None desk table free client = free client (λ e. let no : None ≡ Some client = e in cc)
 left_free (Some committed) desk table free client = left_at desk table committed client (client.0 == committed.0) refl (free client)
 
-not_false : (b : Bool) → not b ≡ true → b ≡ false
+pub not_false : (b : Bool) → not b ≡ true → b ≡ false
 not_false true is = absurd (let e : false ≡ true = is in cc)
 not_false false is = refl
 

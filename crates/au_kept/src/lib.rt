@@ -22,9 +22,11 @@ mod settling;
 mod staged;
 mod staging;
 mod tabling;
+mod transactions;
 
 pub use commits::{commits_can_settle, numbers_stay_few, worlds_are_sound};
 pub use keeping::Keeping;
 pub use laws::{frames_hold, images_lead_back, spellings_are_short};
 pub use quick::is_of_rows;
 pub use staged::{Staged, TableEdit};
+pub use transactions::transactions_hold;

@@ -5,7 +5,7 @@ use Rattle.au_io.specs.Disk.{Meaning, Passes}
 use Rattle.au_io.specs.Moments.{LeavesSince, both_calls, weaker_since}
 use Rattle.au_io.specs.Time.{Reads}
 use Rattle.au_store.specs.History.{Reached, reached_of}
-use Rattle.au_store.specs.Starting.{IsOpened, IsSeated, NoneIsBare, OpenLeaves}
+use Rattle.au_store.specs.Starting.{IsOpened, IsSeated, IsStarted, NoneIsBare, OpenLeaves}
 use Rattle.au_store.specs.Stored.{Stored}
 use Rattle.au_main.specs.declared.status.Status.{Status}
 use Rattle.au_main.specs.declared.status.Status.TheVariants.{Done, Usage, ReadFault, WriteFault, DiskFault, Unformatted, Formatted, Damaged, BadLine, TooLong, LobbyFault, Memory, Worn}
@@ -41,6 +41,7 @@ moments_of reading o answers old mid new before after opens runs =
     (weaker_since (RecoversAlong o answers) (RunLeaves old reading o answers) mid new (λ c along. inr along) runs)
 
 pub has_run : {D C : Type 0} (means : Means D C) (status : Status) (left now : Option (List ℕ)) (disk last : D) (clock clocked : C) (g h : Option (List ℕ)) (o m : Stored D C)
+    → IsStarted o.reading o.state
     → (means.told → IsOpened (means.meaning disk).reads o.reading o.state)
     → (means.told → IsSeated (means.meaning disk).reads o.reading o.seat)
     → Reads (means.ticking clock) (means.ticking o.clock) o.reading
@@ -50,12 +51,13 @@ pub has_run : {D C : Type 0} (means : Means D C) (status : Status) (left now : O
     → (answers : List Answer) × RanTo means status left now o m answers g h
     → last ≡ m.disk → clocked ≡ m.clock
     → HasRun means status left now disk last clock clocked g h
-has_run means status left now disk last clock clocked g h o m begins seated read well time opens ran disk_is clock_is =
+has_run means status left now disk last clock clocked g h o m starts begins seated read well time opens ran disk_is clock_is =
     let on_disk = on_disk_of means left now o m ran.0 g h status ran.1 in
     record {
       opened = o;
       closed = m;
       answers = ran.0;
+      starts = starts;
       begins = begins;
       seated = seated;
       read = read;

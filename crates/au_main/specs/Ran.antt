@@ -13,7 +13,7 @@ use Rattle.au_script.specs.Lines.{Says, SaysNothing}
 use Rattle.au_store.specs.declared.open_fault.OpenFault.{OpenFault}
 use Rattle.au_store.specs.declared.open_fault.OpenFault.TheVariants as fault
 use Rattle.au_store.specs.History.{Reached, reached_of}
-use Rattle.au_store.specs.Starting.{IsOpened, IsSeated, NoneIsBare, OpenCause, OpenLeaves, OpenSays, OpensInVain}
+use Rattle.au_store.specs.Starting.{IsOpened, IsSeated, IsStarted, NoneIsBare, OpenCause, OpenLeaves, OpenSays, OpensInVain}
 use Rattle.au_store.specs.Stored.{Stored}
 use Rattle.au_main.specs.declared.status.Status.{Status}
 use Rattle.au_main.specs.declared.status.Status.TheVariants.{Done, Usage, ReadFault, WriteFault, DiskFault, Unformatted, Formatted, Damaged, BadLine, TooLong, LobbyFault, Memory, Worn}
@@ -147,6 +147,7 @@ pub record HasRun {D C : Type 0} (means : Means D C) (status : Status) (left now
   pub opened : Stored D C
   pub closed : Stored D C
   pub answers : List Answer
+  pub starts : IsStarted opened.reading opened.state
   pub begins : means.told → IsOpened (means.meaning disk).reads opened.reading opened.state
   pub seated : means.told → IsSeated (means.meaning disk).reads opened.reading opened.seat
   pub read : Reads (means.ticking clock) (means.ticking opened.clock) opened.reading

@@ -1,5 +1,5 @@
 //! One line of a script.
-ghost use Rattle.std.specs.Prelude.{◌≡◌, ◌<◌, length, OnOk, IfOk, IsErrOf};
+ghost use Rattle.std.specs.Prelude.{◌≡◌, ◌≢◌, ◌<◌, length, OnOk, IfOk, IsErrOf};
 ghost use Rattle.au_io.specs.Faults.{HasRisen};
 ghost use Rattle.au_script.specs.Lines.{SaysNothing};
 ghost use Rattle.au_main.specs.Answers.{line_of};
@@ -52,6 +52,7 @@ fn answer<D: Disk, C: Clock, W: Sink>(
     client: ClientNo,
     ask: &Ask,
 ) -> Result<(), Stop>
+    requires client { client.0 ≢ 0 }
     ensures ok { OnOk result (Told (means_of D.told D.meaning D.faults C.ticking) store.old store.new client.0 ask.now (W.given sink.old) (W.given sink.new)) }
     ensures write_fault { IsErrOf result Stop.WriteFault → ToldInPart (means_of D.told D.meaning D.faults C.ticking) store.old store.new client.0 ask.now (W.given sink.old) (W.given sink.new) }
     ensures memory { IsErrOf result Stop.Memory → ToldInPart (means_of D.told D.meaning D.faults C.ticking) store.old store.new client.0 ask.now (W.given sink.old) (W.given sink.new) }
@@ -72,6 +73,7 @@ fn step<D: Disk, C: Clock>(
     client: ClientNo,
     ask: &Ask,
 ) -> Said
+    requires client { client.0 ≢ 0 }
     ensures { AnswersBy (means_of D.told D.meaning D.faults C.ticking) store.old store.new client.0 ask.now result }
 {
     counted_step::<D, C, Brand>(alloc, store, client, ask, Blank::new(1))
@@ -84,6 +86,7 @@ fn counted_step<D: Disk, C: Clock, L: Ledger>(
     ask: &Ask,
     blank: Blank,
 ) -> Said
+    requires client { client.0 ≢ 0 }
     requires name { blank.name ≡ L.name }
     requires parts { blank.parts ≡ L.parts }
     requires some { 0 < L.parts }

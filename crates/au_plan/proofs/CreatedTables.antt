@@ -1,5 +1,5 @@
--- A fine-grained policy of what is lawful stands on a created table.
-use Rattle.std.proofs.Common.{◌≡◌, ◌≢◌, Bool, true, false, refl, subst}
+-- A fine-grained policy of what is lawful stands on a created table, and the columns of a table have names that differ.
+use Rattle.std.proofs.Common.{◌≡◌, ◌≢◌, Bool, true, false, List, [], ◌∷◌, refl, subst}
 use Rattle.std.specs.Prelude.{◌↔◌, IsTrue, if◌then◌else◌}
 use Rattle.std.specs.List.{AllByRecursion}
 use Rattle.au_base.specs.declared.table.TableName.{TableName}
@@ -12,6 +12,7 @@ use Rattle.au_entries.specs.Lawful.{IsFounded, IsTableFounded}
 use Rattle.au_entries.specs.Replaying.{has_table}
 use Rattle.au_world.specs.declared.built_in.TableKind.TheVariants.{Created, Dual, Trail}
 use Rattle.au_world.specs.BuiltInTables.{kind_of}
+use Rattle.au_plan.specs.Planning.{HasColumnsApart}
 use Rattle.au_plan.proofs.Members.{all_of, any_from}
 use Rattle.au_plan.proofs.Elements.{each_at}
 
@@ -39,3 +40,7 @@ module _ (same : (a b : TableName) → same_table a b ≡ true ↔ (a ≡ b)) wh
   all_created kept founded =
       all_of (λ (policy : FgaPolicy). kind_of policy.name.table ≡ Created) kept.fga (λ policy has.
       kept_created kept policy.name.table founded.tables (each_at (λ (p : FgaPolicy). IsTrue (has_table kept p.name.table)) kept.fga policy founded.fga has))
+
+pub all_apart : (kept : Kept) (tables : List Table) → AllByRecursion (IsTableFounded kept) tables → AllByRecursion HasColumnsApart tables
+all_apart kept [] founded = tt
+all_apart kept (table ∷ tables) founded = (founded.0.3.named, all_apart kept tables founded.1)

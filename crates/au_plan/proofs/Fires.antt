@@ -20,7 +20,7 @@ use Rattle.au_world.specs.BuiltInTables.{kind_of}
 use Rattle.au_world.specs.declared.world.World.{World}
 use Rattle.au_world.specs.Plans.{Truths, cells_touched, is_one_of}
 use Rattle.au_world.specs.Sights.{rows_by, sight_of}
-use Rattle.au_plan.specs.Inside.{asked_entry, asked_rows, contents_of_rows, facts_of, is_watched, watches}
+use Rattle.au_plan.specs.Inside.{asked_entry, asked_rows, contents_of_rows, query_facts, is_watched, watches}
 use Rattle.au_plan.proofs.Members.{here, there}
 use Rattle.au_plan.proofs.Elements.{any_with, each_at}
 use Rattle.au_plan.proofs.Rows.{Viewed, rows_same}
@@ -63,13 +63,13 @@ all_three false b c x y z = x
 
 module _ (world : World) (client : ClientNo) (one : (a b : TableName) → same_table a b ≡ true ↔ (a ≡ b)) (viewed : Viewed world.desk.now.rows (open_of world.desk.now client)) where
   -- of a created table that a policy watches, the rows that are asked for pass the tests that those touched pass
-  entry_same : (test : List Cell → Bool) (table : TableName) → kind_of table ≡ Created → is_watched world.catalog.now.fga table ≡ true → (entry : TableName × List RowNo) (b : Bool) → same_table entry.0 table ≡ b
+  entry_same : (test : List Cell → Bool) (table : TableName) → kind_of table ≡ Created → is_watched world.catalog.now.fga action.Select table ≡ true → (entry : TableName × List RowNo) (b : Bool) → same_table entry.0 table ≡ b
       → list_any test (cond b (asked_rows world.catalog.now.fga world.desk.now client entry.0 entry.1) []) ≡ list_any test (cond b (cells_touched (sight_of world client) entry).1 [])
   entry_same test table created watched entry false is = refl
   entry_same test table created watched entry true is =
       let same = (one entry.0 table).0 is in
       let kind : kind_of entry.0 ≡ Created = ap kind_of same ∙ created in
-      let asked : is_watched world.catalog.now.fga entry.0 ≡ true = ap (is_watched world.catalog.now.fga) same ∙ watched in
+      let asked : is_watched world.catalog.now.fga action.Select entry.0 ≡ true = ap (is_watched world.catalog.now.fga action.Select) same ∙ watched in
       ap (λ (b : Bool). list_any test (cond b (contents_of_rows world.desk.now client entry.0 entry.1) [])) asked
       ∙ rows_same world.desk.now.rows (open_of world.desk.now client) viewed entry.0 entry.1 test
       ∙ sym (ap (λ k. list_any test (map (λ (line : Line). line.1) (filter (is_one_of entry.1) (rows_by (sight_of world client) entry.0 k)))) kind)
@@ -77,8 +77,8 @@ module _ (world : World) (client : ClientNo) (one : (a b : TableName) → same_t
   -- a policy fires by the ones where it does by the others
   fires_same : (truth : Truths) (touched : List (TableName × List RowNo)) (named : List (TableName × List (List ℕ))) (policy : FgaPolicy)
       → kind_of policy.name.table ≡ Created → Contains world.catalog.now.fga policy
-      → fires truth DONE (facts_of (map (asked_entry world.catalog.now.fga world.desk.now client) touched) named) policy
-      ≡ fires truth DONE (facts_of (map (cells_touched (sight_of world client)) touched) named) policy
+      → fires truth DONE (query_facts (map (asked_entry world.catalog.now.fga world.desk.now client) touched) named) policy
+      ≡ fires truth DONE (query_facts (map (cells_touched (sight_of world client)) touched) named) policy
   fires_same truth touched named policy created has =
       let name = policy.name.table in
       let fga = world.catalog.now.fga in
@@ -87,16 +87,16 @@ module _ (world : World) (client : ClientNo) (one : (a b : TableName) → same_t
       (list_any test (of_table name (map (asked_entry fga world.desk.now client) touched)))
       (list_any test (of_table name (map (cells_touched (sight_of world client)) touched)))
       (λ enabled select.
-      let watched = any_with (watches name) fga policy has (all_three policy.enabled (names_type policy.types action.Select) (same_table name name) enabled select ((one name name).1 refl)) in
+      let watched = any_with (watches action.Select name) fga policy has (all_three policy.enabled (names_type policy.types action.Select) (same_table name name) enabled select ((one name name).1 refl)) in
       any_of_table test name (asked_entry fga world.desk.now client) (cells_touched (sight_of world client))
       (λ entry. entry_same test name created watched entry (same_table entry.0 name) refl) touched)
 
   pub fired_same : (truth : Truths) (touched : List (TableName × List RowNo)) (named : List (TableName × List (List ℕ)))
       → AllByRecursion (λ (policy : FgaPolicy). kind_of policy.name.table ≡ Created) world.catalog.now.fga
-      → fired truth DONE (facts_of (map (asked_entry world.catalog.now.fga world.desk.now client) touched) named) world.catalog.now.fga
-      ≡ fired truth DONE (facts_of (map (cells_touched (sight_of world client)) touched) named) world.catalog.now.fga
+      → fired truth DONE (query_facts (map (asked_entry world.catalog.now.fga world.desk.now client) touched) named) world.catalog.now.fga
+      ≡ fired truth DONE (query_facts (map (cells_touched (sight_of world client)) touched) named) world.catalog.now.fga
   fired_same truth touched named created =
       ap (λ policies. in_record_order (map (λ (policy : FgaPolicy). policy.name) policies))
-      (filter_same (fires truth DONE (facts_of (map (asked_entry world.catalog.now.fga world.desk.now client) touched) named))
-      (fires truth DONE (facts_of (map (cells_touched (sight_of world client)) touched) named)) world.catalog.now.fga
+      (filter_same (fires truth DONE (query_facts (map (asked_entry world.catalog.now.fga world.desk.now client) touched) named))
+      (fires truth DONE (query_facts (map (cells_touched (sight_of world client)) touched) named)) world.catalog.now.fga
       (λ policy has. fires_same truth touched named policy (each_at (λ (policy : FgaPolicy). kind_of policy.name.table ≡ Created) world.catalog.now.fga policy created has) has))

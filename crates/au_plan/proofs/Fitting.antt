@@ -2,6 +2,7 @@
 use Rattle.std.proofs.Common.{◌≡◌, Bool, true, false, cond, inl, inr, List, [], ◌∷◌, map, refl, subst}
 use Rattle.std.specs.Prelude.{Option, Some, None}
 use Rattle.std.specs.List.{Contains, find}
+use Rattle.au_base.specs.declared.action.Action.TheVariants as action
 use Rattle.au_base.specs.declared.cell.Cell.{Cell}
 use Rattle.au_base.specs.declared.numbers.ClientNo.{ClientNo}
 use Rattle.au_base.specs.declared.numbers.RowNo.{RowNo}
@@ -39,7 +40,7 @@ module _ (tables : List Table) (desk : Contents) (client : ClientNo) (one : OneN
         subst (λ name. FitsTable tables name row.cells) made.2 of_table
   ]
 
-  content_fits : (name : TableName) (number : RowNo) (cells : List Cell) → content_of desk client name number ≡ Some cells → FitsTable tables name cells
+  pub content_fits : (name : TableName) (number : RowNo) (cells : List Cell) → content_of desk client name number ≡ Some cells → FitsTable tables name cells
   content_fits name number cells is =
       let row : Row = record { table = name; number = number; cells = cells } in
       row_fits row (answered row is)
@@ -53,7 +54,7 @@ module _ (tables : List Table) (desk : Contents) (client : ClientNo) (one : OneN
       (subst (λ t. Contains (x ∷ rest) t) e (here x rest), subst (λ (t : Table). t.name ≡ name) e (one x.name name same))
   found_at x rest name table false same more is = let later = more is in (there x rest table later.0, later.1)
 
-  found : (rest : List Table) (name : TableName) (table : Table) → find (λ (t : Table). same_table t.name name) rest ≡ Some table → Contains rest table × (table.name ≡ name)
+  pub found : (rest : List Table) (name : TableName) (table : Table) → find (λ (t : Table). same_table t.name name) rest ≡ Some table → Contains rest table × (table.name ≡ name)
   found [] name table is = absurd (let e : None ≡ Some table = is in cc)
   found (x ∷ rest) name table is = found_at x rest name table (same_table x.name name) refl (found rest name table) is
 
@@ -75,4 +76,4 @@ module _ (tables : List Table) (desk : Contents) (client : ClientNo) (one : OneN
 
   pub all_fit : (policies : List FgaPolicy) (touched : List (TableName × List RowNo)) → RowsFit tables (map (asked_entry policies desk client) touched)
   all_fit policies [] = tt
-  all_fit policies (entry ∷ touched) = (asked_fit entry.0 entry.1 (is_watched policies entry.0), all_fit policies touched)
+  all_fit policies (entry ∷ touched) = (asked_fit entry.0 entry.1 (is_watched policies action.Select entry.0), all_fit policies touched)

@@ -7,3 +7,11 @@ pub mod Fires
 pub mod Allowed
 pub mod Queries
 pub mod CreatedTables
+pub mod ValueKinds
+pub mod Given
+pub mod NewRows
+pub mod ChangedTable
+pub mod Unwatched
+pub mod Changes
+pub mod Statements
+pub mod OnePlan

@@ -11,12 +11,11 @@ use Rattle.au_query.specs.declared.selected.Selected.{Selected}
 use Rattle.au_query.specs.Answers.{refused}
 use Rattle.au_world.specs.declared.rights.TableRights.{TableRights}
 use Rattle.au_world.specs.declared.row_plan.RowPlan.{RowPlan}
-use Rattle.au_world.specs.Plans.{FollowsRights, IsAnswered, IsPlanOf, IsQueryPlan, Truths, row_facts}
+use Rattle.au_world.specs.Plans.{FollowsRights, IsAnswered, IsQueryPlan, Truths, row_facts}
 use Rattle.au_world.specs.Rights.{AreTableRights}
-use Rattle.au_world.specs.Selecting.{IsAnswer, IsQuery}
+use Rattle.au_world.specs.Selecting.{IsAnswer}
 use Rattle.au_world.specs.Sights.{Sight}
 use Rattle.sql_ast.specs.declared.statement.Statement.{Statement}
-use Rattle.sql_ast.specs.declared.statement.Statement.TheVariants as statements
 
 pub not_zero : (n : ℕ) → n ≢ 0 → (n == 0) ≡ false
 not_zero n other = grind (arith, nat_tests, other)
@@ -60,27 +59,3 @@ module _ (truth : Truths) (sight : Sight) (session : Session) (statement : State
     changes = changes;
     comes = subst (λ b. FollowsRights b truth sight session statement rights.code plan) (sym (is_zero rights.code.0 done)) answered;
   }
-
--- the plan of a query is a plan
-pub plan_of_query : (truth : Truths) (sight : Sight) (session : Session) (statement : Statement) (plan : RowPlan) → IsQuery statement
-    → IsQueryPlan truth sight session statement plan → IsPlanOf truth sight session statement plan
-plan_of_query truth sight session (statements.Select select) plan query is = is
-plan_of_query truth sight session (statements.Count count) plan query is = is
-plan_of_query truth sight session (statements.Insert x) plan query is = absurd query
-plan_of_query truth sight session (statements.Update x) plan query is = absurd query
-plan_of_query truth sight session (statements.Delete x) plan query is = absurd query
-plan_of_query truth sight session statements.Commit plan query is = absurd query
-plan_of_query truth sight session statements.Rollback plan query is = absurd query
-plan_of_query truth sight session (statements.CreateTable x) plan query is = absurd query
-plan_of_query truth sight session (statements.DropTable x) plan query is = absurd query
-plan_of_query truth sight session (statements.CreateUser x y) plan query is = absurd query
-plan_of_query truth sight session (statements.AlterUser x y) plan query is = absurd query
-plan_of_query truth sight session (statements.DropUser x) plan query is = absurd query
-plan_of_query truth sight session (statements.CreateRole x) plan query is = absurd query
-plan_of_query truth sight session (statements.DropRole x) plan query is = absurd query
-plan_of_query truth sight session (statements.Grant x) plan query is = absurd query
-plan_of_query truth sight session (statements.CreatePolicy x) plan query is = absurd query
-plan_of_query truth sight session (statements.DropPolicy x) plan query is = absurd query
-plan_of_query truth sight session (statements.Audit x) plan query is = absurd query
-plan_of_query truth sight session (statements.Noaudit x y) plan query is = absurd query
-plan_of_query truth sight session (statements.Call x) plan query is = absurd query

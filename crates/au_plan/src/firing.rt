@@ -3,7 +3,7 @@ ghost use Rattle.std.specs.Prelude.{◌≡◌, IfOk, map};
 ghost use Rattle.au_audit.specs.Firing as policies;
 ghost use Rattle.au_base.specs.Codes.{DONE};
 ghost use Rattle.au_fga.specs.Testing.{truth_over};
-ghost use Rattle.au_plan.specs.Inside.{facts_of};
+ghost use Rattle.au_plan.specs.Inside.{query_facts};
 ghost use Rattle.au_plan.specs.Planning.{CanBePlanned};
 ghost use Rattle.au_world.specs.Plans.{cells_touched};
 ghost use Rattle.au_world.specs.Sights.{sight_of};
@@ -31,7 +31,7 @@ pub fn fired(
 ) -> Result<Vec<FgaName>, Memory>
     requires sound { IsSoundWorld world.now }
     requires planned { CanBePlanned world.now }
-    ensures { IfOk result (λ names. names.items ≡ policies.fired (truth_over session.now world.now.catalog.now.tables) code (facts_of (map (cells_touched (sight_of world.now client)) touched.now) named) world.now.catalog.now.fga) }
+    ensures { IfOk result (λ names. names.items ≡ policies.fired (truth_over session.now world.now.catalog.now.tables) code (query_facts (map (cells_touched (sight_of world.now client)) touched.now) named) world.now.catalog.now.fga) }
 {
     if code.0 != 0 {
         refused_statements_fire_nothing();
@@ -51,7 +51,7 @@ fn fired_when_done(
 ) -> Result<Vec<FgaName>, Memory>
     requires sound { IsSoundWorld world.now }
     requires planned { CanBePlanned world.now }
-    ensures { IfOk result (λ names. names.items ≡ policies.fired (truth_over session.now world.now.catalog.now.tables) DONE (facts_of (map (cells_touched (sight_of world.now client)) touched.now) named) world.now.catalog.now.fga) }
+    ensures { IfOk result (λ names. names.items ≡ policies.fired (truth_over session.now world.now.catalog.now.tables) DONE (query_facts (map (cells_touched (sight_of world.now client)) touched.now) named) world.now.catalog.now.fga) }
 {
     same_is_equal();
     laid_rows_answer();

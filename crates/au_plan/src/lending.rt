@@ -1,14 +1,15 @@
-//! The touched rows that fine-grained policies ask for, lent by the desk.
-ghost use Rattle.std.specs.Prelude.{◌≡◌, IfOk, map};
+//! The touched rows that fine-grained policies ask for, lent by the desk or by changes.
+ghost use Rattle.std.specs.Prelude.{◌≡◌, IfOk, flat_map, map};
 ghost use Rattle.std.specs.Option.{option_copied};
 ghost use Rattle.au_fga.specs.Testing.{seen_rows};
 ghost use Rattle.au_plan.specs.Inside as spec;
 ghost use Rattle.au_plan.specs.Inside.{asked_entry, cells_lent, contents_of_rows};
+ghost use Rattle.au_plan.specs.Plans.{contents_in};
 
 use crate::watching::is_watched;
-use au_base::{Cell, ClientNo, List, Memory, RowNo, TableName};
+use au_base::{Action, Cell, ClientNo, List, Memory, RowNo, TableName};
 use au_entries::FgaPolicy;
-use au_txn::{Desk, laid_rows_answer, rows_stand_by_tables};
+use au_txn::{Desk, RowChange, laid_rows_answer, rows_stand_by_tables};
 use std::alloc::Global;
 
 /// Of each table, the rows with these numbers as the client sees them, where one of the policies is
@@ -54,7 +55,7 @@ fn asked_rows<'a>(
 ) -> Result<List<&'a [Cell]>, Memory>
     ensures { IfOk result (λ rows. cells_lent rows ≡ spec.asked_rows policies.now desk.now client table.now numbers.now) }
 {
-    if is_watched(policies, table) {
+    if is_watched(policies, Action::Select, table) {
         let rows = rows_at(alloc, desk, client, table, numbers)?;
         return Ok(rows);
     }
@@ -95,4 +96,21 @@ fn row_at<'a>(
         return None;
     }
     desk.seen(client, table, number)
+}
+
+/// The contents of rows before and after each of the changes, where there are such, in their order.
+/// None of their cells is copied.
+pub fn contents_of<'a>(alloc: Global, changes: &'a [RowChange]) -> Result<List<&'a [Cell]>, Memory>
+    ensures { IfOk result (λ rows. cells_lent rows ≡ flat_map contents_in changes.now) }
+{
+    let mut rows = List::new(alloc);
+    for change in changes {
+        if let Some(cells) = &change.old {
+            rows.push(cells.as_slice())?;
+        }
+        if let Some(cells) = &change.new {
+            rows.push(cells.as_slice())?;
+        }
+    }
+    Ok(rows)
 }

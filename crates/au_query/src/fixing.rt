@@ -78,9 +78,22 @@ pub fn fixed_cells_of_count(
 ) -> Result<Option<Vec<Cell>>, Memory>
     ensures { IfOk result (λ found. IfSome found (λ cells. AreFixed session.now (condition_of range.now count.now) 0 columns.now cells.items)) }
 {
+    fixed_by_where(alloc, &count.condition, range, session, columns)
+}
+
+/// The cells to which WHERE over one table fixes these columns of it, as for a SELECT.
+pub fn fixed_by_where(
+    alloc: Global,
+    condition: &Option<Expr>,
+    range: &(Name, List<Column>),
+    session: &SessionFacts,
+    columns: &[u32],
+) -> Result<Option<Vec<Cell>>, Memory>
+    ensures { IfOk result (λ found. IfSome found (λ cells. AreFixed session.now (map (placed (range.now ∷ [])) (option_to_list condition.now)) 0 columns.now cells.items)) }
+{
     let conditions = Conditions {
         joins: no_joins(),
-        last: &count.condition,
+        last: condition,
         ranges: slice::from_ref(range),
     };
     let found = all_fixed(alloc, &conditions, session, 0, columns)?;
@@ -117,13 +130,19 @@ pub fn count_never_overflows(
 ) -> Result<bool, Memory>
     ensures { IfOk result (λ never. IsTrue never → (session : Session) → NeverOverflows session (condition_of range.now count.now)) }
 {
+    where_never_overflows(alloc, &count.condition, range)
+}
+
+/// Whether WHERE over one table can't overflow over rows of sound cells, as for a SELECT.
+pub fn where_never_overflows(
+    alloc: Global,
+    condition: &Option<Expr>,
+    range: &(Name, List<Column>),
+) -> Result<bool, Memory>
+    ensures { IfOk result (λ never. IsTrue never → (session : Session) → NeverOverflows session (map (placed (range.now ∷ [])) (option_to_list condition.now))) }
+{
     no_overflow_where_none_can();
-    match with_where(
-        alloc,
-        Vec::new(alloc),
-        &count.condition,
-        slice::from_ref(range),
-    )? {
+    match with_where(alloc, Vec::new(alloc), condition, slice::from_ref(range))? {
         Ok(conditions) => Ok(!can_one_overflow(conditions.as_slice())),
         Err(_) => Ok(false),
     }

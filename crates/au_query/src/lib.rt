@@ -22,7 +22,10 @@ mod tables;
 mod touching;
 
 pub use counting::count;
-pub use fixing::{count_never_overflows, fixed_cells, fixed_cells_of_count, never_overflows};
+pub use fixing::{
+    count_never_overflows, fixed_by_where, fixed_cells, fixed_cells_of_count, never_overflows,
+    where_never_overflows,
+};
 pub use laws::replies_are_one;
 pub use query::select;
 pub use selected::Selected;

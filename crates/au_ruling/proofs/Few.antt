@@ -4,7 +4,7 @@ use Rattle.std.proofs.lemmas.List.{length-append}
 use Rattle.std.proofs.lemmas.Nat.{mul-le}
 use Rattle.std.specs.List.{AllByRecursion}
 use Rattle.au_admin.specs.Deciding as administration
-use Rattle.au_base.specs.Limits.{STATEMENT_BYTES}
+use Rattle.au_base.specs.Limits.{STATEMENT_BYTES, TRANSACTION_CHANGES}
 use Rattle.au_base.specs.declared.code.Code.{Code}
 use Rattle.au_base.specs.declared.grant.GrantStatement.{GrantStatement}
 use Rattle.au_base.specs.declared.grant.GrantStatement.TheVariants as S
@@ -22,7 +22,6 @@ use Rattle.au_entries.specs.declared.decision.Decision.{Decision}
 use Rattle.au_grants.specs.declared.change.GrantChange.{GrantChange}
 use Rattle.au_grants.specs.Changing.{applied_all}
 use Rattle.au_grants.specs.Rights.{Grants, Name}
-use Rattle.au_kept.specs.Staging.{IsOfRow}
 use Rattle.au_priv.specs.declared.decided.Decided.{Decided}
 use Rattle.au_priv.specs.declared.decided.Known.{Known}
 use Rattle.au_priv.specs.declared.pair.Way.{Way}
@@ -32,11 +31,11 @@ use Rattle.au_priv.specs.Pairs.{Pair, actions_of, object_change, object_pair, pa
 use Rattle.au_priv.specs.Walking.{is_effective, made, made_all}
 use Rattle.au_ruling.specs.Sound.{AreFew, AreFewGrants, IsFew}
 use Rattle.au_ruling.proofs.Lists.{all_joined, all_mapped, filter_fewer, mapped_long}
-use Rattle.au_ruling.proofs.Changed.{administered_so, defined_so}
+use Rattle.au_ruling.proofs.Changed.{TouchesRows, administered_so, defined_so}
 use Rattle.sql_ast.specs.declared.statement.Statement.{Statement}
 
-abbrev HasFew : {X : Type 0} → List X → Type 0
-HasFew changes = length changes < 2 ^ 32
+abbrev HasFew : List GrantChange → Type 0
+HasFew changes = length changes + TRANSACTION_CHANGES < 2 ^ 32
 
 -- ---- the pairs of GRANT and REVOKE
 
@@ -77,14 +76,14 @@ module _ {R : Type 0} (make : R → Name → Pair) where
         let most = mul-le (length rights) (length grantees) STATEMENT_BYTES STATEMENT_BYTES few.0 few.1 in
         under (length (made_all grants (pairs make rights grantees))) (length (pairs make rights grantees)) (length rights * length grantees) made_so many most
       where
-        under : (n list product : ℕ) → n ≤ 4 * list → list ≡ product → product ≤ STATEMENT_BYTES * STATEMENT_BYTES → n < 2 ^ 32
+        under : (n list product : ℕ) → n ≤ 4 * list → list ≡ product → product ≤ STATEMENT_BYTES * STATEMENT_BYTES → n + TRANSACTION_CHANGES < 2 ^ 32
         under n list product made_so many most = omega (arith, made_so, many, most)
 
     decided_few : (grants : Grants) (known : Known) (rights : List R) (grantees : List Name) (code : Code) (changes : List GrantChange) → AreFew rights grantees
         → DecidesPairs grants known grantees (pairs make rights grantees) code changes → HasFew changes
-    decided_few grants known rights grantees code changes few (inl refused) = subst (λ (c : List GrantChange). length c < 2 ^ 32) (sym refused.1) (omega arith)
-    decided_few grants known rights grantees code changes few (inr (inl refused)) = subst (λ (c : List GrantChange). length c < 2 ^ 32) (sym refused.2) (omega arith)
-    decided_few grants known rights grantees code changes few (inr (inr done)) = subst (λ (c : List GrantChange). length c < 2 ^ 32) (sym done.3) (made_pairs_few grants rights grantees few)
+    decided_few grants known rights grantees code changes few (inl refused) = subst HasFew (sym refused.1) (omega arith)
+    decided_few grants known rights grantees code changes few (inr (inl refused)) = subst HasFew (sym refused.2) (omega arith)
+    decided_few grants known rights grantees code changes few (inr (inr done)) = subst HasFew (sym done.3) (made_pairs_few grants rights grantees few)
 
 right_small : (way : Way) (right : Right) (grantee : Name) → length (right_pair way right grantee) ≤ 4
 right_small way right grantee = omega arith
@@ -102,12 +101,12 @@ object_small way table right grantee =
 
 rights_few : (grants : Grants) (known : Known) (user : Name) (way : Way) (rights : List Right) (grantees : List Name) (decided : Decided) → AreFew rights grantees
     → DecidesRightsBy grants known user way rights grantees decided → HasFew decided.grants
-rights_few grants known user way rights grantees decided few (inl refused) = subst (λ (c : List GrantChange). length c < 2 ^ 32) (sym refused.2) (omega arith)
+rights_few grants known user way rights grantees decided few (inl refused) = subst HasFew (sym refused.2) (omega arith)
 rights_few grants known user way rights grantees decided few (inr taken) = decided_few (right_pair way) (right_small way) grants known rights grantees decided.code decided.grants few taken.2
 
 table_few : (grants : Grants) (known : Known) (user : Name) (way : Way) (table : TableName) (rights : List ObjectRight) (grantees : List Name) (decided : Decided) → AreFew rights grantees
     → DecidesOnTable grants known user way table rights grantees decided → HasFew decided.grants
-table_few grants known user way table rights grantees decided few (inl refused) = subst (λ (c : List GrantChange). length c < 2 ^ 32) (sym refused.2) (omega arith)
+table_few grants known user way table rights grantees decided few (inl refused) = subst HasFew (sym refused.2) (omega arith)
 table_few grants known user way table rights grantees decided few (inr taken) = decided_few (object_pair way table) (object_small way table) grants known rights grantees decided.code decided.grants few taken.2
 
 grant_few : (grants : Grants) (known : Known) (user : Name) (statement : GrantStatement) (decided : Decided) → AreFewGrants statement → DecidesRights grants known user statement decided → HasFew decided.grants
@@ -119,23 +118,23 @@ grant_few grants known user (S.RevokeObject rights table grantees) decided few d
 -- ---- decisions
 
 abbrev AreFewChanges : List Change → Type 0
-AreFewChanges changes = length changes < 2 ^ 32
+AreFewChanges changes = length changes + TRANSACTION_CHANGES < 2 ^ 32
 
-one_few : (change : Change) → ¬ IsOfRow change → AreFewChanges (change ∷ [])
+one_few : (change : Change) → ¬ TouchesRows change → AreFewChanges (change ∷ [])
 one_few change free = omega arith
 
-two_few : (a b : Change) → ¬ IsOfRow a → ¬ IsOfRow b → AreFewChanges (a ∷ b ∷ [])
+two_few : (a b : Change) → ¬ TouchesRows a → ¬ TouchesRows b → AreFewChanges (a ∷ b ∷ [])
 two_few a b free other = omega arith
 
-same_few : (n m : ℕ) → n ≡ m → m < 2 ^ 32 → n < 2 ^ 32
+same_few : (n m : ℕ) → n ≡ m → m + TRANSACTION_CHANGES < 2 ^ 32 → n + TRANSACTION_CHANGES < 2 ^ 32
 same_few n m same few = omega (arith, same, few)
 
-pub defined_few : (setting : Setting) (x : Statement) (decision : Decision) → IsFew x → definitions.Decides setting x decision → length decision.changes < 2 ^ 32
+pub defined_few : (setting : Setting) (x : Statement) (decision : Decision) → IsFew x → definitions.Decides setting x decision → length decision.changes + TRANSACTION_CHANGES < 2 ^ 32
 defined_few setting x decision few decides =
-    defined_so AreFewChanges (omega arith) one_few two_few setting x decision
+    defined_so AreFewChanges (omega arith) one_few two_few setting x decision (λ table same unchanged. omega arith)
     (λ statement decided same rights. same_few (length (map change_of decided.grants)) (length decided.grants) (mapped_long change_of decided.grants)
     (grant_few setting.grants (known_of setting) setting.user statement decided (subst IsFew same few) rights))
     decides
 
-pub administered_few : (setting : AuditSetting) (x : Statement) (decision : Decision) → administration.Decides setting x decision → length decision.changes < 2 ^ 32
+pub administered_few : (setting : AuditSetting) (x : Statement) (decision : Decision) → administration.Decides setting x decision → length decision.changes + TRANSACTION_CHANGES < 2 ^ 32
 administered_few setting x decision decides = administered_so AreFewChanges (omega arith) one_few setting x decision decides

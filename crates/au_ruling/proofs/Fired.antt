@@ -6,18 +6,27 @@ use Rattle.std.specs.List.{AllByRecursion}
 use Rattle.au_admin.specs.Names.{IsAuditSpelled}
 use Rattle.au_audit.specs.Firing.{fires, in_record_order, record_before}
 use Rattle.au_base.specs.Order.{placed}
+use Rattle.au_base.specs.declared.action.Action.{Action}
+use Rattle.au_base.specs.declared.action.Action.TheVariants as action
 use Rattle.au_base.specs.declared.code.Code.{Code}
+use Rattle.au_base.specs.declared.numbers.ClientNo.{ClientNo}
+use Rattle.au_base.specs.declared.table.TableName.{TableName}
+use Rattle.au_change.specs.Deleting.{IsDeletion}
+use Rattle.au_change.specs.Updating.{IsUpdate}
 use Rattle.au_entries.specs.Imaging.{archive_changes, enablement_change, fga_change, image_changes, object_change, policy_change, role_change, role_grant_change, row_change, system_change, table_change, user_change}
 use Rattle.au_entries.specs.declared.change.Change.{Change}
 use Rattle.au_entries.specs.declared.change.Change.TheVariants.{Start}
 use Rattle.au_entries.specs.declared.fine_grained.FgaName.{FgaName}
 use Rattle.au_entries.specs.declared.fine_grained.FgaPolicy.{FgaPolicy}
 use Rattle.au_entries.specs.declared.kept.Kept.{Kept}
+use Rattle.au_insert.specs.Inserting.{IsInsertion}
+use Rattle.au_modify.specs.declared.modification.Modification.{Modification}
+use Rattle.au_plan.specs.Plans.{FollowsRight, IsChangePlan, IsPlanOf, facts_of, meant}
 use Rattle.au_ruling.proofs.Lists.{all_before, all_behind, all_filtered, all_joined, filter_fewer, mapped_long}
 use Rattle.au_ruling.specs.Sound.{IsNamedFga}
 use Rattle.au_expr.specs.Sessions.{Session}
 use Rattle.au_world.specs.declared.row_plan.RowPlan.{RowPlan}
-use Rattle.au_world.specs.Plans.{FollowsRights, IsPlanOf, IsQueryPlan, Truths, row_facts}
+use Rattle.au_world.specs.Plans.{FollowsRights, IsQueryPlan, Truths, row_facts}
 use Rattle.au_world.specs.Sights.{Sight}
 use Rattle.rec_codec.specs.Changes.{IsChangeSpellable, fga, fga_name}
 use Rattle.rec_parts.specs.Parts.{name, table}
@@ -95,7 +104,7 @@ fired_few test policies =
 
 -- ---- those of a plan
 
-module _ (P : List FgaName → Type 0) (none : P []) (truth : Truths) (sight : Sight) (session : Session)
+module _ (P : List FgaName → Type 0) (none : P []) (truth : Truths) (sight : Sight) (client : ClientNo) (session : Session)
     (some : (test : FgaPolicy → Bool) → P (in_record_order (map (λ (policy : FgaPolicy). policy.name) (filter test sight.catalog.fga)))) where
   follows : (allowed : Bool) (x : Statement) (code : Code) (plan : RowPlan) → FollowsRights allowed truth sight session x code plan → P plan.fired
   follows true x code plan is_so = subst P (sym is_so.policies) (some (fires truth is_so.selected.code (row_facts sight is_so.selected)))
@@ -104,12 +113,19 @@ module _ (P : List FgaName → Type 0) (none : P []) (truth : Truths) (sight : S
   planned : (x : Statement) (plan : RowPlan) → IsQueryPlan truth sight session x plan → P plan.fired
   planned x plan is_plan = follows (is_plan.rights.code.0 == 0) x is_plan.rights.code plan is_plan.comes
 
-  pub plan_fired : (x : Statement) (plan : RowPlan) → IsPlanOf truth sight session x plan → P plan.fired
+  follows_right : (allowed : Bool) (asked : Action) (table : TableName) (Is : Modification → Type 0) (code : Code) (plan : RowPlan) → FollowsRight allowed truth sight asked table Is code plan → P plan.fired
+  follows_right true asked table Is code plan made = subst P (sym made.policies) (some (fires truth made.modification.code (facts_of asked table made.modification)))
+  follows_right false asked table Is code plan barred = subst P (sym barred.refused.policies) none
+
+  changing : (asked : Action) (table : TableName) (Is : Modification → Type 0) (plan : RowPlan) → IsChangePlan truth sight session asked table Is plan → P plan.fired
+  changing asked table Is plan is_plan = follows_right (is_plan.rights.code.0 == 0) asked table Is is_plan.rights.code plan is_plan.comes
+
+  pub plan_fired : (x : Statement) (plan : RowPlan) → IsPlanOf truth sight client session x plan → P plan.fired
   plan_fired (is.Select x) plan is_plan = planned (is.Select x) plan is_plan
   plan_fired (is.Count x) plan is_plan = planned (is.Count x) plan is_plan
-  plan_fired (is.Insert x) plan is_plan = absurd is_plan
-  plan_fired (is.Update x) plan is_plan = absurd is_plan
-  plan_fired (is.Delete x) plan is_plan = absurd is_plan
+  plan_fired (is.Insert x) plan is_plan = changing action.Insert (meant session x.table) (IsInsertion sight client session (meant session x.table) x) plan is_plan
+  plan_fired (is.Update x) plan is_plan = changing action.Update (meant session x.table) (IsUpdate sight client session (meant session x.table) x) plan is_plan
+  plan_fired (is.Delete x) plan is_plan = changing action.Delete (meant session x.table) (IsDeletion sight client session (meant session x.table) x) plan is_plan
   plan_fired is.Commit plan is_plan = absurd is_plan
   plan_fired is.Rollback plan is_plan = absurd is_plan
   plan_fired (is.CreateTable x) plan is_plan = absurd is_plan

@@ -1,7 +1,6 @@
 -- What a statement changes goes on from what is kept, and leaves it whole.
-use Rattle.std.proofs.Common.{◌≤◌, ℕ, false, List, [], ◌∷◌, None, sym, ap, subst}
+use Rattle.std.proofs.Common.{◌≤◌, ℕ, false, List, sym, subst}
 use Rattle.std.specs.Prelude.{IsTrue}
-use Rattle.std.specs.List.{AllByRecursion}
 use Rattle.au_admin.specs.Deciding as administration
 use Rattle.au_admin.specs.Going.{IsReadIn, IsTimely}
 use Rattle.au_base.specs.BuiltIn.{sys}
@@ -14,25 +13,20 @@ use Rattle.au_define.specs.Deciding as definitions
 use Rattle.au_define.specs.Deciding.{IsWellFormed}
 use Rattle.au_define.specs.Settings as defining
 use Rattle.au_entries.specs.Changing.{changed_all}
-use Rattle.au_entries.specs.declared.change.Change.{Change}
-use Rattle.au_entries.specs.declared.change.Change.TheVariants as change
 use Rattle.au_entries.specs.declared.decision.Busy.{Busy}
 use Rattle.au_entries.specs.declared.decision.Decision.{Decision}
 use Rattle.au_entries.specs.declared.decision.ReadCondition.{ReadCondition}
 use Rattle.au_entries.specs.declared.kept.Kept.{Kept}
 use Rattle.au_entries.specs.Lawful.{IsLawful, IsWhole}
 use Rattle.au_entries.specs.Replaying.{AllGoOn, Conditions, has_user}
-use Rattle.au_kept.specs.Staging.{IsFree}
 use Rattle.au_replay.specs.Reading.{conditions}
 use Rattle.au_ruling.specs.declared.kind.StatementKind.{StatementKind}
-use Rattle.au_ruling.specs.declared.kind.StatementKind.TheVariants.{Query, Ending, Definition, Administration, Unbuilt}
+use Rattle.au_ruling.specs.declared.kind.StatementKind.TheVariants.{OnRows, Commit, Rollback, Definition, Administration}
 use Rattle.au_ruling.specs.declared.ruling.Ruling.{Ruling}
 use Rattle.au_ruling.specs.Rulings.{ComesAs, Ground}
-use Rattle.au_ruling.specs.Sound.{IsQuiet, IsSoundGround, IsSoundStatement, is_connected}
+use Rattle.au_ruling.specs.Sound.{IsSoundGround, IsSoundStatement, is_connected}
 use Rattle.au_ruling.proofs.Changed.{IsRowless, administered_rowless, defined_rowless}
 use Rattle.au_ruling.proofs.Once.{audit_setting_in, setting_in}
-use Rattle.au_txn.specs.Desks.{Contents as Desk}
-use Rattle.au_txn.specs.Transactions.{names_table}
 use Rattle.sql_ast.specs.declared.expression.Expr.{Expr}
 use Rattle.sql_ast.specs.declared.statement.Statement.{Statement}
 
@@ -82,22 +76,23 @@ module _ (basis : Ground) (sound : IsSoundGround basis) (x : Statement) (ruling 
   Goes some = AllGoOn conditions false basis.kept some.changes
 
   pub goes : DefinitionsGo → AdministrationsGo → ConditionsAreRead → IsSoundStatement x → (kind : StatementKind) → ComesAs kind basis x ruling → AllGoOn conditions false basis.kept ruling.changes
-  goes defined administered reads stated Query comes = subst Goes (sym comes.2) tt
-  goes defined administered reads stated Ending comes = subst Goes (sym comes) tt
+  goes defined administered reads stated OnRows comes = subst Goes (sym comes.2) tt
+  goes defined administered reads stated Commit comes = subst Goes (sym comes) tt
+  goes defined administered reads stated Rollback comes = subst Goes (sym comes) tt
   goes defined administered reads stated Definition comes =
       subst Goes (sym comes.2) (defined conditions basis.kept basis.session.user basis.client basis.busy x comes.0 stated.formed sound.kept.lawful sound.user comes.1)
   goes defined administered reads stated Administration comes =
       subst Goes (sym comes.2) (administered conditions basis.kept basis.session.user basis.client basis.busy basis.session.stamp (condition_read basis.kept.tables basis.session.user x) x comes.0
       sound.kept.lawful sound.stamp stated.timely (reads basis.kept basis.session.user x sound.kept.lawful) comes.1)
-  goes defined administered reads stated Unbuilt comes = absurd comes
 
   abbrev Leaves : Ruling → Type 0
   Leaves some = IsWhole (changed_all conditions.tree some.changes basis.kept) × IsTrue (has_user (changed_all conditions.tree some.changes basis.kept) sys)
 
   pub leaves_whole : DefinitionsStayWhole → AdministrationsStayWhole → AdministrationsKeepUsers → (kind : StatementKind) → ComesAs kind basis x ruling
       → IsWhole (changed_all conditions.tree ruling.changes basis.kept) × IsTrue (has_user (changed_all conditions.tree ruling.changes basis.kept) sys)
-  leaves_whole defined whole users Query comes = subst Leaves (sym comes.2) (sound.kept.whole, sound.system)
-  leaves_whole defined whole users Ending comes = subst Leaves (sym comes) (sound.kept.whole, sound.system)
+  leaves_whole defined whole users OnRows comes = subst Leaves (sym comes.2) (sound.kept.whole, sound.system)
+  leaves_whole defined whole users Commit comes = subst Leaves (sym comes) (sound.kept.whole, sound.system)
+  leaves_whole defined whole users Rollback comes = subst Leaves (sym comes) (sound.kept.whole, sound.system)
   leaves_whole defined whole users Definition comes =
       let both = defined conditions conditions.tree basis.kept basis.session.user basis.client basis.busy x comes.0 sound.kept.lawful sound.kept.whole sound.system comes.1 in
       subst Leaves (sym comes.2) (both.1, both.0)
@@ -107,7 +102,6 @@ module _ (basis : Ground) (sound : IsSoundGround basis) (x : Statement) (ruling 
         whole conditions.tree basis.kept basis.session.user basis.client basis.busy basis.session.stamp read x comes.0 sound.kept.whole comes.1,
         users conditions.tree basis.kept basis.session.user basis.client basis.busy basis.session.stamp read x comes.0 sys sound.system comes.1,
       )
-  leaves_whole defined whole users Unbuilt comes = absurd comes
 
   module _ (who : List ℕ) (there : IsTrue (has_user basis.kept who)) where
     abbrev Keeps : Ruling → Type 0
@@ -115,13 +109,13 @@ module _ (basis : Ground) (sound : IsSoundGround basis) (x : Statement) (ruling 
 
     pub stays : DefinitionsKeepUsers → AdministrationsKeepUsers → IsTrue (is_connected basis who) → (kind : StatementKind) → ComesAs kind basis x ruling
         → IsTrue (has_user (changed_all conditions.tree ruling.changes basis.kept) who)
-    stays defined users connected Query comes = subst Keeps (sym comes.2) there
-    stays defined users connected Ending comes = subst Keeps (sym comes) there
+    stays defined users connected OnRows comes = subst Keeps (sym comes.2) there
+    stays defined users connected Commit comes = subst Keeps (sym comes) there
+    stays defined users connected Rollback comes = subst Keeps (sym comes) there
     stays defined users connected Definition comes =
         subst Keeps (sym comes.2) (defined conditions conditions.tree basis.kept basis.session.user basis.client basis.busy x comes.0 who sound.kept.lawful sound.kept.whole there connected comes.1)
     stays defined users connected Administration comes =
         subst Keeps (sym comes.2) (users conditions.tree basis.kept basis.session.user basis.client basis.busy basis.session.stamp (condition_read basis.kept.tables basis.session.user x) x comes.0 who there comes.1)
-    stays defined users connected Unbuilt comes = absurd comes
 
 -- ---- no row is changed
 
@@ -129,37 +123,8 @@ abbrev NoRows : Ruling → Type 0
 NoRows some = IsRowless some.changes
 
 pub rowless : (kind : StatementKind) (basis : Ground) (x : Statement) (ruling : Ruling) → ComesAs kind basis x ruling → IsRowless ruling.changes
-rowless Query basis x ruling comes = subst NoRows (sym comes.2) tt
-rowless Ending basis x ruling comes = subst NoRows (sym comes) tt
+rowless OnRows basis x ruling comes = subst NoRows (sym comes.2) tt
+rowless Commit basis x ruling comes = subst NoRows (sym comes) tt
+rowless Rollback basis x ruling comes = subst NoRows (sym comes) tt
 rowless Definition basis x ruling comes = subst NoRows (sym comes.2) (defined_rowless (setting_in basis) x comes.0 comes.1)
 rowless Administration basis x ruling comes = subst NoRows (sym comes.2) (administered_rowless (audit_setting_in basis x) x comes.0 comes.1)
-rowless Unbuilt basis x ruling comes = absurd comes
-
--- ---- no client has a change
-
-is_free : (desk : Desk) → IsQuiet desk → (one : Change) → IsFree None desk one
-is_free desk quiet (change.User name verifier) = tt
-is_free desk quiet (change.UserGone name) = tt
-is_free desk quiet (change.Role name) = tt
-is_free desk quiet (change.RoleGone name) = tt
-is_free desk quiet (change.SysGrant grantee privilege admin) = tt
-is_free desk quiet (change.SysRevoke grantee privilege) = tt
-is_free desk quiet (change.RoleGrant grantee role admin) = tt
-is_free desk quiet (change.RoleRevoke grantee role) = tt
-is_free desk quiet (change.ObjGrant grantee table action) = tt
-is_free desk quiet (change.ObjRevoke grantee table action) = tt
-is_free desk quiet (change.Table name columns key) = tt
-is_free desk quiet (change.TableGone table) = λ client others. ap (names_table table) (quiet client)
-is_free desk quiet (change.Put name row cells) = tt
-is_free desk quiet (change.Gone name row) = tt
-is_free desk quiet (change.Policy name privileges actions roles when) = tt
-is_free desk quiet (change.PolicyGone name) = tt
-is_free desk quiet (change.Enable policy enabled) = tt
-is_free desk quiet (change.Fga table policy condition columns all types enabled) = tt
-is_free desk quiet (change.FgaGone table policy) = tt
-is_free desk quiet (change.Archive stamp) = tt
-is_free desk quiet (change.Start instance) = tt
-
-pub all_free : (desk : Desk) → IsQuiet desk → (changes : List Change) → AllByRecursion (IsFree None desk) changes
-all_free desk quiet [] = tt
-all_free desk quiet (one ∷ changes) = (is_free desk quiet one, all_free desk quiet changes)

@@ -1,11 +1,11 @@
 -- What a statement comes to can be written: its code, its privileges and its changes; and there is little of it.
-use Rattle.std.proofs.Common.{◌≤◌, ◌<◌, ◌^◌, ℕ, List, length, sym, subst, arith}
+use Rattle.std.proofs.Common.{◌≤◌, ◌<◌, ◌+◌, ◌^◌, ℕ, List, length, sym, subst, arith}
 use Rattle.std.specs.List.{AllByRecursion}
 use Rattle.au_admin.specs.Deciding as administration
 use Rattle.au_admin.specs.Going.{IsTimely}
 use Rattle.au_admin.specs.Names as administration_names
 use Rattle.au_admin.specs.Names.{IsAuditSpelled, IsShort}
-use Rattle.au_base.specs.Limits.{CATALOG_OBJECTS, LAST_MOMENT}
+use Rattle.au_base.specs.Limits.{CATALOG_OBJECTS, LAST_MOMENT, TRANSACTION_CHANGES}
 use Rattle.au_base.specs.Naming.{IsName}
 use Rattle.au_base.specs.declared.numbers.ClientNo.{ClientNo}
 use Rattle.au_base.specs.declared.numbers.Stamp.{Stamp}
@@ -28,14 +28,16 @@ use Rattle.au_entries.specs.declared.fine_grained.FgaName.{FgaName}
 use Rattle.au_entries.specs.declared.table.Table.{Table}
 use Rattle.au_fga.specs.Testing.{truth_over}
 use Rattle.au_ruling.specs.declared.kind.StatementKind.{StatementKind}
-use Rattle.au_ruling.specs.declared.kind.StatementKind.TheVariants.{Query, Ending, Definition, Administration, Unbuilt}
+use Rattle.au_ruling.specs.declared.kind.StatementKind.TheVariants.{OnRows, Commit, Rollback, Definition, Administration}
 use Rattle.au_ruling.specs.declared.ruling.Ruling.{Ruling}
 use Rattle.au_ruling.specs.Rulings.{ComesAs, Ground, IsPlanIn, sight_in}
 use Rattle.au_ruling.specs.Sound.{IsNamedFga, IsSoundGround, IsSoundStatement}
 use Rattle.au_ruling.proofs.Few.{administered_few, defined_few}
 use Rattle.au_ruling.proofs.Fired.{audit_spelled, fired_few, fired_named, kept_named, plan_fired}
 use Rattle.au_ruling.proofs.Once.{audit_setting_in, setting_in}
-use Rattle.au_ruling.proofs.QueryCodes.{ConditionsFit, NamesFit, TablesAreSame, none_usable, plan_told}
+use Rattle.au_ruling.proofs.Codes.{ConditionsFit, NamesFit}
+use Rattle.au_ruling.proofs.PlanCodes.{plan_told}
+use Rattle.au_ruling.proofs.RightCodes.{TablesAreSame, none_usable}
 use Rattle.au_world.specs.declared.row_plan.RowPlan.{RowPlan}
 use Rattle.rec_codec.specs.Changes.{IsChangeSpellable}
 use Rattle.rec_parts.specs.Parts.{privileges_in_order}
@@ -73,13 +75,13 @@ IsTold ruling = (ruling.code.0 < 2 ^ 32) × privileges_in_order.IsSpellable ruli
 
 pub told : DefinitionsAreTold → AdministrationsAreTold → ConditionsAreTold → NamesFit → ConditionsFit → TablesAreSame
     → (kind : StatementKind) (basis : Ground) (x : Statement) (ruling : Ruling) → ComesAs kind basis x ruling → (ruling.code.0 < 2 ^ 32) × privileges_in_order.IsSpellable ruling.used
-told defined administered reads names conditions same Query basis x ruling comes =
-    subst IsTold (sym comes.2) (plan_told names conditions same (truth_over basis.session basis.kept.tables) (sight_in basis) basis.session x comes.0 comes.1)
-told defined administered reads names conditions same Ending basis x ruling comes = subst IsTold (sym comes) (omega arith, none_usable)
+told defined administered reads names conditions same OnRows basis x ruling comes =
+    subst IsTold (sym comes.2) (plan_told names conditions same (truth_over basis.session basis.kept.tables) (sight_in basis) basis.client basis.session x comes.0 comes.1)
+told defined administered reads names conditions same Commit basis x ruling comes = subst IsTold (sym comes) (omega arith, none_usable)
+told defined administered reads names conditions same Rollback basis x ruling comes = subst IsTold (sym comes) (omega arith, none_usable)
 told defined administered reads names conditions same Definition basis x ruling comes = subst IsTold (sym comes.2) (defined (setting_in basis) x comes.0 comes.1)
 told defined administered reads names conditions same Administration basis x ruling comes =
     subst IsTold (sym comes.2) (administered (audit_setting_in basis x) x comes.0 (reads basis.kept.tables basis.session.user x) comes.1)
-told defined administered reads names conditions same Unbuilt basis x ruling comes = absurd comes
 
 -- ---- the policies that fire
 
@@ -87,17 +89,17 @@ abbrev AreNamed : Ruling → Type 0
 AreNamed ruling = AllByRecursion IsNamedFga ruling.fired
 
 module _ (basis : Ground) (sound : IsSoundGround basis) (x : Statement) (ruling : Ruling) where
-  query_named : (plan : RowPlan) → IsPlanIn basis x plan → AllByRecursion IsNamedFga plan.fired
-  query_named plan is_plan =
-      plan_fired (AllByRecursion IsNamedFga) tt (truth_over basis.session basis.kept.tables) (sight_in basis) basis.session
+  plan_named : (plan : RowPlan) → IsPlanIn basis x plan → AllByRecursion IsNamedFga plan.fired
+  plan_named plan is_plan =
+      plan_fired (AllByRecursion IsNamedFga) tt (truth_over basis.session basis.kept.tables) (sight_in basis) basis.client basis.session
       (λ test. fired_named test basis.kept.fga (kept_named basis.kept sound.kept.spelled.entries)) x plan is_plan
 
   pub all_named : (kind : StatementKind) → ComesAs kind basis x ruling → AllByRecursion IsNamedFga ruling.fired
-  all_named Query comes = subst AreNamed (sym comes.2) (query_named comes.0 comes.1)
-  all_named Ending comes = subst AreNamed (sym comes) tt
+  all_named OnRows comes = subst AreNamed (sym comes.2) (plan_named comes.0 comes.1)
+  all_named Commit comes = subst AreNamed (sym comes) tt
+  all_named Rollback comes = subst AreNamed (sym comes) tt
   all_named Definition comes = subst AreNamed (sym comes.2) tt
   all_named Administration comes = subst AreNamed (sym comes.2) tt
-  all_named Unbuilt comes = absurd comes
 
   -- ---- the changes
 
@@ -105,30 +107,30 @@ module _ (basis : Ground) (sound : IsSoundGround basis) (x : Statement) (ruling 
   AreSpelled some = AllByRecursion IsChangeSpellable some.changes
 
   pub all_spelled : DefinitionsAreWritten → AdministrationsAreWritten → IsSoundStatement x → (kind : StatementKind) → ComesAs kind basis x ruling → AllByRecursion IsChangeSpellable ruling.changes
-  all_spelled defined administered stated Query comes = subst AreSpelled (sym comes.2) tt
-  all_spelled defined administered stated Ending comes = subst AreSpelled (sym comes) tt
+  all_spelled defined administered stated OnRows comes = subst AreSpelled (sym comes.2) tt
+  all_spelled defined administered stated Commit comes = subst AreSpelled (sym comes) tt
+  all_spelled defined administered stated Rollback comes = subst AreSpelled (sym comes) tt
   all_spelled defined administered stated Definition comes = subst AreSpelled (sym comes.2) (defined (setting_in basis) x comes.0 stated.named sound.named stated.formed comes.1)
   all_spelled defined administered stated Administration comes =
       subst AreSpelled (sym comes.2) (administered conditions basis.kept basis.session.user basis.client basis.busy basis.session.stamp (condition_read basis.kept.tables basis.session.user x) x comes.0
       sound.kept.lawful sound.kept.whole (audit_spelled basis.kept sound.kept.spelled.entries) stated.administered stated.short stated.timely sound.named sound.stamp comes.1)
-  all_spelled defined administered stated Unbuilt comes = absurd comes
 
   -- ---- how much of it there is
 
   within : (n m : ℕ) → n ≤ m → m ≤ CATALOG_OBJECTS → n ≤ CATALOG_OBJECTS
   within n m less few = omega (arith, less, few)
 
-  query_few : (plan : RowPlan) → IsPlanIn basis x plan → length plan.fired ≤ CATALOG_OBJECTS
-  query_few plan is_plan =
-      plan_fired (λ (names : List FgaName). length names ≤ CATALOG_OBJECTS) (omega arith) (truth_over basis.session basis.kept.tables) (sight_in basis) basis.session
+  plan_few : (plan : RowPlan) → IsPlanIn basis x plan → length plan.fired ≤ CATALOG_OBJECTS
+  plan_few plan is_plan =
+      plan_fired (λ (names : List FgaName). length names ≤ CATALOG_OBJECTS) (omega arith) (truth_over basis.session basis.kept.tables) (sight_in basis) basis.client basis.session
       (λ test. within _ (length basis.kept.fga) (fired_few test basis.kept.fga) sound.kept.whole.few.fga) x plan is_plan
 
   abbrev AreFew : Ruling → Type 0
-  AreFew some = (length some.changes < 2 ^ 32) × (length some.fired ≤ CATALOG_OBJECTS)
+  AreFew some = (length some.changes + TRANSACTION_CHANGES < 2 ^ 32) × (length some.fired ≤ CATALOG_OBJECTS)
 
-  pub all_few : IsSoundStatement x → (kind : StatementKind) → ComesAs kind basis x ruling → (length ruling.changes < 2 ^ 32) × (length ruling.fired ≤ CATALOG_OBJECTS)
-  all_few stated Query comes = subst AreFew (sym comes.2) (omega arith, query_few comes.0 comes.1)
-  all_few stated Ending comes = subst AreFew (sym comes) (omega arith, omega arith)
+  pub all_few : IsSoundStatement x → (kind : StatementKind) → ComesAs kind basis x ruling → (length ruling.changes + TRANSACTION_CHANGES < 2 ^ 32) × (length ruling.fired ≤ CATALOG_OBJECTS)
+  all_few stated OnRows comes = subst AreFew (sym comes.2) (omega arith, plan_few comes.0 comes.1)
+  all_few stated Commit comes = subst AreFew (sym comes) (omega arith, omega arith)
+  all_few stated Rollback comes = subst AreFew (sym comes) (omega arith, omega arith)
   all_few stated Definition comes = subst AreFew (sym comes.2) (defined_few (setting_in basis) x comes.0 stated.few comes.1, omega arith)
   all_few stated Administration comes = subst AreFew (sym comes.2) (administered_few (audit_setting_in basis x) x comes.0 comes.1, omega arith)
-  all_few stated Unbuilt comes = absurd comes

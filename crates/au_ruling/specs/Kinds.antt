@@ -1,27 +1,20 @@
--- By what statements are decided (SQL Language Reference, "SQL Statements"; which statements are built is this project's
--- profile).
+-- By what statements are decided, and which end the transaction of their session first (SQL Language Reference, "SQL
+-- Statements" and "COMMIT"; which statements commit first is this project's profile).
 use Rattle.std.specs.Prelude.{Bool, true, false}
 use Rattle.au_ruling.specs.declared.kind.StatementKind.{StatementKind}
-use Rattle.au_ruling.specs.declared.kind.StatementKind.TheVariants.{Query, Ending, Definition, Administration, Unbuilt}
-use Rattle.sql_ast.specs.declared.call.Procedure.{Procedure}
-use Rattle.sql_ast.specs.declared.call.Procedure.TheVariants.{CleanAuditTrail}
+use Rattle.au_ruling.specs.declared.kind.StatementKind.TheVariants.{OnRows, Commit as Committing, Rollback as RollingBack, Definition, Administration}
 use Rattle.sql_ast.specs.declared.statement.Statement.{Statement}
 use Rattle.sql_ast.specs.declared.statement.Statement.TheVariants.{Select, Count, Insert, Update, Delete, Commit, Rollback, CreateTable, DropTable, CreateUser, AlterUser, DropUser, CreateRole, DropRole, Grant, CreatePolicy, DropPolicy, Audit, Noaudit, Call}
 
--- a purge isn't built
-abbrev pub call_kind : Procedure → StatementKind
-call_kind CleanAuditTrail = Unbuilt
-call_kind _ = Administration
-
 -- by what the statement is decided
 abbrev pub kind_of : Statement → StatementKind
-kind_of (Select select) = Query
-kind_of (Count count) = Query
-kind_of (Insert insert) = Unbuilt
-kind_of (Update update) = Unbuilt
-kind_of (Delete delete) = Unbuilt
-kind_of Commit = Ending
-kind_of Rollback = Ending
+kind_of (Select select) = OnRows
+kind_of (Count count) = OnRows
+kind_of (Insert insert) = OnRows
+kind_of (Update update) = OnRows
+kind_of (Delete delete) = OnRows
+kind_of Commit = Committing
+kind_of Rollback = RollingBack
 kind_of (CreateTable create) = Definition
 kind_of (DropTable table) = Definition
 kind_of (CreateUser user password) = Definition
@@ -34,22 +27,24 @@ kind_of (CreatePolicy create) = Administration
 kind_of (DropPolicy policy) = Administration
 kind_of (Audit audit) = Administration
 kind_of (Noaudit policy users) = Administration
-kind_of (Call call) = call_kind call.procedure
+kind_of (Call call) = Administration
 
--- the kind is that of queries
-abbrev pub is_query_kind : StatementKind → Bool
-is_query_kind Query = true
-is_query_kind _ = false
+-- the kind is that of statements on rows
+abbrev pub is_kind_on_rows : StatementKind → Bool
+is_kind_on_rows OnRows = true
+is_kind_on_rows _ = false
 
--- statements of the kind are built
-abbrev pub is_built_kind : StatementKind → Bool
-is_built_kind Unbuilt = false
-is_built_kind _ = true
+-- the statement is on rows: SELECT, INSERT, UPDATE or DELETE
+abbrev pub is_on_rows : Statement → Bool
+is_on_rows statement = is_kind_on_rows (kind_of statement)
 
--- the statement is a query
-abbrev pub is_query : Statement → Bool
-is_query statement = is_query_kind (kind_of statement)
+-- statements of the kind commit their session's transaction before all else
+abbrev pub commits_by_kind : StatementKind → Bool
+commits_by_kind OnRows = false
+commits_by_kind RollingBack = false
+commits_by_kind _ = true
 
--- the statement is built
-abbrev pub is_built : Statement → Bool
-is_built statement = is_built_kind (kind_of statement)
+-- The statement commits its session's transaction before all else, also where it is refused then: COMMIT does, and so does
+-- each statement that is neither on rows nor ROLLBACK.
+abbrev pub commits : Statement → Bool
+commits statement = commits_by_kind (kind_of statement)

@@ -1,7 +1,7 @@
--- What a statement comes to, by what is kept before it: its code, the system privileges that it used, its reply, what it
+-- What a statement comes to, by what stands before it: its code, the system privileges that it used, its reply, what it
 -- changes, and which fine-grained policies demand a record (SQL Language Reference, "SQL Statements"; the codes and their
 -- order are this project's profile).
-use Rattle.std.specs.Prelude.{◌≡◌, [], map}
+use Rattle.std.specs.Prelude.{◌≡◌, Bool, true, false, List, [], map, None}
 use Rattle.au_admin.specs.Deciding as administration
 use Rattle.au_base.specs.Codes.{DONE}
 use Rattle.au_base.specs.declared.code.Code.{Code}
@@ -17,45 +17,58 @@ use Rattle.au_entries.specs.declared.decision.Decision.{Decision}
 use Rattle.au_entries.specs.declared.kept.Kept.{Kept}
 use Rattle.au_expr.specs.Sessions.{Session}
 use Rattle.au_fga.specs.Testing.{truth_over}
+use Rattle.au_plan.specs.Plans.{IsPlanOf}
 use Rattle.au_ruling.specs.declared.kind.StatementKind.{StatementKind}
-use Rattle.au_ruling.specs.declared.kind.StatementKind.TheVariants.{Query, Ending, Definition, Administration, Unbuilt}
+use Rattle.au_ruling.specs.declared.kind.StatementKind.TheVariants.{OnRows, Commit, Rollback, Definition, Administration}
 use Rattle.au_ruling.specs.declared.ruling.Ruling.{Ruling}
 use Rattle.au_ruling.specs.Kinds.{kind_of}
+use Rattle.au_txn.specs.declared.change.RowChange.{RowChange}
 use Rattle.au_txn.specs.Rows.{of_triple}
 use Rattle.au_world.specs.declared.row_plan.RowPlan.{RowPlan}
-use Rattle.au_world.specs.Plans.{IsPlanOf}
 use Rattle.au_world.specs.Sights.{Sight}
 use Rattle.sql_ast.specs.declared.statement.Statement.{Statement}
 
--- What a statement is decided in: what is kept; what sessions hold; the client; and the event's user, session and stamp.
+-- What a statement is decided in: what is kept; what sessions hold; the client; the event's user, session and stamp; and the
+-- changes of rows that each client hasn't committed.
 pub record Ground : Type 0 where
   pub kept : Kept
   pub busy : Busy
   pub client : ClientNo
   pub session : Session
+  pub transactions : ClientNo → List RowChange
 
--- what the statement sees: what is kept, since no client has changes of rows
+-- what the statement sees
 abbrev pub sight_in : Ground → Sight
 sight_in basis = record {
   catalog = catalog_of basis.kept;
   grants = basis.kept.grants;
   rows = map of_triple basis.kept.rows;
-  own = [];
-  transactions = λ client. [];
+  own = basis.transactions basis.client;
+  transactions = basis.transactions;
   trail = basis.kept.trail;
 }
 
--- the plan is that of the query
+-- the plan is that of the statement on rows
 abbrev pub IsPlanIn : Ground → Statement → RowPlan → Type 0
-IsPlanIn basis statement plan = IsPlanOf (truth_over basis.session basis.kept.tables) (sight_in basis) basis.session statement plan
+IsPlanIn basis statement plan = IsPlanOf (truth_over basis.session basis.kept.tables) (sight_in basis) basis.client basis.session statement plan
 
 -- a code alone
 abbrev pub code_reply : Code → Reply
 code_reply code = record { code = code; columns = []; count = 0; rows = [] }
 
--- what a planned query comes to: it changes nothing of what is kept
+-- what a statement on rows comes to by its plan: of what is kept it changes nothing
 abbrev pub of_plan : RowPlan → Ruling
-of_plan plan = record { code = plan.code; used = plan.used; reply = plan.reply; changes = []; forgets = []; fired = plan.fired }
+of_plan plan = record {
+  code = plan.code;
+  used = plan.used;
+  reply = plan.reply;
+  rows = plan.changes;
+  changes = [];
+  purge = None;
+  forgets = [];
+  fired = plan.fired;
+  undoes = false;
+}
 
 -- what another statement comes to by what is decided of it: it touches no row
 abbrev pub of_decision : Decision → Ruling
@@ -63,14 +76,27 @@ of_decision decision = record {
   code = decision.code;
   used = decision.used;
   reply = code_reply decision.code;
+  rows = [];
   changes = decision.changes;
+  purge = decision.purge;
   forgets = decision.forgets;
   fired = [];
+  undoes = false;
 }
 
--- COMMIT and ROLLBACK are always done; no client has changes of rows that they could end
-abbrev pub done : Ruling
-done = record { code = DONE; used = []; reply = code_reply DONE; changes = []; forgets = []; fired = [] }
+-- what COMMIT and ROLLBACK come to, which are always done: whether the transaction is undone
+abbrev pub ended : Bool → Ruling
+ended undoes = record {
+  code = DONE;
+  used = [];
+  reply = code_reply DONE;
+  rows = [];
+  changes = [];
+  purge = None;
+  forgets = [];
+  fired = [];
+  undoes = undoes;
+}
 
 -- the decision is that of a statement on tables, users, roles or grants
 abbrev pub IsDefined : Ground → Statement → Decision → Type 0
@@ -84,13 +110,14 @@ IsAdministered basis statement decision =
     (auditing.setting_of basis.kept basis.session.user basis.client basis.busy basis.session.stamp (condition_read basis.kept.tables basis.session.user statement))
     statement decision
 
--- what a statement of this kind comes to
+-- What a statement of this kind comes to. A transaction that is committed is so before the statement is decided, also of
+-- COMMIT itself.
 abbrev pub ComesAs : StatementKind → Ground → Statement → Ruling → Type 0
-ComesAs Query basis statement ruling = (plan : RowPlan) × IsPlanIn basis statement plan × (ruling ≡ of_plan plan)
-ComesAs Ending basis statement ruling = ruling ≡ done
+ComesAs OnRows basis statement ruling = (plan : RowPlan) × IsPlanIn basis statement plan × (ruling ≡ of_plan plan)
+ComesAs Commit basis statement ruling = ruling ≡ ended false
+ComesAs Rollback basis statement ruling = ruling ≡ ended true
 ComesAs Definition basis statement ruling = (decision : Decision) × IsDefined basis statement decision × (ruling ≡ of_decision decision)
 ComesAs Administration basis statement ruling = (decision : Decision) × IsAdministered basis statement decision × (ruling ≡ of_decision decision)
-ComesAs Unbuilt basis statement ruling = ⊥
 
 -- what the statement comes to
 abbrev pub Comes : Ground → Statement → Ruling → Type 0

@@ -1,22 +1,20 @@
 //! Kinds of statements.
 ghost use Rattle.std.specs.Prelude.{◌≡◌};
-ghost use Rattle.au_ruling.specs.Kinds.{call_kind, is_built, is_query, kind_of};
+ghost use Rattle.au_ruling.specs.Kinds.{commits, is_on_rows, kind_of};
 
-use sql_ast::{Procedure, Statement};
+use sql_ast::Statement;
 
 /// By what a statement is decided.
 #[derive(Clone, Copy, Debug, PartialEq, Eq)]
 pub enum StatementKind {
-    /// SELECT.
-    Query,
-    /// COMMIT and ROLLBACK.
-    Ending,
+    /// SELECT, INSERT, UPDATE and DELETE.
+    OnRows,
+    Commit,
+    Rollback,
     /// On tables, users, roles and grants.
     Definition,
     /// On audit policies; and calls of packages.
     Administration,
-    /// INSERT, UPDATE, DELETE and purges of the audit trail, which aren't built.
-    Unbuilt,
 }
 
 /// By what the statement is decided.
@@ -24,11 +22,13 @@ pub fn kind_of(statement: &Statement) -> StatementKind
     ensures { result ≡ kind_of statement.now }
 {
     match statement {
-        Statement::Select(_) | Statement::Count(_) => StatementKind::Query,
-        Statement::Insert(_) | Statement::Update(_) | Statement::Delete(_) => {
-            StatementKind::Unbuilt
-        }
-        Statement::Commit | Statement::Rollback => StatementKind::Ending,
+        Statement::Select(_)
+        | Statement::Count(_)
+        | Statement::Insert(_)
+        | Statement::Update(_)
+        | Statement::Delete(_) => StatementKind::OnRows,
+        Statement::Commit => StatementKind::Commit,
+        Statement::Rollback => StatementKind::Rollback,
         Statement::CreateTable(_)
         | Statement::DropTable { .. }
         | Statement::CreateUser { .. }
@@ -40,47 +40,31 @@ pub fn kind_of(statement: &Statement) -> StatementKind
         Statement::CreatePolicy(_)
         | Statement::DropPolicy { .. }
         | Statement::Audit(_)
-        | Statement::Noaudit { .. } => StatementKind::Administration,
-        Statement::Call(call) => call_kind(call.procedure),
+        | Statement::Noaudit { .. }
+        | Statement::Call(_) => StatementKind::Administration,
     }
 }
 
-fn call_kind(procedure: Procedure) -> StatementKind
-    ensures { result ≡ call_kind procedure }
-{
-    match procedure {
-        Procedure::AddPolicy
-        | Procedure::DropPolicy
-        | Procedure::EnablePolicy
-        | Procedure::DisablePolicy
-        | Procedure::SetLastArchiveTimestamp
-        | Procedure::ClearLastArchiveTimestamp => StatementKind::Administration,
-        Procedure::CleanAuditTrail => StatementKind::Unbuilt,
-    }
-}
-
-/// Whether the statement is a query.
-pub fn is_query(statement: &Statement) -> bool
-    ensures { result ≡ is_query statement.now }
+/// Whether the statement is on rows: SELECT, INSERT, UPDATE or DELETE.
+pub fn is_on_rows(statement: &Statement) -> bool
+    ensures { result ≡ is_on_rows statement.now }
 {
     match kind_of(statement) {
-        StatementKind::Query => true,
-        StatementKind::Ending
+        StatementKind::OnRows => true,
+        StatementKind::Commit
+        | StatementKind::Rollback
         | StatementKind::Definition
-        | StatementKind::Administration
-        | StatementKind::Unbuilt => false,
+        | StatementKind::Administration => false,
     }
 }
 
-/// Whether the statement is built: INSERT, UPDATE, DELETE and purges of the audit trail aren't.
-pub fn is_built(statement: &Statement) -> bool
-    ensures { result ≡ is_built statement.now }
+/// Whether the statement commits its session's transaction before all else: COMMIT does, and so does
+/// each statement that is neither on rows nor ROLLBACK.
+pub fn commits(statement: &Statement) -> bool
+    ensures { result ≡ commits statement.now }
 {
     match kind_of(statement) {
-        StatementKind::Query
-        | StatementKind::Ending
-        | StatementKind::Definition
-        | StatementKind::Administration => true,
-        StatementKind::Unbuilt => false,
+        StatementKind::OnRows | StatementKind::Rollback => false,
+        StatementKind::Commit | StatementKind::Definition | StatementKind::Administration => true,
     }
 }

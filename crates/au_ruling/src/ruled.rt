@@ -1,8 +1,8 @@
-//! What statements come to that are no queries.
-ghost use Rattle.std.specs.Prelude.{◌≡◌, IfOk, false, true};
+//! What statements come to that aren't on rows.
+ghost use Rattle.std.specs.Prelude.{◌≡◌, IfOk, false};
 ghost use Rattle.au_ruling.specs.declared.kind.StatementKind.TheVariants as kinds;
 ghost use Rattle.au_ruling.specs.Cases.{IsLentBy, IsSorted};
-ghost use Rattle.au_ruling.specs.Kinds.{is_built, is_query, kind_of};
+ghost use Rattle.au_ruling.specs.Kinds.{is_on_rows, kind_of};
 ghost use Rattle.au_ruling.specs.Rulings.{Comes, ComesAs, Ground};
 
 use crate::deciding::{administered, defined};
@@ -13,16 +13,16 @@ use au_base::Memory;
 use sql_ast::Statement;
 use std::alloc::Global;
 
-/// What a statement comes to that is built and no query. Nothing is changed by it; want of memory is
-/// the one error.
+/// What a statement comes to that isn't on rows. Nothing is changed by it; want of memory is the one
+/// error.
 pub fn rule(alloc: Global, case: RulingCase<'_>, statement: &Statement) -> Result<Ruling, Memory>
     requires order { IsSorted case }
-    requires built { is_built statement.now ≡ true }
-    requires other { is_query statement.now ≡ false }
+    requires other { is_on_rows statement.now ≡ false }
     ensures { (basis : Ground) → IsLentBy basis case.entry → IfOk result (Comes basis statement.now) }
 {
     match kind_of(statement) {
-        StatementKind::Ending => Ok(Ruling::done(alloc)),
+        StatementKind::Commit => Ok(Ruling::ended(alloc, false)),
+        StatementKind::Rollback => Ok(Ruling::ended(alloc, true)),
         StatementKind::Definition => {
             let ruling = define(alloc, &case, statement)?;
             Ok(ruling)
@@ -31,7 +31,7 @@ pub fn rule(alloc: Global, case: RulingCase<'_>, statement: &Statement) -> Resul
             let ruling = administer(alloc, &case, statement)?;
             Ok(ruling)
         }
-        StatementKind::Query | StatementKind::Unbuilt => unreachable!(),
+        StatementKind::OnRows => unreachable!(),
     }
 }
 

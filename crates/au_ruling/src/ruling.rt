@@ -1,9 +1,10 @@
 //! What statements come to.
 ghost use Rattle.std.specs.Prelude.{◌≡◌};
-ghost use Rattle.au_ruling.specs.Rulings.{code_reply, done, of_decision, of_plan};
+ghost use Rattle.au_ruling.specs.Rulings.{code_reply, ended, of_decision, of_plan};
 
-use au_base::{Code, List, Name, Privilege, Reply};
+use au_base::{Code, List, Name, Privilege, Reply, Stamp};
 use au_entries::{Change, Decision, FgaName};
+use au_txn::RowChange;
 use au_world::RowPlan;
 use std::alloc::Global;
 
@@ -14,16 +15,22 @@ pub struct Ruling {
     /// The system privileges that made it possible, in the order of their numbers.
     pub used: List<Privilege>,
     pub reply: Reply,
+    /// The changes of rows by which it goes on its session's transaction.
+    pub rows: List<RowChange>,
     /// What it changes of what is kept, in the order in which it happens.
     pub changes: List<Change>,
+    /// Of a purge: the records stamped before this moment go, or all of them where it names none.
+    pub purge: Option<Option<Stamp>>,
     /// The audit policies whose kept results of conditions are forgotten.
     pub forgets: List<Name>,
     /// The fine-grained policies that demand a record, by policy, owner and table.
     pub fired: List<FgaName>,
+    /// Whether its session's transaction is undone.
+    pub undoes: bool,
 }
 
 impl Ruling {
-    /// What a planned query comes to. It takes no memory.
+    /// What a statement on rows comes to by its plan. It takes no memory.
     pub fn of_plan(alloc: Global, plan: RowPlan) -> Ruling
         ensures { result ≡ of_plan plan }
     {
@@ -31,9 +38,12 @@ impl Ruling {
             code: plan.code,
             used: plan.used,
             reply: plan.reply,
+            rows: plan.changes,
             changes: List::new(alloc),
+            purge: None,
             forgets: List::new(alloc),
             fired: plan.fired,
+            undoes: false,
         }
     }
 
@@ -45,23 +55,29 @@ impl Ruling {
             code: decision.code,
             used: decision.used,
             reply: code_reply(alloc, decision.code),
+            rows: List::new(alloc),
             changes: decision.changes,
+            purge: decision.purge,
             forgets: decision.forgets,
             fired: List::new(alloc),
+            undoes: false,
         }
     }
 
-    /// What COMMIT and ROLLBACK come to. It takes no memory.
-    pub fn done(alloc: Global) -> Ruling
-        ensures { result ≡ done }
+    /// What COMMIT and ROLLBACK come to: whether the transaction is undone. It takes no memory.
+    pub fn ended(alloc: Global, undoes: bool) -> Ruling
+        ensures { result ≡ ended undoes }
     {
         Ruling {
             code: Code::DONE,
             used: List::new(alloc),
             reply: code_reply(alloc, Code::DONE),
+            rows: List::new(alloc),
             changes: List::new(alloc),
+            purge: None,
             forgets: List::new(alloc),
             fired: List::new(alloc),
+            undoes,
         }
     }
 }

@@ -6,7 +6,7 @@ use au_entries::Busy;
 use au_expr::SessionFacts;
 use au_grants::Grants;
 
-/// What a statement that is no query is ruled by: the catalogue and the grants; what sessions hold;
+/// What a statement is ruled by that isn't on rows: the catalogue and the grants; what sessions hold;
 /// the client; and the event's user, session and stamp.
 #[derive(Clone, Copy)]
 pub struct RulingCase<'a> {

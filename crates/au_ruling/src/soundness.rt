@@ -11,6 +11,7 @@ ghost use Rattle.sql_parse.specs.Statements.{Reads};
 use au_admin::{administration_is_named, read_statements_are_short, read_statements_are_timely};
 use au_base::{GrantStatement, Name, TableReference};
 use au_define::{names_are_names, read_statements_are_well_formed};
+use au_literals::literals_are_sound;
 use sql_ast::{FromClause, Join, Statement};
 use sql_lex::one_way;
 
@@ -26,6 +27,7 @@ pub fn statements_are_sound(statement: &Statement)
     read_statements_are_timely();
     read_statements_are_short();
     read_statements_are_few();
+    literals_are_sound();
 }
 
 // GRANT and REVOKE that a text is read as name few rights and few grantees.

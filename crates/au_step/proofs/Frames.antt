@@ -1,5 +1,5 @@
 -- The frame of a step, and that with which an instance begins.
-use Rattle.std.proofs.Common.{ℕ, ◌+◌, ◌<◌, inr, Bool, true, false, List, refl, sym, ap, subst, arith}
+use Rattle.std.proofs.Common.{◌≢◌, ℕ, ◌+◌, ◌<◌, inr, Bool, true, false, List, refl, sym, ap, subst, arith}
 use Rattle.std.specs.Prelude.{Option, Some, None, if◌then◌else◌}
 use Rattle.std.proofs.lemmas.List.{append-nil}
 use Rattle.au_base.specs.Limits.{INSTANCES}
@@ -11,6 +11,7 @@ use Rattle.au_entries.specs.declared.trail_record.Record.{Record}
 use Rattle.au_entries.specs.Changing.{changed}
 use Rattle.au_entries.specs.Lawful.{IsWhole}
 use Rattle.au_replay.specs.Reading.{conditions}
+use Rattle.au_ruling.specs.Sound.{IsTimelyPurge}
 use Rattle.rec_codec.specs.declared.frame.Frame.{Frame}
 use Rattle.rec_codec.specs.Changes.{change}
 use Rattle.rec_codec.specs.Frames.{IsSpellable, body}
@@ -21,32 +22,32 @@ use Rattle.au_step.specs.Returning.{LeadsTo, start_frame}
 use Rattle.au_step.specs.Sound.{HoldsOfSteps}
 use Rattle.au_step.specs.descent.SoundSteps.{CanBeKept, IsSoundStep}
 use Rattle.au_step.specs.State.{IsStampOf, State, start}
-use Rattle.au_step.specs.Step.{Logged, is_idle}
-use Rattle.au_step.proofs.KeptLawful.{event_at, event_written, leads_at, stamp_written}
+use Rattle.au_step.specs.Step.{Logged, all_changes, is_idle}
+use Rattle.au_step.proofs.KeptLawful.{frame_at, frame_written, leads_at, stamp_written}
 
 -- ---- the frame of a step
 
 pub step_leads : HoldsOfSteps IsSoundStep → (m n : State) (client : ClientNo) (ask : Ask) (stamp : ℕ) (frame : Option Frame) → IsFrameOf m client ask stamp n frame → IsText ask → IsLawfulState m → IsStampOf m stamp
-    → EndsWell m.kept → LeadsTo m.kept frame n.kept
-step_leads sound m n client ask stamp frame (reply, logged, step, is) text lawful stamped ends =
-    let h = sound m n client ask stamp reply logged lawful ends stamped text step in
+    → EndsWell m.kept → client.0 ≢ 0 → LeadsTo m.kept frame n.kept
+step_leads sound m n client ask stamp frame (reply, logged, step, is) text lawful stamped ends other =
+    let h = sound m n client ask stamp reply logged lawful ends stamped text other step in
     subst (λ (f : Option Frame). LeadsTo m.kept f n.kept) (sym is)
-    (subst (λ (k : Kept). LeadsTo m.kept (if is_idle logged.changes logged.records then None else Some (event_at stamp logged.changes logged.records)) k) (sym h.kept)
-    (leads_at m.kept stamp logged.changes logged.records (is_idle logged.changes logged.records) refl h.can))
+    (subst (λ (k : Kept). LeadsTo m.kept (if is_idle logged then None else Some (frame_at stamp logged)) k) (sym h.kept)
+    (leads_at m.kept stamp logged (is_idle logged) refl h.can))
 
 pub step_ends : HoldsOfSteps IsSoundStep → (m n : State) (client : ClientNo) (ask : Ask) (stamp : ℕ) (frame : Option Frame) → IsFrameOf m client ask stamp n frame → IsText ask → IsLawfulState m → IsStampOf m stamp
-    → EndsWell m.kept → EndsWell n.kept
-step_ends sound m n client ask stamp frame (reply, logged, step, is) text lawful stamped ends = (sound m n client ask stamp reply logged lawful ends stamped text step).ends
+    → EndsWell m.kept → client.0 ≢ 0 → EndsWell n.kept
+step_ends sound m n client ask stamp frame (reply, logged, step, is) text lawful stamped ends other = (sound m n client ask stamp reply logged lawful ends stamped text other step).ends
 
-writable_at : (kept : Kept) (stamp : ℕ) (logged : Logged) (idle : Bool) → CanBeKept kept stamp logged.changes logged.records → IsWritable (if idle then None else Some (event_at stamp logged.changes logged.records))
-writable_at kept stamp logged true can = tt
-writable_at kept stamp logged false can = event_written kept stamp logged.changes logged.records can
+writable_at : (kept : Kept) (stamp : ℕ) (logged : Logged) (idle : Bool) → IsTimelyPurge logged.purge → CanBeKept kept stamp (all_changes logged) logged.records → IsWritable (if idle then None else Some (frame_at stamp logged))
+writable_at kept stamp logged true timely can = tt
+writable_at kept stamp logged false timely can = frame_written kept stamp logged.purge (all_changes logged) logged.records timely can
 
 pub step_writable : HoldsOfSteps IsSoundStep → (m n : State) (client : ClientNo) (ask : Ask) (stamp : ℕ) (frame : Option Frame) → IsFrameOf m client ask stamp n frame → IsText ask → IsLawfulState m → IsStampOf m stamp
-    → EndsWell m.kept → IsWritable frame
-step_writable sound m n client ask stamp frame (reply, logged, step, is) text lawful stamped ends =
-    let h = sound m n client ask stamp reply logged lawful ends stamped text step in
-    subst (λ (f : Option Frame). IsWritable f) (sym is) (writable_at m.kept stamp logged (is_idle logged.changes logged.records) h.can)
+    → EndsWell m.kept → client.0 ≢ 0 → IsWritable frame
+step_writable sound m n client ask stamp frame (reply, logged, step, is) text lawful stamped ends other =
+    let h = sound m n client ask stamp reply logged lawful ends stamped text other step in
+    subst (λ (f : Option Frame). IsWritable f) (sym is) (writable_at m.kept stamp logged (is_idle logged) h.timely h.can)
 
 -- ---- the event with which an instance begins
 

@@ -1,5 +1,5 @@
 -- The step of a logon is lawful.
-use Rattle.std.proofs.Common.{◌≡◌, ℕ, ◌≤◌, ◌<◌, ◌+◌, ◌*◌, Bool, true, false, ◌==◌, List, [], ◌∷◌, ◌++◌, length, refl, sym, ap, subst, arith}
+use Rattle.std.proofs.Common.{◌≡◌, ◌≢◌, ◌∙◌, ℕ, ◌≤◌, ◌<◌, ◌+◌, ◌*◌, Bool, true, false, ◌==◌, [], ◌∷◌, ◌++◌, length, refl, sym, ap, subst, arith}
 use Rattle.std.specs.Prelude.{IsTrue, MatchBool, nat_le, if◌then◌else◌}
 use Rattle.std.specs.List.{AllByRecursion}
 use Rattle.std.proofs.lemmas.Bool.{leb-false, or_parts}
@@ -14,19 +14,20 @@ use Rattle.au_base.specs.declared.reply.Reply.{Reply}
 use Rattle.au_catalog.specs.Settling.{catalog_of}
 use Rattle.au_entries.specs.declared.kept.Kept.{Kept}
 use Rattle.au_entries.specs.Replaying.{has_user}
+use Rattle.au_kept.specs.Keeping.{HoldsTogether}
 use Rattle.au_logon.specs.declared.admission.Admission.{Admission}
 use Rattle.au_logon.specs.Admitting.{IsLocal}
 use Rattle.au_recording.specs.declared.left.Left.{Left}
 use Rattle.au_recording.specs.Writing.{CanBeRecorded}
-use Rattle.au_step.specs.declared.session.Session.{Session}
-use Rattle.au_step.specs.Lawful.{IsLawfulSession}
+use Rattle.au_step.specs.Lawful.{IsLawfulSession, IsLawfulState, desk_in}
 use Rattle.au_step.specs.State.{State}
-use Rattle.au_step.specs.Step.{AdmittedStep, CodeStep, Logged, OpensStep, after_logon, is_crowded, kept_after, logon_left, logon_number, logon_place, new_session, next_number, recorded}
-use Rattle.au_step.proofs.Given.{OfAdmission, OfRecords}
+use Rattle.au_step.specs.Step.{AdmittedStep, CodeStep, Logged, OpensStep, after_logon, is_crowded, kept_after, logon_left, logon_number, logon_place, new_session, next_number, opened, recorded, sessions_after_logon, transaction_of}
+use Rattle.au_step.proofs.Desks.{desk_tells, desk_with, joined_same}
+use Rattle.au_step.proofs.Given.{OfAdmission, OfRecords, OfTransactions}
 use Rattle.au_step.proofs.Places.{policies_named}
-use Rattle.au_step.proofs.Seats.{joined_lawful}
-use Rattle.au_step.proofs.Statements.{IsLeftSound, event_sound}
-use Rattle.au_step.proofs.Stepping.{IsLawfulStep, IsReady, at_outcome, can_record, code_lawful}
+use Rattle.au_step.proofs.Recorded.{IsLeftSound, event_sound}
+use Rattle.au_step.proofs.Seats.{IsLawfulSeat, IsOther, joined_all, seats_stay}
+use Rattle.au_step.proofs.Stepping.{IsLawfulStep, IsReady, at_outcome, code_lawful, recorded_step}
 
 -- ---- the number of the session
 
@@ -72,7 +73,7 @@ logon_sound records m stamp admission of ready =
 
 -- the session that begins
 new_lawful : (m : State) (client : ClientNo) (stamp : ℕ) (admission : Admission) (left : Left) → admission.code ≡ DONE → OfAdmission m.kept (is_crowded m) admission → IsReady m stamp → IsLeftSound left
-    → IsLawfulSession (kept_after m.kept stamp [] left.records) (new_session m client admission left)
+    → IsLawfulSession (kept_after m.kept stamp (recorded left)) (new_session m client admission left)
 new_lawful m client stamp admission left done of ready is = record {
   user = of.named;
   there = of.there done;
@@ -81,50 +82,57 @@ new_lawful m client stamp admission left done of ready is = record {
   results = is.ordered.session;
 }
 
--- the sessions after a step that leaves what is kept but for its records
-pub seats_stay : (m : State) (stamp : ℕ) (left : Left) (sessions : List Session) → AllByRecursion (IsLawfulSession m.kept) sessions
-    → AllByRecursion (IsLawfulSession (kept_after m.kept stamp [] left.records)) sessions
-seats_stay m stamp left [] all = tt
-seats_stay m stamp left (s ∷ sessions) all =
-    (record { user = all.0.user; there = all.0.there; some = all.0.some; number = all.0.number; results = all.0.results }, seats_stay m stamp left sessions all.1)
-
 logon_seats : (m : State) (client : ClientNo) (stamp : ℕ) (admission : Admission) (left : Left) (admitted : Bool) → (admission.code.0 == 0) ≡ admitted → OfAdmission m.kept (is_crowded m) admission
     → IsReady m stamp → IsLeftSound left
-    → AllByRecursion (IsLawfulSession (kept_after m.kept stamp [] left.records)) (if admitted then m.sessions ++ new_session m client admission left ∷ [] else m.sessions)
+    → AllByRecursion (IsLawfulSeat (kept_after m.kept stamp (recorded left))) (if admitted then m.sessions ++ opened (new_session m client admission left) ∷ [] else m.sessions)
 logon_seats m client stamp admission left true is of ready sound =
-    joined_lawful (kept_after m.kept stamp [] left.records) (new_session m client admission left) m.sessions (seats_stay m stamp left m.sessions ready.lawful.sessions)
+    joined_all (IsLawfulSeat (kept_after m.kept stamp (recorded left))) (opened (new_session m client admission left)) m.sessions
+    (seats_stay m.kept (kept_after m.kept stamp (recorded left)) m.sessions (λ who there. there) ready.lawful.sessions)
     (new_lawful m client stamp admission left (done_code admission.code is) of ready sound)
-logon_seats m client stamp admission left false is of ready sound = seats_stay m stamp left m.sessions ready.lawful.sessions
+logon_seats m client stamp admission left false is of ready sound =
+    seats_stay m.kept (kept_after m.kept stamp (recorded left)) m.sessions (λ who there. there) ready.lawful.sessions
+
+logon_clients : (m : State) (client : ClientNo) (admission : Admission) (left : Left) (admitted : Bool) → client.0 ≢ 0 → AllByRecursion IsOther m.sessions
+    → AllByRecursion IsOther (if admitted then m.sessions ++ opened (new_session m client admission left) ∷ [] else m.sessions)
+logon_clients m client admission left true other all = joined_all IsOther (opened (new_session m client admission left)) m.sessions all other
+logon_clients m client admission left false other all = all
 
 logon_drawn : (m : State) (stamp : ℕ) (admission : Admission) (admitted : Bool) → (admission.code.0 == 0) ≡ admitted → OfAdmission m.kept (is_crowded m) admission → IsReady m stamp
     → (if admitted then m.drawn + 1 else m.drawn) ≤ INSTANCE_SESSIONS
-logon_drawn m stamp admission true is of ready = let more = not_drawn m (of.open_to (done_code admission.code is)) in omega arith
+logon_drawn m stamp admission true is of ready = let more = not_drawn m (of.open_to (done_code admission.code is)) in omega (arith, more)
 logon_drawn m stamp admission false is of ready = ready.lawful.drawn
 
-logon_at : (m : State) (client : ClientNo) (stamp : ℕ) (admission : Admission) (left : Left) → OfAdmission m.kept (is_crowded m) admission → IsReady m stamp → IsLeftSound left
-    → IsLawfulStep m stamp (recorded left) (after_logon m client stamp admission left)
-logon_at m client stamp admission left of ready sound = record {
-  can = can_record m stamp left.records ready sound.told sound.few;
-  rowless = tt;
-  free = λ desk quiet. tt;
-  kept = refl;
-  sessions = logon_seats m client stamp admission left (admission.code.0 == 0) refl of ready sound;
-  drawn = logon_drawn m stamp admission (admission.code.0 == 0) refl of ready;
-  results = sound.ordered.instance;
-}
+-- no transaction is another
+logon_same : (m : State) (client : ClientNo) (admission : Admission) (left : Left) (admitted : Bool) (other : ClientNo)
+    → transaction_of (if admitted then m.sessions ++ opened (new_session m client admission left) ∷ [] else m.sessions) other ≡ transaction_of m.sessions other
+logon_same m client admission left true other = joined_same (new_session m client admission left) m.sessions other
+logon_same m client admission left false other = refl
 
-admitted_lawful : OfRecords → (m : State) (client : ClientNo) (stamp : ℕ) (admission : Admission) (reply : Reply) (logged : Logged) (n : State)
-    → AdmittedStep m client stamp admission reply logged n → OfAdmission m.kept (is_crowded m) admission → IsReady m stamp → IsLawfulStep m stamp logged n
-admitted_lawful records m client stamp admission reply logged n step of ready =
+logon_holds : OfTransactions → (m : State) (client : ClientNo) (admission : Admission) (left : Left) → IsLawfulState m → HoldsTogether m.kept (desk_with m.kept (sessions_after_logon m client admission left))
+logon_holds transactions m client admission left lawful =
+    transactions.same m.kept (desk_in m) (desk_with m.kept (sessions_after_logon m client admission left)) lawful.transactions refl refl (λ other.
+    desk_tells m.kept (sessions_after_logon m client admission left) other ∙ logon_same m client admission left (admission.code.0 == 0) other ∙ sym (desk_tells m.kept m.sessions other))
+
+logon_at : OfTransactions → (m : State) (client : ClientNo) (stamp : ℕ) (admission : Admission) (left : Left) → OfAdmission m.kept (is_crowded m) admission → IsReady m stamp → client.0 ≢ 0 → IsLeftSound left
+    → IsLawfulStep m stamp (recorded left) (after_logon m client stamp admission left)
+logon_at transactions m client stamp admission left of ready other sound =
+    recorded_step transactions m (after_logon m client stamp admission left) stamp left ready sound.told sound.few refl (logon_holds transactions m client admission left ready.lawful)
+    (logon_seats m client stamp admission left (admission.code.0 == 0) refl of ready sound)
+    (logon_clients m client admission left (admission.code.0 == 0) other ready.lawful.clients)
+    (logon_drawn m stamp admission (admission.code.0 == 0) refl of ready) sound.ordered.instance
+
+admitted_lawful : OfRecords → OfTransactions → (m : State) (client : ClientNo) (stamp : ℕ) (admission : Admission) (reply : Reply) (logged : Logged) (n : State)
+    → AdmittedStep m client stamp admission reply logged n → OfAdmission m.kept (is_crowded m) admission → IsReady m stamp → client.0 ≢ 0 → IsLawfulStep m stamp logged n
+admitted_lawful records transactions m client stamp admission reply logged n step of ready other =
     let left = logon_left m stamp admission in
     at_outcome m stamp logged (recorded left) n (after_logon m client stamp admission left) step.logs step.next
-    (logon_at m client stamp admission left of ready (logon_sound records m stamp admission of ready))
+    (logon_at transactions m client stamp admission left of ready other (logon_sound records m stamp admission of ready))
 
 -- the step of a logon that is decided so, where the client has a session or none
-pub logon_lawful : OfRecords → (Is : Admission → Type 0) (m : State) (client : ClientNo) (stamp : ℕ) (reply : Reply) (logged : Logged) (n : State) (stands : Bool)
+pub logon_lawful : OfRecords → OfTransactions → (Is : Admission → Type 0) (m : State) (client : ClientNo) (stamp : ℕ) (reply : Reply) (logged : Logged) (n : State) (stands : Bool)
     → ((admission : Admission) → Is admission → OfAdmission m.kept (is_crowded m) admission)
     → MatchBool stands (CodeStep m SESSION_PRESENT reply logged n) (OpensStep Is m client stamp reply logged n)
-    → IsReady m stamp → IsLawfulStep m stamp logged n
-logon_lawful records Is m client stamp reply logged n true of step ready = code_lawful m SESSION_PRESENT stamp reply logged n step ready
-logon_lawful records Is m client stamp reply logged n false of step ready =
-    admitted_lawful records m client stamp step.0 reply logged n step.2 (of step.0 step.1) ready
+    → IsReady m stamp → client.0 ≢ 0 → IsLawfulStep m stamp logged n
+logon_lawful records transactions Is m client stamp reply logged n true of step ready other = code_lawful m SESSION_PRESENT stamp reply logged n step ready
+logon_lawful records transactions Is m client stamp reply logged n false of step ready other =
+    admitted_lawful records transactions m client stamp step.0 reply logged n step.2 (of step.0 step.1) ready other

@@ -1,5 +1,5 @@
 -- What a step and a run come to is one.
-use Rattle.std.proofs.Common.{◌≡◌, ◌∙◌, ℕ, Bool, true, false, List, [], ◌∷◌, refl, sym, ap, subst, inl, inr}
+use Rattle.std.proofs.Common.{◌≡◌, ◌∙◌, ℕ, Bool, true, false, List, [], ◌∷◌, map, refl, sym, ap, ap₂, subst, inl, inr}
 use Rattle.std.specs.Prelude.{Option, Some, None, MatchBool, MatchOption, is_some}
 use Rattle.au_base.specs.declared.ask.Ask.{Ask}
 use Rattle.au_base.specs.declared.ask.Ask.TheVariants.{Local, Logon, Sql, Logoff}
@@ -10,15 +10,16 @@ use Rattle.au_base.specs.Codes.{NOT_LOGGED_ON, SESSION_PRESENT}
 use Rattle.au_logon.specs.declared.admission.Admission.{Admission}
 use Rattle.au_logon.specs.Admitting.{Admits, IsLocal}
 use Rattle.au_ruling.specs.declared.ruling.Ruling.{Ruling}
-use Rattle.au_ruling.specs.Kinds.{is_built}
+use Rattle.au_ruling.specs.Kinds.{commits}
 use Rattle.au_ruling.specs.Rulings.{code_reply}
+use Rattle.au_txn.specs.declared.finals.Final.{Final}
+use Rattle.au_txn.specs.Rows.{of_triple}
 use Rattle.sql_ast.specs.declared.statement.Statement.{Statement}
 use Rattle.au_step.specs.declared.session.Session.{Session}
-use Rattle.au_step.specs.Reading.{IsUnbuilt, ReadsBuilt, not_built, unread}
 use Rattle.au_step.specs.Abandoning.{abandoned}
 use Rattle.au_step.specs.Runs.{Happening, Run, asks, ends}
-use Rattle.au_step.specs.State.{State, stamp_of}
-use Rattle.au_step.specs.Step.{AdmittedStep, CodeStep, EndStep, Logged, LoggedStep, OpensStep, ReadStep, SessionStep, StatementStep, StepAt, UnreadStep, after_statement, ground_of, is_crowded, session_of, statement_left, statement_logged}
+use Rattle.au_step.specs.State.{OpenSession, State, stamp_of}
+use Rattle.au_step.specs.Step.{AdmittedStep, AreFinalsOf, CodeStep, EndStep, Logged, LoggedStep, OpensStep, ReadStep, SessionStep, StatementStep, StepAt, UnreadStep, after_statement, decided_in, ground_of, is_crowded, session_of, statement_left, statement_logged, transaction_of}
 use Rattle.au_step.proofs.Given.{OneEach}
 
 -- both come to the same
@@ -29,51 +30,50 @@ Same a b l o n k = (a ≡ b) × (l ≡ o) × (n ≡ k)
 one_code : (m n k : State) (x y : Code) (a b : Reply) (l o : Logged) → x ≡ y → CodeStep m x a l n → CodeStep m y b o k → Same a b l o n k
 one_code m n k x y a b l o same s t = (s.replies ∙ ap code_reply same ∙ sym t.replies, s.logs ∙ sym t.logs, s.same ∙ sym t.same)
 
+-- what becomes of the client's rows
+one_finals : OneEach → (m : State) (client : ClientNo) (first : Bool) (a b : List Final) → AreFinalsOf first m client a → AreFinalsOf first m client b → a ≡ b
+one_finals one m client true a b s t = one.finals (map of_triple m.kept.rows) (transaction_of m.sessions client) a b s t
+one_finals one m client false a b s t = s ∙ sym t
+
 -- a statement
+module _ (m : State) (session : Session) (x : Statement) (text : List ℕ) (stamp : ℕ) where
+  -- what it leaves, and the state after it, by what becomes of the rows and what it comes to
+  abbrev leaves : List Final → Ruling → Logged
+  leaves finals r = statement_logged x session finals r (statement_left (decided_in m session.client x) session stamp x text r)
+
+  abbrev goes_to : Ruling → Logged → State
+  goes_to r logged = after_statement (decided_in m session.client x) session stamp r (statement_left (decided_in m session.client x) session stamp x text r) logged
+
+  one_comes : OneEach → (n k : State) (a b : Reply) (l o : Logged) → StatementStep m session x text stamp a l n → StatementStep m session x text stamp b o k → Same a b l o n k
+  one_comes one n k a b l o s t =
+      let same : s.ruling ≡ t.ruling = one.ruling (ground_of (decided_in m session.client x) session x stamp) x s.ruling t.ruling s.comes t.comes in
+      let rows : s.finals ≡ t.finals = one_finals one m session.client (commits x) s.finals t.finals s.are_finals t.are_finals in
+      let leave : l ≡ o = s.logs ∙ ap₂ leaves rows same ∙ sym t.logs in
+      (s.replies ∙ ap (λ (r : Ruling). r.reply) same ∙ sym t.replies, leave, s.next ∙ ap₂ goes_to same leave ∙ sym t.next)
+
 one_statement : OneEach → (m n k : State) (session : Session) (x y : Statement) (text : List ℕ) (stamp : ℕ) (a b : Reply) (l o : Logged) → x ≡ y
     → StatementStep m session x text stamp a l n → StatementStep m session y text stamp b o k → Same a b l o n k
 one_statement one m n k session x y text stamp a b l o is s t =
-    let other : StatementStep m session y text stamp a l n = subst (λ (z : Statement). StatementStep m session z text stamp a l n) is s in
-    let same : other.ruling ≡ t.ruling = one.ruling (ground_of m session stamp) y other.ruling t.ruling other.comes t.comes in (
-      other.replies ∙ ap (λ (r : Ruling). r.reply) same ∙ sym t.replies,
-      other.logs ∙ ap (λ (r : Ruling). statement_logged r (statement_left m session stamp y text r)) same ∙ sym t.logs,
-      other.next ∙ ap (λ (r : Ruling). after_statement m session stamp r (statement_left m session stamp y text r)) same ∙ sym t.next,
-    )
+    one_comes m session y text stamp one n k a b l o (subst (λ (z : Statement). StatementStep m session z text stamp a l n) is s) t
 
 one_read : OneEach → (m n k : State) (session : Session) (text : List ℕ) (stamp : ℕ) (a b : Reply) (l o : Logged) → ReadStep m session text stamp a l n → ReadStep m session text stamp b o k → Same a b l o n k
 one_read one m n k session text stamp a b l o s t =
     one_statement one m n k session s.statement t.statement text stamp a b l o (one.statement text s.statement t.statement s.reads.reads t.reads.reads) s.step t.step
 
--- a statement that is built isn't one that isn't
-true_false : (b : Bool) → b ≡ true → b ≡ false → ⊥
-true_false true set clear = absurd (let e : true ≡ false = clear in cc)
-true_false false set clear = absurd (let e : false ≡ true = set in cc)
-
-built_apart : OneEach → (text : List ℕ) (x : Statement) (code : Code) → ReadsBuilt text x → IsUnbuilt text code → ⊥
-built_apart one text x code r (unread u) = one.apart text x code r.reads u
-built_apart one text x code r (not_built {statement = y} reads none) =
-    true_false (is_built y) (sym (ap (λ (z : Statement). is_built z) (one.statement text x y r.reads reads)) ∙ r.built) none
-
-one_unbuilt : OneEach → (text : List ℕ) (a b : Code) → IsUnbuilt text a → IsUnbuilt text b → a ≡ b
-one_unbuilt one text a b (unread u) (unread v) = one.code text a b u v
-one_unbuilt one text a b (unread u) (not_built {statement = x} reads none) = absurd (one.apart text x a reads u)
-one_unbuilt one text a b (not_built {statement = x} reads none) (unread v) = absurd (one.apart text x b reads v)
-one_unbuilt one text a b (not_built reads none) (not_built also nor) = refl
-
 one_unread : OneEach → (m n k : State) (text : List ℕ) (a b : Reply) (l o : Logged) → UnreadStep m text a l n → UnreadStep m text b o k → Same a b l o n k
-one_unread one m n k text a b l o s t = one_code m n k s.0 t.0 a b l o (one_unbuilt one text s.0 t.0 s.1 t.1) s.2 t.2
+one_unread one m n k text a b l o s t = one_code m n k s.0 t.0 a b l o (one.code text s.0 t.0 s.1 t.1) s.2 t.2
 
 one_text : OneEach → (m n k : State) (session : Session) (text : List ℕ) (stamp : ℕ) (a b : Reply) (l o : Logged) → SessionStep m session text stamp a l n → SessionStep m session text stamp b o k → Same a b l o n k
 one_text one m n k session text stamp a b l o (inl s) (inl t) = one_read one m n k session text stamp a b l o s t
-one_text one m n k session text stamp a b l o (inl s) (inr t) = absurd (built_apart one text s.statement t.0 s.reads t.1)
-one_text one m n k session text stamp a b l o (inr s) (inl t) = absurd (built_apart one text t.statement s.0 t.reads s.1)
+one_text one m n k session text stamp a b l o (inl s) (inr t) = absurd (one.apart text s.statement t.0 s.reads.reads t.1)
+one_text one m n k session text stamp a b l o (inr s) (inl t) = absurd (one.apart text t.statement s.0 t.reads.reads s.1)
 one_text one m n k session text stamp a b l o (inr s) (inr t) = one_unread one m n k text a b l o s t
 
-one_sql : OneEach → (m n k : State) (found : Option Session) (text : List ℕ) (stamp : ℕ) (a b : Reply) (l o : Logged)
-    → MatchOption found (CodeStep m NOT_LOGGED_ON a l n) (λ session. SessionStep m session text stamp a l n)
-    → MatchOption found (CodeStep m NOT_LOGGED_ON b o k) (λ session. SessionStep m session text stamp b o k) → Same a b l o n k
+one_sql : OneEach → (m n k : State) (found : Option OpenSession) (text : List ℕ) (stamp : ℕ) (a b : Reply) (l o : Logged)
+    → MatchOption found (CodeStep m NOT_LOGGED_ON a l n) (λ seat. SessionStep m seat.session text stamp a l n)
+    → MatchOption found (CodeStep m NOT_LOGGED_ON b o k) (λ seat. SessionStep m seat.session text stamp b o k) → Same a b l o n k
 one_sql one m n k None text stamp a b l o s t = one_code m n k NOT_LOGGED_ON NOT_LOGGED_ON a b l o refl s t
-one_sql one m n k (Some session) text stamp a b l o s t = one_text one m n k session text stamp a b l o s t
+one_sql one m n k (Some seat) text stamp a b l o s t = one_text one m n k seat.session text stamp a b l o s t
 
 -- a logon
 one_admitted : (m n k : State) (client : ClientNo) (stamp : ℕ) (x y : Admission) (a b : Reply) (l o : Logged) → x ≡ y
@@ -89,11 +89,11 @@ one_logon Is only m n k client stamp a b l o true s t = one_code m n k SESSION_P
 one_logon Is only m n k client stamp a b l o false s t = one_admitted m n k client stamp s.0 t.0 a b l o (only s.0 t.0 s.1 t.1) s.2 t.2
 
 -- a logoff
-one_logoff : (m n k : State) (found : Option Session) (client : ClientNo) (stamp : ℕ) (a b : Reply) (l o : Logged)
-    → MatchOption found (CodeStep m NOT_LOGGED_ON a l n) (λ session. EndStep m session client stamp a l n)
-    → MatchOption found (CodeStep m NOT_LOGGED_ON b o k) (λ session. EndStep m session client stamp b o k) → Same a b l o n k
+one_logoff : (m n k : State) (found : Option OpenSession) (client : ClientNo) (stamp : ℕ) (a b : Reply) (l o : Logged)
+    → MatchOption found (CodeStep m NOT_LOGGED_ON a l n) (λ seat. EndStep m seat.session client stamp a l n)
+    → MatchOption found (CodeStep m NOT_LOGGED_ON b o k) (λ seat. EndStep m seat.session client stamp b o k) → Same a b l o n k
 one_logoff m n k None client stamp a b l o s t = one_code m n k NOT_LOGGED_ON NOT_LOGGED_ON a b l o refl s t
-one_logoff m n k (Some session) client stamp a b l o s t = (s.replies ∙ sym t.replies, s.logs ∙ sym t.logs, s.next ∙ sym t.next)
+one_logoff m n k (Some seat) client stamp a b l o s t = (s.replies ∙ sym t.replies, s.logs ∙ sym t.logs, s.next ∙ sym t.next)
 
 one_local : (crowded : Bool) (x y : Admission) → IsLocal crowded x → IsLocal crowded y → x ≡ y
 one_local crowded x y s t = s ∙ sym t

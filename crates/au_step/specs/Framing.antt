@@ -3,18 +3,25 @@ use Rattle.std.specs.Prelude.{◌≡◌, ⊤, ℕ, IsUtf8, List, if◌then◌els
 use Rattle.au_base.specs.declared.ask.Ask.{Ask}
 use Rattle.au_base.specs.declared.ask.Ask.TheVariants.{Local, Logon, Sql, Logoff}
 use Rattle.au_base.specs.declared.numbers.ClientNo.{ClientNo}
+use Rattle.au_base.specs.declared.numbers.Stamp.{Stamp}
 use Rattle.au_base.specs.declared.reply.Reply.{Reply}
+use Rattle.au_entries.specs.declared.change.Change.{Change}
 use Rattle.au_entries.specs.declared.trail_record.Record.{Record}
 use Rattle.rec_codec.specs.declared.frame.Frame.{Frame}
 use Rattle.rec_codec.specs.declared.frame.Frame.TheVariants.{Image, Event, Purge}
 use Rattle.rec_codec.specs.Frames.{IsSpellable, framed}
 use Rattle.au_step.specs.State.{State}
-use Rattle.au_step.specs.Step.{Logged, LoggedStep, is_idle}
+use Rattle.au_step.specs.Step.{Logged, LoggedStep, all_changes, is_idle}
 
--- the event at this stamp with the changes and the records; none where there are neither
+-- an event or, where it purges, a purge
+abbrev pub frame_by : Option (Option Stamp) → Stamp → List Change → List Record → Frame
+frame_by None stamp changes records = Event stamp changes records
+frame_by (Some before) stamp changes records = Purge stamp before changes records
+
+-- the frame at this stamp with the changes, the purge and the records; none where there is none of them
 abbrev pub event_of : ℕ → Logged → Option Frame
 event_of stamp logged =
-    if is_idle logged.changes logged.records then None else Some (Event (record { 0 = stamp }) logged.changes logged.records)
+    if is_idle logged then None else Some (frame_by logged.purge (record { 0 = stamp }) (all_changes logged) logged.records)
 
 -- the step of the client's ask at this stamp, which takes the state from m to n, writes the frame, or none
 abbrev pub IsFrameOf : State → ClientNo → Ask → ℕ → State → Option Frame → Type 0

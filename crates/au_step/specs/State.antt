@@ -3,12 +3,19 @@ use Rattle.std.specs.Prelude.{◌≡◌, ℕ, ◌+◌, min, max, Bool, List, []}
 use Rattle.au_base.specs.Limits.{LAST_MOMENT}
 use Rattle.au_entries.specs.declared.kept.Kept.{Kept}
 use Rattle.au_step.specs.declared.session.Session.{Session}
+use Rattle.au_txn.specs.declared.change.RowChange.{RowChange}
+
+-- A client that is logged on: its session, and its transaction, which is the changes of rows that it has made and not
+-- committed, in their order.
+pub record OpenSession : Type 0 where
+  pub session : Session
+  pub transaction : List RowChange
 
 -- what outlives the instance, the sessions, how many sessions the instance has drawn, and the results that are kept of
 -- conditions that are evaluated once an instance
 pub record State : Type 0 where
   pub kept : Kept
-  pub sessions : List Session
+  pub sessions : List OpenSession
   pub drawn : ℕ
   pub results : List (List ℕ × Bool)
 

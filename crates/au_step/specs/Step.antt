@@ -1,8 +1,8 @@
 -- One step: what an ask is answered, and what becomes of the state.
-use Rattle.std.specs.Prelude.{◌≡◌, ◌⊎◌, ℕ, ◌+◌, ◌*◌, min, Bool, true, false, ◌||◌, ◌==◌, nat_le, List, [], ◌∷◌, ◌++◌, length, map, find, is_some, if◌then◌else◌, MatchBool, Option, Some, None, MatchOption}
+use Rattle.std.specs.Prelude.{◌≡◌, ◌⊎◌, ℕ, ◌+◌, ◌*◌, min, Bool, true, false, ◌||◌, ◌==◌, nat_le, List, [], ◌∷◌, ◌++◌, length, map, filter, find, flat_map, is_some, if◌then◌else◌, MatchBool, Option, Some, None, MatchOption}
 use Rattle.au_audit.specs.declared.place.Place.{Place}
 use Rattle.au_audit.specs.Conditions.{forgetting}
-use Rattle.au_audit.specs.Statements.{logoff_facts, logon_facts, object_of, recorded_text, statement_facts}
+use Rattle.au_audit.specs.Statements.{logoff_facts, logon_facts, object_of, recorded_text, statement_facts, tables_of}
 use Rattle.au_base.specs.declared.ask.Ask.{Ask}
 use Rattle.au_base.specs.declared.ask.Ask.TheVariants.{Local, Logon, Sql, Logoff}
 use Rattle.au_base.specs.declared.code.Code.{Code}
@@ -12,6 +12,7 @@ use Rattle.au_base.specs.declared.numbers.ClientNo.{ClientNo}
 use Rattle.au_base.specs.declared.numbers.SessionNo.{SessionNo}
 use Rattle.au_base.specs.declared.numbers.Stamp.{Stamp}
 use Rattle.au_base.specs.declared.reply.Reply.{Reply}
+use Rattle.au_base.specs.declared.table.TableName.{TableName}
 use Rattle.au_catalog.specs.Settling.{catalog_of}
 use Rattle.au_entries.specs.declared.change.Change.{Change}
 use Rattle.au_entries.specs.declared.decision.Busy.{Busy}
@@ -20,32 +21,60 @@ use Rattle.au_entries.specs.declared.fine_grained.FgaName.{FgaName}
 use Rattle.au_entries.specs.declared.kept.Kept.{Kept}
 use Rattle.au_entries.specs.declared.results.KeptResults.{KeptResults}
 use Rattle.au_entries.specs.declared.trail_record.Record.{Record}
-use Rattle.au_entries.specs.Changing.{changed_all}
+use Rattle.au_entries.specs.Frames.{after_parts}
 use Rattle.au_expr.specs.Sessions as expressions
+use Rattle.au_kept.specs.Staging.{final_change}
 use Rattle.au_logon.specs.declared.admission.Admission.{Admission}
 use Rattle.au_logon.specs.Admitting.{Admits, IsLocal}
 use Rattle.au_recording.specs.declared.left.Left.{Left}
 use Rattle.au_recording.specs.Recording.{left_by}
 use Rattle.au_replay.specs.Reading.{conditions}
 use Rattle.au_ruling.specs.declared.ruling.Ruling.{Ruling}
+use Rattle.au_ruling.specs.Kinds.{commits}
 use Rattle.au_ruling.specs.Rulings.{Comes, Ground, code_reply}
 use Rattle.sql_ast.specs.declared.statement.Statement.{Statement}
 use Rattle.au_step.specs.declared.session.Session.{Session}
 use Rattle.au_step.specs.Abandoning.{sessions_without}
-use Rattle.au_step.specs.Reading.{ReadsBuilt, IsUnbuilt}
-use Rattle.au_step.specs.State.{State, stamp_of}
+use Rattle.au_step.specs.Reading.{ReadsSoundly}
+use Rattle.au_step.specs.State.{OpenSession, State, stamp_of}
+use Rattle.au_txn.specs.declared.change.RowChange.{RowChange}
+use Rattle.au_txn.specs.declared.finals.Final.{Final}
+use Rattle.au_txn.specs.Finals.{AreFinals}
+use Rattle.au_txn.specs.Rows.{of_triple, triple_of}
+use Rattle.au_txn.specs.Transactions.{laid_over, names_table}
+use Rattle.sql_parse.specs.Statements.{IsUnread}
 
--- what a step leaves to be kept: its changes in the order in which they happen, and its records
+-- What a step leaves to be kept: what becomes of the rows of the client that commits, where one does; its other changes, in
+-- the order in which they happen; which records it purges, where it does; and its own records.
 pub record Logged : Type 0 where
+  pub commits : Option ClientNo
+  pub rows : List Change
   pub changes : List Change
+  pub purge : Option (Option Stamp)
   pub records : List Record
 
 abbrev pub nothing_logged : Logged
-nothing_logged = record { changes = []; records = [] }
+nothing_logged = record { commits = None; rows = []; changes = []; purge = None; records = [] }
 
--- the client's session, where it has one
-abbrev pub session_of : List Session → ClientNo → Option Session
-session_of sessions client = find (λ session. session.client.0 == client.0) sessions
+-- a step that changes nothing leaves its records
+abbrev pub recorded : Left → Logged
+recorded left = record { commits = None; rows = []; changes = []; purge = None; records = left.records }
+
+-- all its changes: those of rows that it commits come first
+abbrev pub all_changes : Logged → List Change
+all_changes logged = logged.rows ++ logged.changes
+
+-- the client's session and transaction, where it is logged on
+abbrev pub session_of : List OpenSession → ClientNo → Option OpenSession
+session_of sessions client = find (λ seat. seat.session.client.0 == client.0) sessions
+
+abbrev pub transaction_in : Option OpenSession → List RowChange
+transaction_in None = []
+transaction_in (Some seat) = seat.transaction
+
+-- the changes of rows that the client has made and not committed
+abbrev pub transaction_of : List OpenSession → ClientNo → List RowChange
+transaction_of sessions client = transaction_in (session_of sessions client)
 
 -- one more, up to the number at which the counts of a session stop
 abbrev pub counted : ℕ → ℕ
@@ -55,20 +84,23 @@ counted count = min (count + 1) SESSION_COUNT
 abbrev pub with_more : ℕ → ℕ → ℕ
 with_more count more = min (count + more) SESSION_COUNT
 
--- nothing was changed and nothing recorded
-abbrev pub is_idle : List Change → List Record → Bool
-is_idle [] [] = true
-is_idle _ _ = false
+-- nothing was changed, nothing purged and nothing recorded
+abbrev pub is_nothing : List Change → Option (Option Stamp) → List Record → Bool
+is_nothing [] None [] = true
+is_nothing _ _ _ = false
 
--- The last stamp, after these changes and records: it becomes the event's where there are some.
-abbrev pub last_after : Stamp → ℕ → List Change → List Record → Stamp
-last_after last stamp changes records = if is_idle changes records then last else record { 0 = stamp }
+abbrev pub is_idle : Logged → Bool
+is_idle logged = is_nothing (all_changes logged) logged.purge logged.records
 
--- what is kept after the changes, with the records at the trail's end
-abbrev pub kept_after : Kept → ℕ → List Change → List Record → Kept
-kept_after kept stamp changes records =
-    let next = changed_all conditions.tree changes kept in
-    record next { trail = kept.trail ++ records; last = last_after kept.last stamp changes records }
+-- The last stamp, after a step that leaves this: it becomes the event's where there is a change, a purge or a record.
+abbrev pub last_after : Stamp → ℕ → Logged → Stamp
+last_after last stamp logged = if is_idle logged then last else record { 0 = stamp }
+
+-- What is kept after a step that leaves this, once its client's transaction is committed, where it is: the changes are made,
+-- the records that are purged go, and its own follow at the trail's end.
+abbrev pub kept_after : Kept → ℕ → Logged → Kept
+kept_after kept stamp logged =
+    after_parts conditions.tree (last_after kept.last stamp logged) logged.purge logged.changes logged.records kept
 
 -- ---- what auditing leaves of an event
 
@@ -87,13 +119,45 @@ event_left m results facts place fired forgets =
 
 -- ---- statements
 
--- the users who have sessions; no table is busy, since no client has changes of rows
-abbrev pub busy_in : State → Busy
-busy_in m = record { connected = map (λ session. session.user) m.sessions; tables = [] }
+-- the session, with an empty transaction where it is the client's
+abbrev pub settled : ClientNo → OpenSession → OpenSession
+settled client seat = if seat.session.client.0 == client.0 then record seat { transaction = [] } else seat
+
+-- The state once the client's transaction is committed: its changes are laid over the committed rows, and its transaction is
+-- empty.
+abbrev pub committed : ClientNo → State → State
+committed client m = record m {
+  kept = record m.kept { rows = map triple_of (laid_over (map of_triple m.kept.rows) (transaction_of m.sessions client)) };
+  sessions = map (settled client) m.sessions;
+}
+
+-- the state in which the client's statement is decided: where it commits first, that after the commit
+abbrev pub decided_in : State → ClientNo → Statement → State
+decided_in m client statement = if commits statement then committed client m else m
+
+-- what becomes of the client's rows by the commit, where the statement commits first
+abbrev pub AreFinalsOf : Bool → State → ClientNo → List Final → Type 0
+AreFinalsOf true m client finals = AreFinals (map of_triple m.kept.rows) (transaction_of m.sessions client) finals
+AreFinalsOf false m client finals = finals ≡ []
+
+-- those of the tables in which the session has changes
+abbrev pub busy_of : List TableName → OpenSession → List (TableName × ClientNo)
+busy_of tables seat = map (λ table. (table, seat.session.client)) (filter (λ table. names_table table seat.transaction) tables)
+
+-- the users who have sessions; and of the tables that the user's statement names, in which of them which clients have changes
+abbrev pub busy_in : State → List ℕ → Statement → Busy
+busy_in m user statement =
+    record { connected = map (λ seat. seat.session.user) m.sessions; tables = flat_map (busy_of (tables_of user statement)) m.sessions }
 
 -- what a statement of the session is decided in
-abbrev pub ground_of : State → Session → ℕ → Ground
-ground_of m session stamp = record { kept = m.kept; busy = busy_in m; client = session.client; session = facts_at session.user session.number stamp }
+abbrev pub ground_of : State → Session → Statement → ℕ → Ground
+ground_of m session statement stamp = record {
+  kept = m.kept;
+  busy = busy_in m session.user statement;
+  client = session.client;
+  session = facts_at session.user session.number stamp;
+  transactions = transaction_of m.sessions;
+}
 
 -- where the records of a statement of the session stand, the statement being counted
 abbrev pub statement_place : Session → ℕ → Statement → List ℕ → Place
@@ -112,40 +176,63 @@ statement_left m session stamp statement text ruling =
     event_left m session.results (statement_facts session.user statement ruling.used ruling.code)
     (statement_place session stamp statement text) ruling.fired ruling.forgets
 
--- The client's session, with one more statement, so many more records and these results; any other session forgets the
--- results of these policies alone.
-abbrev pub session_after : ClientNo → ℕ → ℕ → List (List ℕ × Bool) → List (List ℕ) → Session → Session
-session_after client statements entries results forgets session =
-    if session.client.0 == client.0 then record session { statements = statements; entries = entries; results = results }
-    else record session { results = forgetting forgets session.results }
+-- the transaction after a statement that goes it on by these changes, or undoes it
+abbrev pub transaction_after : Ruling → List RowChange → List RowChange
+transaction_after ruling transaction = if ruling.undoes then [] else transaction ++ ruling.rows
 
--- The state after a statement of the session that came to this: the changes are made, the records follow at the trail's
--- end, the session counts them and the statement, and what is learnt and forgotten of conditions is kept.
-abbrev pub after_statement : State → Session → ℕ → Ruling → Left → State
-after_statement m session stamp ruling left = record m {
-  kept = kept_after m.kept stamp ruling.changes left.records;
-  sessions = map
-      (session_after session.client (counted session.statements) (with_more session.entries (length left.records)) left.results.session ruling.forgets)
-      m.sessions;
+-- the session with these counts and results
+abbrev pub counting : ℕ → ℕ → List (List ℕ × Bool) → Session → Session
+counting statements entries results session = record session { statements = statements; entries = entries; results = results }
+
+-- The client's session, with one more statement, so many more records and these results, and with its transaction after the
+-- statement; any other session forgets the results of the policies alone.
+abbrev pub session_after : Session → Ruling → Left → OpenSession → OpenSession
+session_after session ruling left seat =
+    if seat.session.client.0 == session.client.0
+    then record {
+      session = counting (counted session.statements) (with_more session.entries (length left.records)) left.results.session seat.session;
+      transaction = transaction_after ruling seat.transaction;
+    }
+    else record seat { session = record seat.session { results = forgetting ruling.forgets seat.session.results } }
+
+-- what a statement leaves to be kept, before which this becomes of the rows of its client, where it commits
+abbrev pub statement_logged : Statement → Session → List Final → Ruling → Left → Logged
+statement_logged statement session finals ruling left = record {
+  commits = if commits statement then Some session.client else None;
+  rows = map final_change finals;
+  changes = ruling.changes;
+  purge = ruling.purge;
+  records = left.records;
+}
+
+-- The state after a statement of the session that came to this in this state: what is kept is changed, the session counts
+-- the statement and its records, its transaction goes on or is undone, and what is learnt and forgotten of conditions is
+-- kept.
+abbrev pub after_statement : State → Session → ℕ → Ruling → Left → Logged → State
+after_statement m session stamp ruling left logged = record m {
+  kept = kept_after m.kept stamp logged;
+  sessions = map (session_after session ruling left) m.sessions;
   results = left.results.instance;
 }
 
--- what a statement leaves to be kept
-abbrev pub statement_logged : Ruling → Left → Logged
-statement_logged ruling left = record { changes = ruling.changes; records = left.records }
-
--- a statement that was read: what it comes to, its reply and its records are taken in the state before it
+-- A statement of the session that was read. Where it commits first, that is so before all else, also where it is refused
+-- then. What it comes to, its reply and its records are taken in the state in which it is decided.
 pub record StatementStep (m : State) (session : Session) (statement : Statement) (text : List ℕ) (stamp : ℕ) (reply : Reply) (logged : Logged) (n : State) : Type 0 where
+  pub finals : List Final
+  pub are_finals : AreFinalsOf (commits statement) m session.client finals
   pub ruling : Ruling
-  pub comes : Comes (ground_of m session stamp) statement ruling
+  pub comes : Comes (ground_of (decided_in m session.client statement) session statement stamp) statement ruling
   pub replies : reply ≡ ruling.reply
-  pub logs : logged ≡ statement_logged ruling (statement_left m session stamp statement text ruling)
-  pub next : n ≡ after_statement m session stamp ruling (statement_left m session stamp statement text ruling)
+  pub logs : logged
+      ≡ statement_logged statement session finals ruling (statement_left (decided_in m session.client statement) session stamp statement text ruling)
+  pub next : n
+      ≡ after_statement (decided_in m session.client statement) session stamp ruling
+      (statement_left (decided_in m session.client statement) session stamp statement text ruling) logged
 
--- a text that is a built statement
+-- a text that is a statement
 pub record ReadStep (m : State) (session : Session) (text : List ℕ) (stamp : ℕ) (reply : Reply) (logged : Logged) (n : State) : Type 0 where
   pub statement : Statement
-  pub reads : ReadsBuilt text statement
+  pub reads : ReadsSoundly text statement
   pub step : StatementStep m session statement text stamp reply logged n
 
 -- the code is the reply, and nothing is changed or recorded
@@ -154,9 +241,9 @@ pub record CodeStep (m : State) (code : Code) (reply : Reply) (logged : Logged) 
   pub logs : logged ≡ nothing_logged
   pub same : n ≡ m
 
--- a text that is no built statement: its code is the reply
+-- a text that is no statement: its code is the reply
 abbrev pub UnreadStep : State → List ℕ → Reply → Logged → State → Type 0
-UnreadStep m text reply logged n = (code : Code) × IsUnbuilt text code × CodeStep m code reply logged n
+UnreadStep m text reply logged n = (code : Code) × IsUnread text code × CodeStep m code reply logged n
 
 -- a text of a client that has a session
 abbrev pub SessionStep : State → Session → List ℕ → ℕ → Reply → Logged → State → Type 0
@@ -165,7 +252,7 @@ SessionStep m session text stamp reply logged n = ReadStep m session text stamp 
 -- a text of a client: without a session it is refused, and nothing is changed or recorded
 abbrev pub SqlStep : State → ClientNo → List ℕ → ℕ → Reply → Logged → State → Type 0
 SqlStep m client text stamp reply logged n =
-    MatchOption (session_of m.sessions client) (CodeStep m NOT_LOGGED_ON reply logged n) (λ session. SessionStep m session text stamp reply logged n)
+    MatchOption (session_of m.sessions client) (CodeStep m NOT_LOGGED_ON reply logged n) (λ seat. SessionStep m seat.session text stamp reply logged n)
 
 -- ---- logons
 
@@ -201,10 +288,14 @@ new_session m client admission left = record {
   results = left.results.session;
 }
 
+-- its transaction is empty
+abbrev pub opened : Session → OpenSession
+opened session = record { session = session; transaction = [] }
+
 -- the sessions after the logon: its own is the last where it is admitted
-abbrev pub sessions_after_logon : State → ClientNo → Admission → Left → List Session
+abbrev pub sessions_after_logon : State → ClientNo → Admission → Left → List OpenSession
 sessions_after_logon m client admission left =
-    if admission.code.0 == 0 then m.sessions ++ new_session m client admission left ∷ [] else m.sessions
+    if admission.code.0 == 0 then m.sessions ++ opened (new_session m client admission left) ∷ [] else m.sessions
 
 -- how many sessions the instance has drawn then
 abbrev pub drawn_after_logon : State → Admission → ℕ
@@ -213,15 +304,11 @@ drawn_after_logon m admission = if admission.code.0 == 0 then m.drawn + 1 else m
 -- The state after a logon: it is recorded, and begins the instance's next session where it is admitted.
 abbrev pub after_logon : State → ClientNo → ℕ → Admission → Left → State
 after_logon m client stamp admission left = record {
-  kept = kept_after m.kept stamp [] left.records;
+  kept = kept_after m.kept stamp (recorded left);
   sessions = sessions_after_logon m client admission left;
   drawn = drawn_after_logon m admission;
   results = left.results.instance;
 }
-
--- a logon changes nothing, and neither does a logoff; both leave their records
-abbrev pub recorded : Left → Logged
-recorded left = record { changes = []; records = left.records }
 
 -- a logon that is admitted or refused so
 pub record AdmittedStep (m : State) (client : ClientNo) (stamp : ℕ) (admission : Admission) (reply : Reply) (logged : Logged) (n : State) : Type 0 where
@@ -255,10 +342,10 @@ logoff_place session stamp = record {
 abbrev pub logoff_left : State → Session → ℕ → Left
 logoff_left m session stamp = event_left m session.results (logoff_facts session.user DONE) (logoff_place session stamp) [] []
 
--- the state after a logoff: it is recorded, and the client's session has ended
+-- the state after a logoff: it is recorded, the client's session has ended, and its transaction is lost
 abbrev pub after_logoff : State → ClientNo → ℕ → Left → State
 after_logoff m client stamp left = record m {
-  kept = kept_after m.kept stamp [] left.records;
+  kept = kept_after m.kept stamp (recorded left);
   sessions = sessions_without client m.sessions;
   results = left.results.instance;
 }
@@ -272,7 +359,7 @@ pub record EndStep (m : State) (session : Session) (client : ClientNo) (stamp : 
 -- a logoff: without a session it is refused, and nothing is changed or recorded
 abbrev pub LogoffStep : State → ClientNo → ℕ → Reply → Logged → State → Type 0
 LogoffStep m client stamp reply logged n =
-    MatchOption (session_of m.sessions client) (CodeStep m NOT_LOGGED_ON reply logged n) (λ session. EndStep m session client stamp reply logged n)
+    MatchOption (session_of m.sessions client) (CodeStep m NOT_LOGGED_ON reply logged n) (λ seat. EndStep m seat.session client stamp reply logged n)
 
 -- ---- all asks
 

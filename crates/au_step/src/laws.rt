@@ -9,6 +9,7 @@ ghost use Rattle.au_step.specs.Step.{Logged, LoggedStep, StepAt};
 
 use au_logon::admissions_hold;
 use au_ruling::rulings_are_one;
+use au_txn::finals_settle;
 use sql_parse_admin::one_reading;
 
 /// A step has one reply, leaves one list of changes and records to be kept, and has one next state.
@@ -22,4 +23,5 @@ pub fn one_result()
     one_reading();
     rulings_are_one();
     admissions_hold();
+    finals_settle();
 }

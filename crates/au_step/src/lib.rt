@@ -1,6 +1,7 @@
 //! The whole state and one step of it, as definitions, and their laws.
 #![tactic(auto)]
 
+mod desk_laws;
 mod frame_laws;
 mod kept_laws;
 mod laws;
@@ -9,6 +10,7 @@ mod session_laws;
 mod step_laws;
 mod text_laws;
 
+pub use desk_laws::{desks_tell_transactions, rows_can_be_written};
 pub use frame_laws::frames_lead_on;
 pub use kept_laws::{frames_stay_lawful, images_come_back, starts_can_be_written, starts_lead_on};
 pub use laws::one_result;

@@ -11,13 +11,15 @@ use Rattle.au_journal.specs.Seats.{IsFramed, needed_of}
 use Rattle.rec_codec.specs.declared.frame.Frame.{Frame}
 use Rattle.rec_codec.specs.declared.frame.Frame.TheVariants.{Image, Event, Purge}
 use Rattle.rec_codec.specs.Frames.{spelled, framed}
-use Rattle.au_step.specs.Framing.{IsFrameOf, IsWritable, Writes, framed_option}
+use Rattle.au_base.specs.declared.numbers.Stamp.{Stamp}
+use Rattle.au_step.specs.Framing.{IsFrameOf, IsWritable, Writes, frame_by, framed_option}
 use Rattle.au_step.specs.Replaying.{IsImage}
 use Rattle.au_step.specs.Returning.{LeadsTo}
 use Rattle.au_step.specs.State.{State}
-use Rattle.au_step.specs.Step.{is_idle}
+use Rattle.au_step.specs.Step.{all_changes, is_idle}
+use Rattle.au_image.specs.Image.{image_of}
 use Rattle.au_store.specs.Recovery.{GoesOnBy, GoesOnTo, Replayed}
-use Rattle.au_store.specs.descent.Making.{AreFramed, Carries, CarriesTo, IsWithin}
+use Rattle.au_store.specs.descent.Making.{AreFramed, Appends, Begins, Carries, CarriesTo, Flips, IsFramedIn, IsWithin, WritesTo, Written}
 
 -- framed bytes are those of the journal
 pub framed_is : (f : Frame) → framed f ≡ journal.framed_of (spelled f)
@@ -59,17 +61,36 @@ pub are_framed : (kept next : Kept) (o : Option (List ℕ)) → CarriesTo kept o
 are_framed kept next None carries = tt
 are_framed kept next (Some bytes) carries = (spelled carries.0, is_framed bytes carries.0 carries.1)
 
+pub is_framed_in : (kept next : Kept) (written : Written) → WritesTo kept written next → IsFramedIn written
+is_framed_in kept next (Appends framed) carries = are_framed kept next framed carries
+is_framed_in kept next (Flips image) begins = (spelled (image_of next), is_framed image (image_of next) begins.bytes)
+
+-- an image that begins what is kept is all that it is replayed from
+pub replayed_image : (image : List ℕ) (next : Kept) → Begins image next → Replayed (spelled (image_of next) ∷ []) next
+replayed_image image next begins = (
+  next,
+  record {
+    frame = image_of next;
+    spelled = record { spellable = begins.spellable; bytes_are = refl };
+    image = tt;
+    replayable = begins.leads.0;
+    makes = sym begins.leads.1;
+  },
+  refl,
+)
+
 -- what isn't too long for the limit is within it
 pub within_limit : (seat : Seat) (o : Option (List ℕ)) (bytes : List ℕ) → Some bytes ≡ o → (seat.limit < needed_of seat (length bytes) → ⊥) → IsWithin seat o
 within_limit seat o bytes is never = let P : Option (List ℕ) → Type 0 = λ x. IsWithin seat x in subst P is (omega (arith, never))
 
--- an event is no image
-event_only : (stamp : ℕ) (idle : Bool) (changes : List Change) (records : List Record) (f : Frame)
-    → Some f ≡ (if idle then None else Some (Event (record { 0 = stamp }) changes records)) → IsImage f → ⊥
-event_only stamp true changes records f is image = absurd (let none : Some f ≡ None = is in cc)
-event_only stamp false changes records (Image last listed held) is image = absurd (let other : Some (Image last listed held) ≡ Some (Event (record { 0 = stamp }) changes records) = is in cc)
-event_only stamp false changes records (Event moment listed held) is image = image
-event_only stamp false changes records (Purge moment before listed held) is image = image
+-- the frame of a step is no image
+kind_only : (purge : Option (Option Stamp)) (stamp : Stamp) (changes : List Change) (records : List Record) → IsImage (frame_by purge stamp changes records) → ⊥
+kind_only None stamp changes records image = image
+kind_only (Some before) stamp changes records image = image
+
+event_only : (idle : Bool) (made f : Frame) → (IsImage made → ⊥) → Some f ≡ (if idle then None else Some made) → IsImage f → ⊥
+event_only true made f never is image = absurd (let none : Some f ≡ None = is in cc)
+event_only false made f never is image = never (let same : Some f ≡ Some made = is in let here : f ≡ made = cc in subst IsImage here image)
 
 carries_frame : (m n : State) (client : ClientNo) (ask : Ask) (stamp : ℕ) (frame : Option Frame) → IsFrameOf m client ask stamp n frame → IsWritable frame
     → LeadsTo m.kept frame n.kept → CarriesTo m.kept (framed_option frame) n.kept
@@ -79,7 +100,8 @@ carries_frame m n client ask stamp (Some f) of_step writable leads = (
   refl,
   record {
     spellable = writable;
-    no_image = event_only stamp (is_idle of_step.1.changes of_step.1.records) of_step.1.changes of_step.1.records f of_step.3;
+    no_image = event_only (is_idle of_step.1) (frame_by of_step.1.purge (record { 0 = stamp }) (all_changes of_step.1) of_step.1.records) f
+        (kind_only of_step.1.purge (record { 0 = stamp }) (all_changes of_step.1) of_step.1.records) of_step.3;
     replayable = leads.0;
     makes = sym leads.1;
   },

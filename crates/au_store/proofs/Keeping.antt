@@ -9,7 +9,7 @@ use Rattle.au_journal.specs.declared.doubt.Doubt.TheVariants.{Settled, Body, Gat
 use Rattle.au_journal.specs.declared.seat.Seat.{Seat}
 use Rattle.au_journal.specs.Frames.{front, IsLimit, AreSome}
 use Rattle.au_journal.specs.Images.{Closed, EndsIn, In, MayStandFor, StandsGated}
-use Rattle.au_journal.specs.Seats.{AppendDoubts, IsIn, IsSettled, IsDoubted, MayLeave, advanced, bare_after, mended, there_of}
+use Rattle.au_journal.specs.Seats.{AppendDoubts, FlipDoubts, IsIn, IsSettled, IsDoubted, MayLeave, advanced, bare_after, flipped, mended, there_of}
 use Rattle.au_journal.specs.Standing.{Holds, HoldsEither, IsSettledOn, IsInDoubt, StandsOn}
 
 -- a closed gate behind the bodies
@@ -128,6 +128,14 @@ module _ (P Q : List (List ℕ) → Type 0) (old new : Seat) (gated : old.bare �
         (λ (doubt : IsInDoubt P Q (meaning before) old).
         inr (left_in_doubt P Q (meaning before) (meaning after) new doubt.bodies doubt.others counts time (doubted doubt.bodies doubt.others doubt.doubted) doubt.so doubt.so_then (subst (λ (s : Seat). s.doubt ≢ Settled) (sym is) doubt.unsettled) leaves))
         stands
+
+-- after a flip that is done
+pub flipped_kept : (P : List (List ℕ) → Type 0) (n : Meaning) (seat old : Seat) (body : List ℕ) (size : ℕ) → seat ≡ flipped size old → IsSettled n seat (body ∷ []) → P (body ∷ []) → IsSettledOn P n seat
+flipped_kept P n seat old body size is settled so = settled_kept P n seat (body ∷ []) (ap (λ (s : Seat). s.bare) is) settled so
+
+-- a flip that failed leaves a doubt
+pub flip_unsettled : (doubt : Doubt) → FlipDoubts doubt → doubt ≢ Settled
+flip_unsettled doubt doubts is = subst FlipDoubts is doubts
 
 -- an append that failed leaves a doubt
 pub append_unsettled : (doubt : Doubt) → AppendDoubts doubt → doubt ≢ Settled

@@ -1,4 +1,5 @@
 pub mod Begun
+pub mod Copies
 pub mod EventFrames
 pub mod Exclusive
 pub mod Frames

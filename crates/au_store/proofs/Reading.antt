@@ -72,10 +72,10 @@ frame_ends kept (Event stamp changes records) goes = goes.sys
 frame_ends kept (Purge stamp before changes records) goes = goes.sys
 
 -- bodies are replayed to one thing
-begins_once : OneFront → (body : List ℕ) (a b : Kept) → BeginsBy body a → BeginsBy body b → a ≡ b
+pub begins_once : OneFront → (body : List ℕ) (a b : Kept) → BeginsBy body a → BeginsBy body b → a ≡ b
 begins_once one_front body a b one two = one.makes ∙ ap (after_frame nothing) (frame_one one_front body one.frame two.frame one.spelled two.spelled) ∙ sym two.makes
 
-goes_once : OneFront → (kept : Kept) (body : List ℕ) (a b : Kept) → GoesOnBy kept body a → GoesOnBy kept body b → a ≡ b
+pub goes_once : OneFront → (kept : Kept) (body : List ℕ) (a b : Kept) → GoesOnBy kept body a → GoesOnBy kept body b → a ≡ b
 goes_once one_front kept body a b one two = one.makes ∙ ap (after_frame kept) (frame_one one_front body one.frame two.frame one.spelled two.spelled) ∙ sym two.makes
 
 goes_to_once : OneFront → (bodies : List (List ℕ)) (kept a b : Kept) → GoesOnTo kept bodies a → GoesOnTo kept bodies b → a ≡ b

@@ -5,7 +5,6 @@ use Rattle.au_base.specs.declared.reply.Said.{Said}
 use Rattle.au_base.specs.declared.reply.Said.TheVariants as said
 use Rattle.au_entries.specs.declared.kept.Kept.{Kept}
 use Rattle.au_engine.specs.declared.prepared.Prepared.{Prepared}
-use Rattle.au_step.specs.Framing.{Writes, framed_option}
 use Rattle.au_engine.specs.Prepared.{after}
 use Rattle.au_step.specs.State.{State, stamp_of}
 use Rattle.au_step.specs.Step.{Event, Step}
@@ -14,16 +13,16 @@ use Rattle.au_io.specs.Disk.{Meaning, Passes}
 use Rattle.au_io.specs.Moments.{LeavesSince, weaker_since, both_calls}
 use Rattle.au_io.specs.Time.{Reads, Ticking}
 use Rattle.au_journal.specs.declared.seat.Seat.{Seat}
-use Rattle.au_journal.specs.Seats.{IsFullAt, mended, needed_of}
+use Rattle.au_journal.specs.Seats.{mended, needed_of}
 use Rattle.rec_codec.specs.declared.frame.Frame.{Frame}
-use Rattle.rec_codec.specs.Frames.{framed}
 use Rattle.au_store.specs.Recovery.{RecoversTo, RecoversToEither}
 use Rattle.au_store.specs.Doubts.{EventWrites, HasFrame, IsAfter}
 use Rattle.au_store.specs.Stored.{IsKeptOn}
 use Rattle.au_store.specs.Kinds.{GoesOnSeat}
-use Rattle.au_store.specs.Steps.{Exceeds, EventCosts, FitsUnder, HasFrameWithin, IsLeftOut, IsMovedTo, StepCosts, StepLeaves, StepMoves, StepsBy}
-use Rattle.au_store.specs.descent.Making.{IsMoved, IsWithin, MakesBy, growth, written_by}
-use Rattle.au_store.proofs.EventFrames.{cost_frame, fits_frame, goes_on_seat, writes_charged}
+use Rattle.au_store.specs.Steps.{Exceeds, EventCosts, FitsUnder, HasFrameWithin, IsLeftOut, IsMovedTo, IsWritten, StepCosts, StepLeaves, StepMoves, StepsBy}
+use Rattle.au_store.specs.declared.ready.Ready.{Ready}
+use Rattle.au_store.specs.descent.Making.{IsFullFor, IsMoved, IsReady, IsRoomFor, MakesBy, WritesSome, cost_of_written, written_in}
+use Rattle.au_store.proofs.EventFrames.{cost_frame, fits_frame, frame_appended, frame_written, goes_on_seat}
 
 -- the state and the reply
 pub steps_by : (m n : State) (event : Event) (prepared : Prepared) (answer : Said) → Step m event prepared.reply (after prepared m) → MakesBy prepared m answer n → StepsBy m event answer n
@@ -40,51 +39,33 @@ left_full prepared m n said.Disk made left = absurd left
 left_full prepared m n (said.Full needed limit) made left = (needed, limit, refl)
 left_full prepared m n said.Memory made left = absurd made
 
--- framed bytes and their frame
-exceeds_frame : (m : State) (event : Event) (n : State) (seat : Seat) (needed limit : ℕ) (bytes : List ℕ) (frame : Option Frame) → Some bytes ≡ framed_option frame
-    → EventWrites m event n frame → IsFullAt seat false (length bytes) needed limit → Exceeds m event seat needed limit
-exceeds_frame m event n seat needed limit bytes None is writes full = absurd (let none : Some bytes ≡ None = is in cc)
-exceeds_frame m event n seat needed limit bytes (Some f) is writes full =
-    let same : bytes ≡ framed f = cc in
-    record {
-      after = n;
-      frame = f;
-      writes = writes;
-      charged = writes_charged m event n f writes;
-      needs = full.needed_is ∙ ap (λ (b : List ℕ). needed_of seat (length b)) same;
-      bound = full.limit_is;
-      exceeds = full.exceeds;
-    }
+module _ (m : State) (event : Event) (ready : Ready) (r : IsReady m event.client event.ask (stamp_of m event.reading) ready) where
+  abbrev reached : State
+  reached = after ready.prepared m
 
-some_frame : (m : State) (event : Event) (n : State) (bytes : List ℕ) (frame : Option Frame) → Some bytes ≡ framed_option frame → EventWrites m event n frame → HasFrame m event
-some_frame m event n bytes None is writes = absurd (let none : Some bytes ≡ None = is in cc)
-some_frame m event n bytes (Some f) is writes = (n, f, writes)
-
-some_within : (m : State) (event : Event) (n : State) (seat : Seat) (bytes : List ℕ) (frame : Option Frame) → Some bytes ≡ framed_option frame → EventWrites m event n frame
-    → IsWithin seat (framed_option frame) → HasFrameWithin m seat event
-some_within m event n seat bytes None is writes within = absurd (let none : Some bytes ≡ None = is in cc)
-some_within m event n seat bytes (Some f) is writes within = (n, f, writes, inr within)
-
-module _ (m : State) (event : Event) (prepared : Prepared) (w : Writes m event.client event.ask (stamp_of m event.reading) (after prepared m) prepared.framed) where
   -- where the journal stands then
-  pub step_moves : (n : State) (answer : Said) (old new : Seat) → MakesBy prepared m answer n → ((reply : Reply) → answer ≡ said.Replied reply → IsWithin old prepared.framed)
-      → IsMoved answer (growth prepared.framed) old new → StepMoves m event n answer old new
-  step_moves n (said.Replied reply) old new made within moved = record {
-    frame = w.frame;
-    of_event = subst (λ (s : State). EventWrites m event s w.frame) (sym made.1) w.of_step;
-    within = fits_frame old w.frame (let P : Option (List ℕ) → Type 0 = λ x. IsWithin old x in subst P w.bytes_are (within reply refl));
-    moved = let of_event = subst (λ (s : State). EventWrites m event s w.frame) (sym made.1) w.of_step in
-        let P : ℕ → Type 0 = λ x. IsMovedTo x old new in goes_on_seat m event n w.frame old new of_event (subst P (ap growth w.bytes_are) moved);
-  }
-  step_moves n said.Disk old new made within moved = moved
-  step_moves n (said.Full needed limit) old new made within moved = moved
-  step_moves n said.Memory old new made within moved = absurd made
+  pub step_moves : (n : State) (answer : Said) (old new : Seat) → MakesBy ready.prepared m answer n
+      → ((reply : Reply) → answer ≡ said.Replied reply → IsRoomFor old (written_in ready)) → IsMoved answer (written_in ready) old new → StepMoves m event n answer old new
+  step_moves n (said.Replied reply) old new made room moved =
+      let is : n ≡ reached = made.1 in
+      let here : IsWritten m event reached old new =
+      record {
+        frame = r.writes.frame;
+        of_event = r.writes.of_step;
+        within = fits_frame old reached.kept r.writes.frame (written_in ready) r.suits (room reply refl);
+        moved = goes_on_seat reached.kept r.writes.frame (written_in ready) old new r.suits moved;
+      } in
+      subst (λ (s : State). IsWritten m event s old new) (sym is) here
+  step_moves n said.Disk old new made room moved = moved
+  step_moves n (said.Full needed limit) old new made room moved = moved
+  step_moves n said.Memory old new made room moved = absurd made
 
   -- what was written
-  pub event_costs : (mend before now : ℕ) → now ≤ before + mend + written_by prepared.framed → EventCosts m event mend before now
-  event_costs mend before now cost = (after prepared m, w.frame, w.of_step, omega (arith, cost, cost_frame m event (after prepared m) w.frame w.of_step, ap written_by w.bytes_are))
+  pub event_costs : (mend before now : ℕ) → now ≤ before + mend + cost_of_written (written_in ready) → EventCosts m event mend before now
+  event_costs mend before now cost =
+      (reached, r.writes.frame, r.writes.of_step, omega (arith, cost, cost_frame reached.kept r.writes.frame (written_in ready) r.suits))
 
-  pub step_costs : (mend : ℕ) (n : State) (answer : Said) (before now : ℕ) → MakesBy prepared m answer n → now ≤ before + mend + written_by prepared.framed
+  pub step_costs : (mend : ℕ) (n : State) (answer : Said) (before now : ℕ) → MakesBy ready.prepared m answer n → now ≤ before + mend + cost_of_written (written_in ready)
       → ((needed limit : ℕ) → answer ≡ said.Full needed limit → now ≤ before + mend) → StepCosts m event mend answer before now
   step_costs mend n (said.Replied reply) before now made cost full = event_costs mend before now cost
   step_costs mend n said.Disk before now made cost full = inr (event_costs mend before now cost)
@@ -92,17 +73,37 @@ module _ (m : State) (event : Event) (prepared : Prepared) (w : Writes m event.c
   step_costs mend n said.Memory before now made cost full = absurd made
 
   -- where there is something to write
-  pub frame_there : (bytes : List ℕ) × (prepared.framed ≡ Some bytes) → HasFrame m event
-  frame_there some = some_frame m event (after prepared m) some.0 w.frame (sym some.1 ∙ w.bytes_are) w.of_step
+  frame_is : (f : Frame) → r.writes.frame ≡ Some f → EventWrites m event reached (Some f)
+  frame_is f is = subst (λ (o : Option Frame). EventWrites m event reached o) is r.writes.of_step
+
+  pub frame_there : WritesSome (written_in ready) → HasFrame m event
+  frame_there some =
+      let found = frame_written reached.kept r.writes.frame (written_in ready) r.suits some in
+      (reached, found.0, frame_is found.0 found.1)
 
   -- and it fits
-  pub frame_within : (seat : Seat) → (bytes : List ℕ) × (prepared.framed ≡ Some bytes) → IsWithin seat prepared.framed → HasFrameWithin m seat event
-  frame_within seat some within =
-      some_within m event (after prepared m) seat some.0 w.frame (sym some.1 ∙ w.bytes_are) w.of_step (let P : Option (List ℕ) → Type 0 = λ x. IsWithin seat x in subst P w.bytes_are within)
+  pub frame_within : (seat : Seat) → WritesSome (written_in ready) → IsRoomFor seat (written_in ready) → HasFrameWithin m seat event
+  frame_within seat some room =
+      let found = frame_written reached.kept r.writes.frame (written_in ready) r.suits some in (
+        reached,
+        found.0,
+        frame_is found.0 found.1,
+        subst (λ (o : Option Frame). FitsUnder seat o) found.1 (fits_frame seat reached.kept r.writes.frame (written_in ready) r.suits room),
+      )
 
   -- where it is too long
-  pub exceeds_by : (seat : Seat) (needed limit : ℕ) → (bytes : List ℕ) × (prepared.framed ≡ Some bytes) × IsFullAt seat false (length bytes) needed limit → Exceeds m event seat needed limit
-  exceeds_by seat needed limit full = exceeds_frame m event (after prepared m) seat needed limit full.0 w.frame (sym full.1 ∙ w.bytes_are) w.of_step full.2
+  pub exceeds_by : (seat : Seat) (needed limit : ℕ) → IsFullFor seat (written_in ready) needed limit → Exceeds m event seat needed limit
+  exceeds_by seat needed limit full =
+      let found = frame_appended reached.kept r.writes.frame (written_in ready) full.0 r.suits full.1 in
+      record {
+        after = reached;
+        frame = found.0;
+        writes = frame_is found.0 found.1;
+        charged = found.3;
+        needs = full.2.needed_is ∙ ap (λ (b : List ℕ). needed_of seat (length b)) found.2;
+        bound = full.2.limit_is;
+        exceeds = full.2.exceeds;
+      }
 
 -- what the event would leave
 pub made_after : (m : State) (event : Event) (prepared : Prepared) → Step m event prepared.reply (after prepared m) → IsAfter m event (after prepared m).kept

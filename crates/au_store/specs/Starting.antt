@@ -65,6 +65,10 @@ OpensInVain told meaning ticking disk last clock clocked fault.Disk =
 abbrev pub OpenCosts : ℕ → ℕ → Type 0
 OpenCosts before now = (kept : Kept) × (reading : ℕ) × (now ≤ before + length (framed (start_frame kept reading)) + gate_bytes true)
 
+-- the state is that with which an instance begins at this reading, over something that is kept: no session, and no kept result
+abbrev pub IsStarted : ℕ → State → Type 0
+IsStarted reading m = (kept : Kept) × (kept.instance < INSTANCES) × (m ≡ start kept reading)
+
 -- the state is that of the next instance, at this reading, over what the areas read as
 pub record IsOpened (all : Areas) (reading : ℕ) (m : State) : Type 0 where
   pub kept : Kept

@@ -12,6 +12,7 @@ mod look_fault;
 mod looking;
 mod open_fault;
 mod preparing;
+mod ready;
 mod replaying;
 mod starting;
 mod stepping;

@@ -1,32 +1,98 @@
 //! Working out the step of an ask.
-ghost use Rattle.std.specs.Prelude.{◌≡◌, IfOk};
-ghost use Rattle.au_step.specs.Framing.{Writes};
-ghost use Rattle.au_engine.specs.Prepared.{Fits, after};
+ghost use Rattle.std.specs.Prelude.{◌≡◌, ◌≢◌, IfOk};
+ghost use Rattle.au_entries.specs.declared.kept.Kept.{Kept};
+ghost use Rattle.au_engine.specs.Prepared.{Fits, after, logged_of};
 ghost use Rattle.au_step.specs.Replaying.{EndsWell};
-ghost use Rattle.au_step.specs.State.{IsStampOf};
+ghost use Rattle.au_step.specs.State.{IsStampOf, resting};
 ghost use Rattle.au_step.specs.Step.{StepAt};
+ghost use Rattle.au_store.specs.descent.Making.{CarriesTo, IsImageFor, IsReady, WritesTo, written_in};
 
-use au_base::{Ask, ClientNo, Memory, Stamp};
-use au_engine::{Engine, Prepared, reading_of};
+use crate::ready::Ready;
+use crate::replaying::{begin_by, go_on_by};
+use au_base::{Ask, ClientNo, List, Memory, Stamp};
+use au_engine::{Engine, Prepared, asks_are_text, body_in, reading_of};
+use au_step::{frames_lead_on, images_come_back, one_result};
+use rec_codec::one_front;
 use std::alloc::Global;
 
-/// Reads the text that a client asks, plans it where it is a query, and works out the step at this
-/// stamp. The state is left as it is.
+/// Reads the text that a client asks, plans it where it is on rows, and works out the step at this
+/// stamp; of one that purges, also the image of what is kept after it. The state is left as it is.
 pub(crate) fn prepare(
     engine: &mut Engine,
     alloc: Global,
     client: ClientNo,
     ask: &Ask,
     stamp: Stamp,
-) -> Result<Prepared, Memory>
+) -> Result<Ready, Memory>
     requires seated { EndsWell engine.old.state.kept }
     requires stamp { IsStampOf engine.old.state stamp.0 }
-    ensures step { IfOk result (λ prepared. StepAt engine.old.state client ask.now stamp.0 prepared.reply (after prepared engine.old.state)) }
-    ensures writes { IfOk result (λ prepared. Writes engine.old.state client ask.now stamp.0 (after prepared engine.old.state) prepared.framed) }
+    requires client { client.0 ≢ 0 }
+    ensures step { IfOk result (λ ready. StepAt engine.old.state client ask.now stamp.0 ready.prepared.reply (after ready.prepared engine.old.state)) }
+    ensures ready { IfOk result (IsReady engine.old.state client ask.now stamp.0) }
+    ensures carries { IfOk result (λ ready. WritesTo engine.old.state.kept (written_in ready) (after ready.prepared engine.old.state).kept) }
+    ensures ends { IfOk result (λ ready. EndsWell (after ready.prepared engine.old.state).kept) }
     ensures keeps { engine.new.state ≡ engine.old.state }
-    ensures fits { IfOk result (λ prepared. Fits prepared engine.new) }
+    ensures fits { IfOk result (λ ready. Fits ready.prepared engine.new) }
 {
+    asks_are_text(ask);
+    engine.lawful();
+    frames_lead_on();
+    one_result();
     let read = reading_of(alloc, ask)?;
     let plan = engine.plan(alloc, client, ask, &read, stamp)?;
-    engine.prepare(alloc, client, ask, &read, plan, stamp)
+    let prepared = engine.prepare(alloc, client, ask, &read, plan, stamp)?;
+    let image = image_after(engine, alloc, &prepared)?;
+    Ok(Ready { prepared, image })
+}
+
+// The framed image of what is kept after a step that purges; none of another one.
+fn image_after(
+    engine: &Engine,
+    alloc: Global,
+    prepared: &Prepared,
+) -> Result<Option<List<u8>>, Memory>
+    requires seated { EndsWell engine.now.state.kept }
+    requires carries { CarriesTo engine.now.state.kept prepared.now.framed (after prepared.now engine.now.state).kept }
+    requires ends { EndsWell (after prepared.now engine.now.state).kept }
+    ensures { IfOk result (IsImageFor (after prepared.now engine.now.state).kept (logged_of prepared.now).purge) }
+{
+    if !prepared.purges() {
+        return Ok(None);
+    }
+    let copy = copy_after(engine, alloc, prepared)?;
+    let image = copy.image(alloc)?;
+    Ok(Some(List::from_vec(image)))
+}
+
+// What is kept after the step, built beside the state. It takes as long as an image of what is kept,
+// and as much memory.
+fn copy_after(engine: &Engine, alloc: Global, prepared: &Prepared) -> Result<Engine, Memory>
+    requires seated { EndsWell engine.now.state.kept }
+    ensures { (next : Kept) → CarriesTo engine.now.state.kept prepared.now.framed next → IfOk result (λ copy. copy.state.kept ≡ next) }
+{
+    one_front();
+    let mut copy = copy_of(engine, alloc)?;
+    match prepared.body() {
+        None => Ok(copy),
+        Some(body) => {
+            go_on_by(alloc, &mut copy, body)?;
+            Ok(copy)
+        }
+    }
+}
+
+// What is kept, built beside the state from its image.
+fn copy_of(engine: &Engine, alloc: Global) -> Result<Engine, Memory>
+    requires seated { EndsWell engine.now.state.kept }
+    ensures kept { IfOk result (λ copy. copy.state.kept ≡ engine.now.state.kept) }
+    ensures resting { IfOk result (λ copy. copy.state ≡ resting copy.state.kept) }
+    ensures ends { IfOk result (λ copy. EndsWell copy.state.kept) }
+{
+    one_front();
+    let image = engine.image(alloc)?;
+    match begin_by(alloc, body_in(image.as_slice()))? {
+        Some(copy) => Ok(copy),
+        // An image is always one that can be replayed from nothing.
+        None => Err(Memory),
+    }
 }

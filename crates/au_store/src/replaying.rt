@@ -142,9 +142,9 @@ fn resize(room: &mut Vec<u8>, n: u64) -> Result<(), Memory>
     Ok(())
 }
 
-// The state that the body is replayed to from nothing. None where it isn't the body of an image that
-// can be.
-fn begin_by(alloc: Global, body: &[u8]) -> Result<Option<Engine>, Memory>
+/// The state that the body is replayed to from nothing. None where it isn't the body of an image that
+/// can be.
+pub(crate) fn begin_by(alloc: Global, body: &[u8]) -> Result<Option<Engine>, Memory>
     ensures begins { IfOk result (λ found. MatchOption found ((kept : Kept) → BeginsBy body.now kept → ⊥) (λ engine. BeginsBy body.now engine.state.kept)) }
     ensures resting { IfOk result (λ found. MatchOption found ⊤ (λ engine. engine.state ≡ resting engine.state.kept)) }
     ensures ends { IfOk result (λ found. MatchOption found ⊤ (λ engine. EndsWell engine.state.kept)) }
@@ -166,9 +166,9 @@ fn begin_by(alloc: Global, body: &[u8]) -> Result<Option<Engine>, Memory>
     }
 }
 
-// Replays the body. `false` where it isn't that of a frame that goes on from what is kept, and the
-// state stays.
-fn go_on_by(alloc: Global, engine: &mut Engine, body: &[u8]) -> Result<bool, Memory>
+/// Replays the body. `false` where it isn't that of a frame that goes on from what is kept, and the
+/// state stays.
+pub(crate) fn go_on_by(alloc: Global, engine: &mut Engine, body: &[u8]) -> Result<bool, Memory>
     requires resting { engine.old.state ≡ resting engine.old.state.kept }
     requires ends { EndsWell engine.old.state.kept }
     ensures goes { IfOk result (λ done. MatchBool done (GoesOnBy engine.old.state.kept body.now engine.new.state.kept) ((kept : Kept) → GoesOnBy engine.old.state.kept body.now kept → ⊥)) }

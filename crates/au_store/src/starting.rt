@@ -30,13 +30,14 @@ use rec_codec::write_framed;
 use std::alloc::Global;
 
 impl<D: Disk, C: Clock> Store<D, C> {
-    ghost use Rattle.au_store.specs.Starting.{IsOpened, IsSeated, NoneIsBare, OpenCause, OpenCosts, OpenLeaves, OpenSays, OpensInVain};
+    ghost use Rattle.au_store.specs.Starting.{IsOpened, IsSeated, IsStarted, NoneIsBare, OpenCause, OpenCosts, OpenLeaves, OpenSays, OpensInVain};
     ghost use Rattle.au_store.specs.descent.Opening.{BeginsInVain, StartSays};
 
     /// Opens the store that the disk recovers to: syncs the three areas, replays what stands in the
     /// selected one, reads the clock once, and appends the event with which the next instance begins,
     /// free of the limit. An error gives the disk and the clock back.
     pub fn open(alloc: Global, disk: D, clock: C) -> Result<Store<D, C>, (D, C, OpenFault)>
+        ensures started { IfOk result (λ store. IsStarted store.reading store.state) }
         ensures opened { D.told → IfOk result (λ store. IsOpened (D.meaning disk).reads store.reading store.state) }
         ensures seated { D.told → IfOk result (λ store. IsSeated (D.meaning disk).reads store.reading store.seat) }
         ensures kept { D.told → IfOk result (λ store. IsKeptOn store.state.kept (D.meaning store.disk) store.seat) }

@@ -1,13 +1,12 @@
 //! The steps of a store.
-ghost use Rattle.std.specs.Prelude.{◌≡◌, ◌≢◌, ◌⊎◌, ◌≤◌, ◌<◌, ◌+◌, ℕ, List, Option, Some, false, length, IfOk};
+ghost use Rattle.std.specs.Prelude.{◌≡◌, ◌≢◌, ◌⊎◌, ◌≤◌, ◌<◌, ◌+◌, ℕ, IfOk};
 ghost use Rattle.au_base.specs.declared.reply.Reply.{Reply as AnyReply};
 ghost use Rattle.au_entries.specs.declared.kept.Kept.{Kept};
 ghost use Rattle.au_io.specs.Disk.{Passes};
 ghost use Rattle.au_io.specs.Moments.{LeavesSince};
 ghost use Rattle.au_io.specs.Time.{Reads};
 ghost use Rattle.au_journal.specs.Causes.{MendCause};
-ghost use Rattle.au_journal.specs.Seats.{IsFullAt, mend_bytes, mended, mended_reads};
-ghost use Rattle.au_step.specs.Framing.{Writes};
+ghost use Rattle.au_journal.specs.Seats.{mend_bytes, mended, mended_reads};
 ghost use Rattle.au_engine.specs.Prepared.{Fits, after};
 ghost use Rattle.au_step.specs.Replaying.{EndsWell};
 ghost use Rattle.au_step.specs.State.{stamp_of};
@@ -15,12 +14,12 @@ ghost use Rattle.au_step.specs.Step.{Step};
 
 use crate::Store;
 use crate::preparing::prepare;
+use crate::ready::Ready;
 use crate::writing::write;
-use au_base::{Ask, ClientNo, Memory, Said, Steps};
-use au_engine::{Prepared, asks_are_text};
+use au_base::{Ask, ClientNo, Memory, Reply, Said, Steps};
+use au_engine::Engine;
 use au_io::{Clock, Disk};
 use au_journal::{Appended, Doubt, Mended};
-use au_step::frames_lead_on;
 use std::alloc::Global;
 use std::sync::ledger::Ledger;
 
@@ -28,7 +27,7 @@ impl<D: Disk, C: Clock> Store<D, C> {
     ghost use Rattle.au_store.specs.History.{HistoryGoesOn};
     ghost use Rattle.au_store.specs.Recovery.{RecoversToEither};
     ghost use Rattle.au_store.specs.Steps.{Exceeds, IsLeftOut, IsTried, IsUnmended, StepCause, StepCosts, StepLeaves, StepMoves, StepsBy, event_at};
-    ghost use Rattle.au_store.specs.descent.Making.{CarriesTo, IsMoved, IsWithin, MakesBy, growth, written_by};
+    ghost use Rattle.au_store.specs.descent.Making.{IsFullFor, IsMoved, IsReady, IsRoomFor, MakesBy, WritesSome, WritesTo, cost_of_written, written_in};
     ghost use Rattle.au_store.specs.Doubts.{IsLeftBy, IsStoodOn};
     ghost use Rattle.au_store.specs.Stored.{IsKeptOn, reserved_of};
 
@@ -39,7 +38,8 @@ impl<D: Disk, C: Clock> Store<D, C> {
     /// the earlier one where the mend failed. `Full` and `Memory` have the state as it was, and nothing
     /// in doubt; where nothing was in doubt before, the disk wasn't called.
     ///
-    /// `steps` counts the audit policies that are tested one by one: none yet.
+    /// Client 0, by whom frames are replayed, asks nothing. `steps` counts the audit policies that are
+    /// tested one by one: none yet.
     pub fn step<L: Ledger>(
         &mut self,
         alloc: Global,
@@ -47,6 +47,7 @@ impl<D: Disk, C: Clock> Store<D, C> {
         ask: &Ask,
         steps: &mut Steps<L>,
     ) -> Said
+        requires client { client.0 ≢ 0 }
         ensures step { StepsBy self.old.state (event_at client ask.now self.new.reading) result self.new.state }
         ensures moves { StepMoves self.old.state (event_at client ask.now self.new.reading) self.new.state result self.old.seat self.new.seat }
         ensures full { (needed limit : ℕ) → result ≡ Said.Full needed limit → Exceeds self.old.state (event_at client ask.now self.new.reading) self.old.seat needed limit }
@@ -68,7 +69,7 @@ impl<D: Disk, C: Clock> Store<D, C> {
         match self.mend() {
             Mended::Disk => Said::Disk,
             Mended::Done => match self.prepare(alloc, client, ask) {
-                Ok(prepared) => self.make(prepared),
+                Ok(ready) => self.make(ready),
                 Err(_) => Said::Memory,
             },
         }
@@ -95,62 +96,70 @@ impl<D: Disk, C: Clock> Store<D, C> {
     }
 
     // Reads the clock, and works out the step of the ask.
-    fn prepare(&mut self, alloc: Global, client: ClientNo, ask: &Ask) -> Result<Prepared, Memory>
+    fn prepare(&mut self, alloc: Global, client: ClientNo, ask: &Ask) -> Result<Ready, Memory>
+        requires client { client.0 ≢ 0 }
         ensures reading { Reads (C.ticking self.old.clock) (C.ticking self.new.clock) self.new.reading }
-        ensures step { IfOk result (λ prepared. Step self.new.state (event_at client ask.now self.new.reading) prepared.reply (after prepared self.new.state)) }
-        ensures writes { IfOk result (λ prepared. Writes self.new.state client ask.now (stamp_of self.new.state self.new.reading) (after prepared self.new.state) prepared.framed) }
-        ensures carries { IfOk result (λ prepared. CarriesTo self.new.state.kept prepared.framed (after prepared self.new.state).kept) }
-        ensures ends { IfOk result (λ prepared. EndsWell (after prepared self.new.state).kept) }
-        ensures fits { IfOk result (λ prepared. Fits prepared (reserved_of self.new)) }
+        ensures step { IfOk result (λ ready. Step self.new.state (event_at client ask.now self.new.reading) ready.prepared.reply (after ready.prepared self.new.state)) }
+        ensures ready { IfOk result (IsReady self.new.state client ask.now (stamp_of self.new.state self.new.reading)) }
+        ensures carries { IfOk result (λ ready. WritesTo self.new.state.kept (written_in ready) (after ready.prepared self.new.state).kept) }
+        ensures ends { IfOk result (λ ready. EndsWell (after ready.prepared self.new.state).kept) }
+        ensures fits { IfOk result (λ ready. Fits ready.prepared (reserved_of self.new)) }
         ensures state { self.new.state ≡ self.old.state }
         ensures same { (self.new.disk ≡ self.old.disk) × (self.new.seat ≡ self.old.seat) }
     {
         let reading = self.clock.now();
         self.reading = reading;
         let stamp = self.engine.stamp(reading);
-        asks_are_text(ask);
-        self.engine.lawful();
-        frames_lead_on();
         prepare(&mut self.engine, alloc, client, ask, stamp)
     }
 
-    // Writes what the prepared step leaves to be kept, and makes the step.
-    fn make(&mut self, prepared: Prepared) -> Said
+    // Writes what the step that is ready leaves to be kept, and makes the step.
+    fn make(&mut self, ready: Ready) -> Said
         requires settled { self.old.seat.doubt ≡ Doubt.Settled }
-        requires fits { Fits prepared (reserved_of self.old) }
-        requires carries { CarriesTo self.old.state.kept prepared.framed (after prepared self.old.state).kept }
-        requires ends { EndsWell (after prepared self.old.state).kept }
-        requires left { (bytes : List ℕ) → prepared.framed ≡ Some bytes → IsLeftBy self.old.state (after prepared self.old.state).kept }
-        ensures made { MakesBy prepared self.old.state result self.new.state }
-        ensures within { (reply : AnyReply) → result ≡ Said.Replied reply → IsWithin self.old.seat prepared.framed }
-        ensures full { (needed limit : ℕ) → result ≡ Said.Full needed limit → (bytes : List ℕ) × (prepared.framed ≡ Some bytes) × IsFullAt self.old.seat false (length bytes) needed limit }
+        requires fits { Fits ready.prepared (reserved_of self.old) }
+        requires carries { WritesTo self.old.state.kept (written_in ready) (after ready.prepared self.old.state).kept }
+        requires ends { EndsWell (after ready.prepared self.old.state).kept }
+        requires left { WritesSome (written_in ready) → IsLeftBy self.old.state (after ready.prepared self.old.state).kept }
+        ensures made { MakesBy ready.prepared self.old.state result self.new.state }
+        ensures within { (reply : AnyReply) → result ≡ Said.Replied reply → IsRoomFor self.old.seat (written_in ready) }
+        ensures full { (needed limit : ℕ) → result ≡ Said.Full needed limit → IsFullFor self.old.seat (written_in ready) needed limit }
         ensures untouched { (needed limit : ℕ) → result ≡ Said.Full needed limit → self.new.disk ≡ self.old.disk }
-        ensures moved { IsMoved result (growth prepared.framed) self.old.seat self.new.seat }
+        ensures moved { IsMoved result (written_in ready) self.old.seat self.new.seat }
         ensures kept { D.told → result ≢ Said.Disk → IsKeptOn self.new.state.kept (D.meaning self.new.disk) self.new.seat }
         ensures settled { result ≢ Said.Disk → self.new.seat.doubt ≡ Doubt.Settled }
         ensures in_doubt { result ≡ Said.Disk → self.new.seat.doubt ≢ Doubt.Settled }
-        ensures fits { result ≡ Said.Disk → IsWithin self.old.seat prepared.framed }
-        ensures wrote { result ≡ Said.Disk → (bytes : List ℕ) × (prepared.framed ≡ Some bytes) }
-        ensures doubted { D.told → result ≡ Said.Disk → IsStoodOn self.old.state.kept (after prepared self.old.state).kept (D.meaning self.new.disk) self.new.seat }
-        ensures any_moment { D.told → LeavesSince (RecoversToEither self.old.state.kept (after prepared self.old.state).kept) (D.meaning self.old.disk) (D.meaning self.new.disk) }
+        ensures fits { result ≡ Said.Disk → IsRoomFor self.old.seat (written_in ready) }
+        ensures wrote { result ≡ Said.Disk → WritesSome (written_in ready) }
+        ensures doubted { D.told → result ≡ Said.Disk → IsStoodOn self.old.state.kept (after ready.prepared self.old.state).kept (D.meaning self.new.disk) self.new.seat }
+        ensures any_moment { D.told → LeavesSince (RecoversToEither self.old.state.kept (after ready.prepared self.old.state).kept) (D.meaning self.old.disk) (D.meaning self.new.disk) }
         ensures same { (self.new.clock ≡ self.old.clock) × (self.new.reading ≡ self.old.reading) }
         ensures time { Passes (D.meaning self.old.disk) (D.meaning self.new.disk) }
-        ensures cost { (D.meaning self.new.disk).written ≤ (D.meaning self.old.disk).written + written_by prepared.framed }
+        ensures cost { (D.meaning self.new.disk).written ≤ (D.meaning self.old.disk).written + cost_of_written (written_in ready) }
         ensures cause { StepCause result (D.faults self.old.disk) (D.faults self.new.disk) }
     {
-        match write(&mut self.journal, &prepared) {
-            Appended::Done => Said::Replied(self.engine.apply(prepared)),
+        match write(&mut self.journal, &ready) {
+            Appended::Done => Said::Replied(apply(&mut self.engine, ready)),
             Appended::Disk => {
-                let_go(prepared);
+                let_go(ready);
                 Said::Disk
             }
             Appended::Full { needed, limit } => {
-                let_go(prepared);
+                let_go(ready);
                 Said::Full { needed, limit }
             }
         }
     }
 }
 
+// Makes the step that was written.
+fn apply(engine: &mut Engine, ready: Ready) -> Reply
+    requires { Fits ready.prepared engine.old }
+    ensures reply { result ≡ ready.prepared.reply }
+    ensures next { engine.new.state ≡ after ready.prepared engine.old.state }
+{
+    let Ready { prepared, image: _ } = ready;
+    engine.apply(prepared)
+}
+
 // Lets go of a step that isn't made.
-fn let_go(_prepared: Prepared) {}
+fn let_go(_ready: Ready) {}

@@ -24,7 +24,7 @@ use Rattle.au_world.proofs.CutAnswers.{left_alone, not_more}
 use Rattle.au_world.proofs.Products.{filter_few}
 
 module _ (session : Session) (conditions : List Placed) (names : List TableName) (whole part : Seen) (cut : IsCut session conditions names 0 whole part) where
-  same_passing : passing_rows session conditions part.1 ≡ passing_rows session conditions whole.1
+  pub same_passing : passing_rows session conditions part.1 ≡ passing_rows session conditions whole.1
   same_passing =
       ap (passing_rows session conditions) cut.rows
       ∙ left_alone (λ (line : Line). passes session conditions (line ∷ [])) (λ (line : Line). cut.keeps line.0) whole.1 (λ line has holds. cut.passing (line ∷ []) line holds refl has)

@@ -18,6 +18,7 @@ pub mod OnePlan
 pub mod Seen
 pub mod SeenKeys
 pub mod Statements
+pub mod Sufficing
 pub mod Told
 pub mod UnderKey
 pub mod Used

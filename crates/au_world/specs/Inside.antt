@@ -3,6 +3,7 @@ use Rattle.std.specs.Prelude.{◌≡◌, ◌≢◌, ◌≤◌, ◌⊎◌, ℕ, I
 use Rattle.std.specs.Borrow.{Bor}
 use Rattle.std.specs.List.{AllByRecursion, slice_get}
 use Rattle.std.specs.List.Sorted.{IsPartitionPoint}
+use Rattle.std.specs.Option.{option_to_list}
 use Rattle.au_audit.specs.TrailRows.{moment_column, number_column, text_column}
 use Rattle.au_base.specs.declared.table.Column.{Column}
 use Rattle.au_base.specs.declared.table.ColumnKind.{ColumnKind}
@@ -23,6 +24,7 @@ use Rattle.au_world.specs.declared.world.World.{World}
 use Rattle.au_world.specs.BuiltInTables.{kind_of, made_rows}
 use Rattle.au_query.specs.declared.source.Source.{Source}
 use Rattle.au_expr.specs.declared.placed.Placed.{Placed}
+use Rattle.au_expr.specs.Resolving.{placed}
 use Rattle.au_expr.specs.Sessions.{Session}
 use Rattle.au_query.specs.Combos.{Line, rows_of}
 use Rattle.au_query.specs.Counts.{condition_of}
@@ -35,6 +37,7 @@ use Rattle.au_txn.specs.Transactions.{IsUnder, IsUnderOther, laid_over}
 use Rattle.au_world.specs.declared.built_in.TableKind.TheVariants.{Created}
 use Rattle.au_world.specs.declared.looking.Asked.{Asked}
 use Rattle.au_world.specs.declared.looking.AskedCount.{AskedCount}
+use Rattle.au_world.specs.declared.looking.AskedWhere.{AskedWhere}
 use Rattle.au_world.specs.Selecting.{Seen, seen_of}
 use Rattle.au_world.specs.Sights.{Sight, is_there, rows_seen, sight_of}
 
@@ -118,6 +121,15 @@ pub record IsCountKey (world : World) (asked : AskedCount) (key : List Cell) : T
   pub few : length (rows_seen (sight_of world asked.client) asked.table.now.name) ≤ COMBINATIONS
   pub never : NeverOverflows asked.session.now (condition_asked asked)
   pub fixed : IsKeyFixed asked.session.now (condition_asked asked) (asked.table.now.name ∷ []) 0 world.desk.now.tables asked.table.now.name key
+
+-- WHERE that is asked of one table
+abbrev pub where_asked : AskedWhere → List Placed
+where_asked asked = map (placed (asked.range.now ∷ [])) (option_to_list asked.condition.now)
+
+-- the table of a WHERE may be looked up by the key
+pub record IsWhereKey (world : World) (asked : AskedWhere) (key : List Cell) : Type 0 where
+  pub never : NeverOverflows asked.session.now (where_asked asked)
+  pub fixed : IsKeyFixed asked.session.now (where_asked asked) (asked.table.now ∷ []) 0 world.desk.now.tables asked.table.now key
 
 -- no other row that the client sees of the table has the key of this one
 abbrev pub IsAloneUnder : Contents → ClientNo → TableName → Line → Type 0

@@ -76,7 +76,7 @@ pub record IsQueryPlan (truth : Truths) (sight : Sight) (session : Session) (sta
   pub changes : plan.changes ≡ []
   pub comes : FollowsRights (rights.code.0 == 0) truth sight session statement rights.code plan
 
--- what a statement on rows comes to; INSERT, UPDATE and DELETE have no plan yet
+-- what a query comes to; another statement has no plan here
 abbrev pub IsPlanOf : Truths → Sight → Session → Statement → RowPlan → Type 0
 IsPlanOf truth sight session (Select select) plan = IsQueryPlan truth sight session (Select select) plan
 IsPlanOf truth sight session (Count count) plan = IsQueryPlan truth sight session (Count count) plan

@@ -2,6 +2,7 @@
 #![tactic(auto)]
 
 mod built_in;
+mod candidate_rows;
 mod columns;
 mod finding;
 mod from_table;
@@ -15,6 +16,8 @@ mod sources;
 mod world;
 
 pub use au_query::Selected;
+pub use candidate_rows::candidates;
+pub use columns::columns_of;
 pub use laws::{plans_hold, queries_have_one_answer, sound_worlds_are_sound_for_clients};
 pub use query::select;
 pub use rights::{TableRights, is_there, table_rights};

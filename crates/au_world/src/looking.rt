@@ -8,7 +8,7 @@ ghost use Rattle.au_query.specs.Combos.{AreSoundRows, IsSoundLine, lines, produc
 ghost use Rattle.au_query.specs.Fixed.{NeverOverflows};
 ghost use Rattle.au_world.specs.BuiltInTables.{kind_of as kind_named};
 ghost use Rattle.au_world.specs.Cutting.{AreParts, IsCut, IsPart};
-ghost use Rattle.au_world.specs.Inside.{AreUnder, IsFixedAlone, IsFoundTable, IsCountKey, IsKeyFixed, condition_asked, conditions_asked, expressions_asked, names_in, told_by, whole_of, wholes};
+ghost use Rattle.au_world.specs.Inside.{AreUnder, IsFixedAlone, IsFoundTable, IsCountKey, IsKeyFixed, condition_asked, conditions_asked, expressions_asked, names_in, told_by, where_asked, whole_of, wholes};
 ghost use Rattle.au_world.specs.Selecting.{rows_of_seen};
 ghost use Rattle.au_world.specs.Sights.{rows_seen, sight_of};
 ghost use Rattle.au_world.specs.Sound.{AreTablesInOrder, IsSoundFor};
@@ -25,9 +25,9 @@ use au_base::{
     Cell, ClientNo, Column, List, Memory, Name, RowNo, TableName, is_same_table, same_is_equal,
 };
 use au_expr::SessionFacts;
-use au_query::{Source, count_never_overflows, fixed_cells, fixed_cells_of_count, never_overflows};
+use au_query::{Source, count_never_overflows, fixed_by_where, fixed_cells, never_overflows};
 use au_txn::{laid_rows_answer, rows_are_what_they_answer, rows_stand_by_tables};
-use sql_ast::{Count, Select};
+use sql_ast::{Count, Expr, Select};
 use std::alloc::Global;
 
 /// A SELECT of a client, with the tables of its FROM and their ranges.
@@ -183,7 +183,8 @@ pub fn source_under<'a>(
     })
 }
 
-fn rows_under<'a>(
+/// The one row that the client sees of the table under the key, or none.
+pub fn rows_under<'a>(
     alloc: Global,
     world: &'a World<'_>,
     client: ClientNo,
@@ -315,51 +316,69 @@ pub fn count_key(
     if !count_never_overflows(alloc, asked.count, asked.range)? {
         return Ok(None);
     }
-    let found = key_of_count(alloc, world, asked)?;
+    let condition = AskedWhere {
+        client: asked.client,
+        session: asked.session,
+        table: &asked.table.name,
+        range: asked.range,
+        condition: &asked.count.condition,
+    };
+    let found = key_by_where(alloc, world, &condition)?;
     Ok(found)
 }
 
-fn key_of_count(
+/// WHERE of a statement of a client over one table, with the table's range.
+#[derive(Clone, Copy)]
+pub struct AskedWhere<'q> {
+    pub client: ClientNo,
+    pub session: &'q SessionFacts,
+    pub table: &'q TableName,
+    pub range: &'q (Name, List<Column>),
+    pub condition: &'q Option<Expr>,
+}
+
+/// The key to which WHERE fixes its table.
+pub fn key_by_where(
     alloc: Global,
     world: &World<'_>,
-    asked: &AskedCount<'_>,
+    asked: &AskedWhere<'_>,
 ) -> Result<Option<Vec<Cell>>, Memory>
     requires sound { IsSoundFor world.now asked.now.client }
-    ensures { IfOk result (λ found. IfSome found (λ key. IsKeyFixed asked.now.session.now (condition_asked asked.now) (asked.now.table.now.name ∷ []) 0 world.now.desk.now.tables asked.now.table.now.name key.items)) }
+    ensures { IfOk result (λ found. IfSome found (λ key. IsKeyFixed asked.now.session.now (where_asked asked.now) (asked.now.table.now ∷ []) 0 world.now.desk.now.tables asked.now.table.now key.items)) }
 {
-    match kind_of(&asked.table.name) {
-        TableKind::Created => created_count_key(alloc, world, asked),
+    match kind_of(asked.table) {
+        TableKind::Created => created_key_by_where(alloc, world, asked),
         _ => Ok(None),
     }
 }
 
-fn created_count_key(
+fn created_key_by_where(
     alloc: Global,
     world: &World<'_>,
-    asked: &AskedCount<'_>,
+    asked: &AskedWhere<'_>,
 ) -> Result<Option<Vec<Cell>>, Memory>
     requires sound { IsSoundFor world.now asked.now.client }
-    requires created { kind_named asked.now.table.now.name ≡ Created }
-    ensures { IfOk result (λ found. IfSome found (λ key. IsKeyFixed asked.now.session.now (condition_asked asked.now) (asked.now.table.now.name ∷ []) 0 world.now.desk.now.tables asked.now.table.now.name key.items)) }
+    requires created { kind_named asked.now.table.now ≡ Created }
+    ensures { IfOk result (λ found. IfSome found (λ key. IsKeyFixed asked.now.session.now (where_asked asked.now) (asked.now.table.now ∷ []) 0 world.now.desk.now.tables asked.now.table.now key.items)) }
 {
     same_is_equal();
-    match table_named(world.catalog.tables.as_slice(), &asked.table.name) {
-        Some(found) => count_columns(alloc, asked, found.key.as_slice()),
+    match table_named(world.catalog.tables.as_slice(), asked.table) {
+        Some(found) => columns_by_where(alloc, asked, found.key.as_slice()),
         None => Ok(None),
     }
 }
 
-fn count_columns(
+fn columns_by_where(
     alloc: Global,
-    asked: &AskedCount<'_>,
+    asked: &AskedWhere<'_>,
     columns: &[u32],
 ) -> Result<Option<Vec<Cell>>, Memory>
-    ensures { IfOk result (λ found. IfSome found (λ key. IsFixedAlone asked.now.session.now (condition_asked asked.now) (asked.now.table.now.name ∷ []) 0 asked.now.table.now.name columns.now key.items)) }
+    ensures { IfOk result (λ found. IfSome found (λ key. IsFixedAlone asked.now.session.now (where_asked asked.now) (asked.now.table.now ∷ []) 0 asked.now.table.now columns.now key.items)) }
 {
     if columns.is_empty() {
         return Ok(None);
     }
-    let found = fixed_cells_of_count(alloc, asked.count, asked.range, asked.session, columns)?;
+    let found = fixed_by_where(alloc, asked.condition, asked.range, asked.session, columns)?;
     Ok(found)
 }
 

@@ -87,7 +87,8 @@ fn built_in_rows<'a>(
     Ok(rows)
 }
 
-fn created_rows<'a>(
+/// The rows that the client sees of a created table.
+pub fn created_rows<'a>(
     alloc: Global,
     world: &'a World<'_>,
     client: ClientNo,

@@ -6,14 +6,17 @@
 //! `:` and its steps, with `;` between them. `L..H` makes the case once for each number from L to H,
 //! and `N+L..H` once for each of these that comes so long after the call N, which fails too. The steps:
 //!
-//! - `init`: makes a store; the answer is how that ends
-//! - `run ASK ..`: a script of these asks of one client: `local`, `audit` (AUDIT POLICY P_ALL),
-//!   `noaudit`, `count` (of the trail). The answers are `ok`, the count, `disk` or `full`, and behind
-//!   them how often the clock was read; where the run ends otherwise than done, how
+//! - `init`, `init LIMIT`: makes a store, whose journal has that limit; the answer is how that ends
+//! - `run ASK ..`: a script of these asks of one client: `local`, `logoff`, `audit` (AUDIT POLICY P_ALL),
+//!   `noaudit`, `policy` (P, for COMMIT), `enable` (AUDIT POLICY P), `create` (table T), `insert1` and
+//!   `insert2` (a row each), `commit`, `rollback`, `purge` (of the whole trail), `count` (of the trail),
+//!   `rows` (of T). The answers are `ok`, the count, `disk` or `full`, and behind them how often the
+//!   clock was read; where the run ends otherwise than done, how
 //! - `grow N`: the frames behind the start of the first run are written so many times more, as if their
 //!   statements had been asked again at the same moments; the answer is the size of area A
-//! - `images`: what a run counts on each image: what was synced, what reads, and what was written since
-//!   filled with 42, 5a and a5; `none` where no store stands there
+//! - `images`: what a run counts on each image, the records of the trail, and behind a comma the rows of
+//!   T where it stands. The images are what was synced, what reads, and what was written since filled
+//!   with 42, 5a and a5; `none` where no store stands there
 #![tactic(auto)]
 
 mod case;

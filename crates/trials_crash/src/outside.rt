@@ -1,7 +1,7 @@
 //! The program's commands on an outside in memory.
 
 use crate::fault::Fault;
-use crate::scripts::{last_answer, said_answers, script_of};
+use crate::scripts::{said_answers, said_counts, script_of};
 use crate::words::number;
 use au_base::Text;
 use au_io::{Area, Disk, MemClock, MemDisk, MemSink, MemSource, NoLobby};
@@ -44,7 +44,7 @@ pub fn said_step(
 ) -> Result<String, Fault> {
     match step {
         "init" => {
-            let made = command(alloc, &["init", "--sys-password", "p"], "", disk)?;
+            let made = init(alloc, disk, part)?;
             said_status(alloc, made.status)
         }
         "run" => {
@@ -58,6 +58,19 @@ pub fn said_step(
         }
         "images" => said_images(alloc, disk),
         _ => Err(Fault::NoCase),
+    }
+}
+
+// Makes a store whose journal has this limit, or the program's own where none is named.
+fn init(alloc: Global, disk: &mut MemDisk, limit: &str) -> Result<Outcome, Fault> {
+    match limit {
+        "" => command(alloc, &["init", "--sys-password", "p"], "", disk),
+        _ => command(
+            alloc,
+            &["init", "--sys-password", "p", "--limit", limit],
+            "",
+            disk,
+        ),
     }
 }
 
@@ -186,10 +199,10 @@ fn said_images(alloc: Global, disk: &MemDisk) -> Result<String, Fault> {
 
 // What a run counts there, or how it ends.
 fn said_image(alloc: Global, image: &mut MemDisk) -> Result<String, Fault> {
-    let script = script_of(alloc, "local count")?;
+    let script = script_of(alloc, "local count rows")?;
     let ran = command(alloc, &["run"], &script, image)?;
     match ran.status {
-        Status::Done => Ok(String::from_str(alloc, last_answer(&ran.given))?),
+        Status::Done => said_counts(alloc, &ran.given),
         _ => said_status(alloc, ran.status),
     }
 }

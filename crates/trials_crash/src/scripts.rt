@@ -3,9 +3,15 @@
 use crate::fault::Fault;
 use std::alloc::Global;
 
-const OK: &str = "{\"code\":0,\"columns\":[],\"count\":0,\"rows\":[]}";
+// How the answer begins to what is done and gives no rows.
+const OK: &str = "{\"code\":0,\"columns\":[],";
+
+const NO_TABLE: &str = "{\"code\":942,\"columns\":[],\"count\":0,\"rows\":[]}";
 
 const COUNT: &str = "{\"code\":0,\"columns\":[\"COUNT(*)\"],\"count\":1,\"rows\":[[";
+
+const PURGE: &str =
+    "s1 sql BEGIN DBMS_AUDIT_MGMT.CLEAN_AUDIT_TRAIL(AUDIT_TRAIL_TYPE => DBMS_AUDIT_MGMT.AUDIT_TRAIL_UNIFIED, USE_LAST_ARCH_TIMESTAMP => FALSE); END;\n";
 
 /// A script of these asks, with spaces between them.
 pub fn script_of(alloc: Global, asks: &str) -> Result<String, Fault> {
@@ -19,9 +25,19 @@ pub fn script_of(alloc: Global, asks: &str) -> Result<String, Fault> {
 fn line_of(ask: &str) -> Result<&'static str, Fault> {
     match ask {
         "local" => Ok("s1 local\n"),
+        "logoff" => Ok("s1 logoff\n"),
         "audit" => Ok("s1 sql AUDIT POLICY P_ALL\n"),
         "noaudit" => Ok("s1 sql NOAUDIT POLICY P_ALL\n"),
+        "policy" => Ok("s1 sql CREATE AUDIT POLICY P ACTIONS COMMIT\n"),
+        "enable" => Ok("s1 sql AUDIT POLICY P\n"),
+        "create" => Ok("s1 sql CREATE TABLE T (K NUMBER PRIMARY KEY)\n"),
+        "insert1" => Ok("s1 sql INSERT INTO T (K) VALUES (1)\n"),
+        "insert2" => Ok("s1 sql INSERT INTO T (K) VALUES (2)\n"),
+        "commit" => Ok("s1 sql COMMIT\n"),
+        "rollback" => Ok("s1 sql ROLLBACK\n"),
+        "purge" => Ok(PURGE),
         "count" => Ok("s1 sql SELECT COUNT(*) FROM UNIFIED_AUDIT_TRAIL\n"),
+        "rows" => Ok("s1 sql SELECT COUNT(*) FROM T\n"),
         _ => Err(Fault::NoCase),
     }
 }
@@ -38,14 +54,23 @@ pub fn said_answers(alloc: Global, given: &str) -> Result<String, Fault> {
     Ok(said)
 }
 
-/// The last answer, in short.
-pub fn last_answer(given: &str) -> &str {
-    short(given.trim_end().rsplit('\n').next().unwrap_or(""))
+/// What the answers to `local count rows` count: the records, and behind a comma the rows of T, where
+/// it stands.
+pub fn said_counts(alloc: Global, given: &str) -> Result<String, Fault> {
+    let mut answers = given.lines();
+    let _local = answers.next();
+    let records = short(answers.next().unwrap_or(""));
+    let rows = answers.next().unwrap_or("");
+    if rows == NO_TABLE {
+        return Ok(String::from_str(alloc, records)?);
+    }
+    let rows = short(rows);
+    Ok(format!(in alloc; "{records},{rows}")?)
 }
 
 // An answer in short: `ok`, a count, a fault, or the text itself.
 fn short(line: &str) -> &str {
-    if line == OK {
+    if line.starts_with(OK) {
         return "ok";
     }
     if line == "{\"fault\":\"disk\"}" {

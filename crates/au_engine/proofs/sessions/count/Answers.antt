@@ -1,14 +1,13 @@
 use Rattle.std.proofs.Common.{◌∙◌, ℕ, List, map, ap, refl, sym, subst}
 use Rattle.au_step.specs.declared.session.Session.{Session}
-use Rattle.au_step.specs.Sessions.{HaveOneEach}
-use Rattle.au_engine.specs.Sessions.{forgotten, with_counts}
+use Rattle.au_engine.specs.Sessions.{AreApart, forgotten, with_counts}
 use Rattle.au_engine.proofs.Apart.{apart_mapped}
 use Rattle.au_engine.proofs.Counting.{counts_made}
 use Rattle.au_engine.proofs.sessions.count.Goals as goal
 
 pub set_counts-requires : goal.set_counts-requires
 set_counts-requires c = record {
-  apart = subst (λ (l : List Session). HaveOneEach l) (sym c.forget_in_all.ensures.items)
+  apart = subst (λ (l : List Session). AreApart l) (sym c.forget_in_all.ensures.items)
       (apart_mapped (λ (session : Session). forgotten c.as_slice.result.now session) (λ session. refl) c.args.sessions.now.items c.requires.apart);
 }
 

@@ -1,4 +1,4 @@
-use Rattle.std.proofs.Common.{inr}
+use Rattle.std.proofs.Common.{arith, inr}
 use Rattle.au_main.proofs.Serving.{Served-skip, Served-told, Served-told_in_part, on_ok}
 use Rattle.au_main.proofs.serve.serve_line.Goals as goal
 
@@ -25,3 +25,6 @@ returns-in_ok-client-in-Some-Ask-clause-memory g c = λ failed.
     let said = rw c.in-Some-Ask.is at c.in_ok-line.ensures in
     let says = rw c.in-Some-Ask.field-0-is at said in
     inr (Served-told_in_part _ _ _ _ _ _ _ _ _ _ says c.in_ok-client-in-Some-Ask.ensures.number (c.answer.ensures.memory failed))
+
+pub answer-requires-clause-client : goal.answer-requires-clause-client
+answer-requires-clause-client g c = λ zero. omega (arith, zero, c.in_ok-client-in-Some-Ask.ensures.number)

@@ -7,7 +7,7 @@ use Rattle.au_entries.specs.declared.fine_grained.FgaPolicy.{FgaPolicy}
 use Rattle.au_fga.specs.Testing.{RowsFit, truth_over}
 use Rattle.au_txn.specs.Desks.{open_of}
 use Rattle.au_txn.specs.Transactions.{laid_over}
-use Rattle.au_plan.specs.Inside.{asked_entry, facts_of}
+use Rattle.au_plan.specs.Inside.{asked_entry, query_facts}
 use Rattle.au_plan.proofs.Fires.{fired_same}
 use Rattle.au_plan.proofs.Fitting.{all_fit}
 use Rattle.au_plan.proofs.firing.fired_when_done.Goals as goal
@@ -30,7 +30,7 @@ returns c =
     let desk = world.desk.now in
     let truth = truth_over c.args.session.now world.catalog.now.tables in
     c.in_ok-names.ensures
-    ∙ ap (λ (touched : List (TableName × List (List Cell))). fired truth DONE (facts_of touched c.args.named) world.catalog.now.fga)
+    ∙ ap (λ (touched : List (TableName × List (List Cell))). fired truth DONE (query_facts touched c.args.named) world.catalog.now.fga)
     (c.in_ok-touched.ensures ∙ ap (λ (policies : List FgaPolicy). map (asked_entry policies desk c.args.client) c.args.touched.now) c.as_slice-policies.ensures)
     ∙ fired_same world c.args.client (λ a b. c.same_is_equal.ensures.table a b)
     (λ table row. c.rows_stand_by_tables.ensures.viewed desk.rows (open_of desk c.args.client) table row c.holds_together.ensures.rows)

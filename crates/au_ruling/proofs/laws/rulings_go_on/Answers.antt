@@ -1,5 +1,6 @@
 use Rattle.au_ruling.specs.Kinds.{kind_of}
-use Rattle.au_ruling.proofs.Going.{all_free, goes, leaves_whole, rowless, stays}
+use Rattle.au_ruling.proofs.Free.{free_but_own, free_of_all}
+use Rattle.au_ruling.proofs.Going.{goes, leaves_whole, rowless, stays}
 use Rattle.au_ruling.proofs.laws.rulings_go_on.Goals as goal
 
 pub returns-clause-goes : goal.returns-clause-goes
@@ -18,4 +19,7 @@ pub returns-clause-rowless : goal.returns-clause-rowless
 returns-clause-rowless c basis statement ruling comes = rowless (kind_of statement) basis statement ruling comes
 
 pub returns-clause-free : goal.returns-clause-free
-returns-clause-free c basis statement ruling desk quiet comes = all_free desk quiet ruling.changes
+returns-clause-free c basis statement ruling desk tells none comes = free_of_all c.same_is_equal.ensures.table basis statement desk tells none (kind_of statement) ruling comes
+
+pub returns-clause-alone : goal.returns-clause-alone
+returns-clause-alone c basis statement ruling desk tells comes = free_but_own c.same_is_equal.ensures.table basis statement desk tells (kind_of statement) ruling comes

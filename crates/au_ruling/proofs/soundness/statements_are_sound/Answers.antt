@@ -9,4 +9,5 @@ returns c text reads = record {
   timely = c.read_statements_are_timely.ensures text c.args.statement.now reads;
   few = c.read_statements_are_few.ensures text c.args.statement.now reads;
   short = c.read_statements_are_short.ensures text c.args.statement.now reads;
+  literals = c.literals_are_sound.ensures text c.args.statement.now reads;
 }

@@ -9,6 +9,7 @@ returns-clause-logged c =
       apart = c.one_reading.ensures.apart;
       ruling = c.rulings_are_one.ensures.one;
       admission = c.admissions_hold.ensures.one;
+      finals = c.finals_settle.ensures.one;
     })
 
 pub returns-clause-step : goal.returns-clause-step
@@ -19,6 +20,7 @@ returns-clause-step c =
       apart = c.one_reading.ensures.apart;
       ruling = c.rulings_are_one.ensures.one;
       admission = c.admissions_hold.ensures.one;
+      finals = c.finals_settle.ensures.one;
     })
 
 pub returns-clause-run : goal.returns-clause-run
@@ -29,4 +31,5 @@ returns-clause-run c =
       apart = c.one_reading.ensures.apart;
       ruling = c.rulings_are_one.ensures.one;
       admission = c.admissions_hold.ensures.one;
+      finals = c.finals_settle.ensures.one;
     })

@@ -1,4 +1,3 @@
-use Rattle.au_replay.specs.Reading.{conditions}
 use Rattle.au_step.proofs.Logons.{local_there}
 use Rattle.au_step.proofs.Steps.{each_sound}
 use Rattle.au_step.proofs.step_laws.each_step_is_sound.Goals as goal
@@ -14,11 +13,13 @@ returns c =
         whole = rulings.whole;
         stay = rulings.stay;
         rowless = rulings.rowless;
-        free = rulings.free;
+        alone = rulings.alone;
+        rows = c.rulings_change_rows.ensures.rows;
         told = writing.told;
         written = writing.written;
         fired = writing.fired;
         few = writing.few;
+        purged = writing.purged;
         object = writing.object;
       };
       logons = record {
@@ -42,5 +43,17 @@ returns c =
         left = c.results_stay_in_order.ensures.left;
         forgotten = c.results_stay_in_order.ensures.forgotten;
       };
-      frames = record { kept = c.frames_hold.ensures.one_frame conditions };
+      commits = record {
+        goes = c.commits_can_settle.ensures.goes;
+        left = c.commits_can_settle.ensures.left;
+        kept = c.commits_can_settle.ensures.kept;
+        few = c.commits_can_settle.ensures.few;
+        spelled = c.commits_can_settle.ensures.spelled;
+      };
+      transactions = record {
+        same = c.transactions_hold.ensures.same;
+        written = c.transactions_hold.ensures.written;
+        ended = c.transactions_hold.ensures.ended;
+        settled = c.transactions_hold.ensures.settled;
+      };
     })

@@ -4,8 +4,8 @@ use Rattle.au_step.specs.Step.{is_crowded}
 use Rattle.au_engine.proofs.Beginning.{opens}
 use Rattle.au_engine.proofs.engine.Engine.local.Goals as goal
 
-pub returns : goal.returns
-returns c =
+pub returns-clause-step : goal.returns-clause-step
+returns-clause-step c =
     let m = c.args.self.now.state in
     let is = subst (λ (crowded : Bool). IsLocal crowded c.in_ok-admission.admission) c.is_crowded.ensures c.in_ok-admission.ensures in
-    opens (IsLocal (is_crowded m)) m c.args.client c.args.stamp.0 _ _ _ c.stands.result c.in_ok-admission.admission c.stands.ensures c.if-stands.false is c.in_ok-outcome.ensures
+    opens (IsLocal (is_crowded m)) m c.args.client c.args.stamp.0 _ _ _ c.stands.result c.in_ok-admission.admission c.stands.ensures c.if-stands.false is c.in_ok-outcome.ensures.step

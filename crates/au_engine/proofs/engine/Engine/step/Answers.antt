@@ -5,7 +5,7 @@ use Rattle.au_step.specs.Step.{LoggedStep}
 use Rattle.au_engine.specs.Prepared.{logged_by, made_of}
 use Rattle.au_engine.proofs.engine.Engine.step.Goals as goal
 
-pub returns-in-Logon : goal.returns-in-Logon
-returns-in-Logon c =
+pub returns-in-Logon-clause-step : goal.returns-in-Logon-clause-step
+returns-in-Logon-clause-step c =
     let m = c.args.self.now.state in
-    subst (λ (ask : Ask). IfOk c.logon.result (λ outcome. LoggedStep m c.args.client ask c.args.stamp.0 outcome.reply (logged_by outcome) (made_of outcome m))) (sym c.in-Logon.is) c.logon.ensures
+    subst (λ (ask : Ask). IfOk c.logon.result (λ outcome. LoggedStep m c.args.client ask c.args.stamp.0 outcome.reply (logged_by outcome) (made_of outcome m))) (sym c.in-Logon.is) c.logon.ensures.step

@@ -4,7 +4,8 @@ use Rattle.au_engine.specs.Prepared.{after}
 use Rattle.au_step.specs.State.{State}
 use Rattle.au_store.specs.Recovery.{ReplayedTo}
 use Rattle.au_store.specs.Stored.{IsKeptOn, IsSound}
-use Rattle.au_store.proofs.Frames.{are_framed}
+use Rattle.au_store.specs.descent.Making.{written_in}
+use Rattle.au_store.proofs.Frames.{is_framed_in}
 use Rattle.au_store.proofs.Keeping.{settled_stands}
 use Rattle.au_store.proofs.Sound.{settled_sound}
 use Rattle.au_store.proofs.store.Store.make.Goals as goal
@@ -16,8 +17,8 @@ write-requires-clause-framed g c =
     let sound = c.self.invariant in
     let settled = rw (← c.self.view_is) at c.requires.settled in
     let carries = rw (← c.self.view_is) at c.requires.carries in
-    let next = (after c.args.prepared m).kept in
-    λ _ _. are_framed m.kept next c.args.prepared.framed carries
+    let next = (after c.args.ready.prepared m).kept in
+    λ _ _. is_framed_in m.kept next (written_in c.args.ready) carries
 
 pub invariant_of-self : goal.invariant_of-self
 invariant_of-self g c =
@@ -26,9 +27,9 @@ invariant_of-self g c =
     let sound = c.self.invariant in
     let settled = rw (← c.self.view_is) at c.requires.settled in
     let carries = rw (← c.self.view_is) at c.requires.carries in
-    let next = (after c.args.prepared m).kept in
+    let next = (after c.args.ready.prepared m).kept in
     subst (λ (s : State). IsSound g.D.Disk.told (g.D.Disk.meaning c.write.new.journal.disk) c.write.new.journal.seat s) (sym c.apply.ensures.next)
-    (settled_sound g.D.Disk.told (g.D.Disk.meaning c.write.new.journal.disk) c.write.new.journal.seat (after c.args.prepared m) c.write.ensures.ended c.write.ensures.gated (c.write.ensures.settled c.in-Done.is) (rw (← c.self.view_is) at c.requires.ends)
+    (settled_sound g.D.Disk.told (g.D.Disk.meaning c.write.new.journal.disk) c.write.new.journal.seat (after c.args.ready.prepared m) c.write.ensures.ended c.write.ensures.gated (c.write.ensures.settled c.in-Done.is) (rw (← c.self.view_is) at c.requires.ends)
     (λ told. c.write.ensures.kept told m.kept next (settled_stands (ReplayedTo m.kept) (ReplayedTo (sound.stands told).doubted) j.seat j.seat sound.gated (g.D.Disk.meaning j.disk) settled (sound.stands told).stood) carries c.in-Done.is))
 
 pub invariant_of-self-in-Disk : goal.invariant_of-self-in-Disk
@@ -38,9 +39,9 @@ invariant_of-self-in-Disk g c =
     let sound = c.self.invariant in
     let settled = rw (← c.self.view_is) at c.requires.settled in
     let carries = rw (← c.self.view_is) at c.requires.carries in
-    let next = (after c.args.prepared m).kept in
+    let next = (after c.args.ready.prepared m).kept in
     let left = rw (← c.self.view_is) at c.requires.left in
-    record { ended = c.write.ensures.ended; gated = c.write.ensures.gated; ends = sound.ends; stands = λ told. record { doubted = next; left = λ unsettled. let some = c.write.ensures.wrote c.in-Disk.is in left some.0 some.1; stood = c.write.ensures.doubted told m.kept next (settled_stands (ReplayedTo m.kept) (ReplayedTo (sound.stands told).doubted) j.seat j.seat sound.gated (g.D.Disk.meaning j.disk) settled (sound.stands told).stood) carries c.in-Disk.is } }
+    record { ended = c.write.ensures.ended; gated = c.write.ensures.gated; ends = sound.ends; stands = λ told. record { doubted = next; left = λ unsettled. left (c.write.ensures.wrote c.in-Disk.is); stood = c.write.ensures.doubted told m.kept next (settled_stands (ReplayedTo m.kept) (ReplayedTo (sound.stands told).doubted) j.seat j.seat sound.gated (g.D.Disk.meaning j.disk) settled (sound.stands told).stood) carries c.in-Disk.is } }
 
 pub returns-in-Done-clause-within : goal.returns-in-Done-clause-within
 returns-in-Done-clause-within g c =
@@ -57,7 +58,7 @@ returns-in-Done-clause-kept g c =
     let sound = c.self.invariant in
     let settled = rw (← c.self.view_is) at c.requires.settled in
     let carries = rw (← c.self.view_is) at c.requires.carries in
-    let next = (after c.args.prepared m).kept in
+    let next = (after c.args.ready.prepared m).kept in
     λ told no_fault. subst (λ (s : State). IsKeptOn s.kept (g.D.Disk.meaning c.write.new.journal.disk) c.write.new.journal.seat) (sym c.apply.ensures.next)
     (c.write.ensures.kept told m.kept next (settled_stands (ReplayedTo m.kept) (ReplayedTo (sound.stands told).doubted) j.seat j.seat sound.gated (g.D.Disk.meaning j.disk) settled (sound.stands told).stood) carries c.in-Done.is)
 
@@ -68,7 +69,7 @@ returns-in-Done-clause-any_moment g c =
     let sound = c.self.invariant in
     let settled = rw (← c.self.view_is) at c.requires.settled in
     let carries = rw (← c.self.view_is) at c.requires.carries in
-    let next = (after c.args.prepared m).kept in
+    let next = (after c.args.ready.prepared m).kept in
     rw (← c.self.view_is) (λ told. c.write.ensures.any_moment told m.kept next (settled_stands (ReplayedTo m.kept) (ReplayedTo (sound.stands told).doubted) j.seat j.seat sound.gated (g.D.Disk.meaning j.disk) settled (sound.stands told).stood) carries)
 
 pub returns-in-Disk-clause-any_moment : goal.returns-in-Disk-clause-any_moment
@@ -78,7 +79,7 @@ returns-in-Disk-clause-any_moment g c =
     let sound = c.self.invariant in
     let settled = rw (← c.self.view_is) at c.requires.settled in
     let carries = rw (← c.self.view_is) at c.requires.carries in
-    let next = (after c.args.prepared m).kept in
+    let next = (after c.args.ready.prepared m).kept in
     rw (← c.self.view_is) (λ told. c.write.ensures.any_moment told m.kept next (settled_stands (ReplayedTo m.kept) (ReplayedTo (sound.stands told).doubted) j.seat j.seat sound.gated (g.D.Disk.meaning j.disk) settled (sound.stands told).stood) carries)
 
 pub returns-in-Full-clause-any_moment : goal.returns-in-Full-clause-any_moment
@@ -88,7 +89,7 @@ returns-in-Full-clause-any_moment g c =
     let sound = c.self.invariant in
     let settled = rw (← c.self.view_is) at c.requires.settled in
     let carries = rw (← c.self.view_is) at c.requires.carries in
-    let next = (after c.args.prepared m).kept in
+    let next = (after c.args.ready.prepared m).kept in
     rw (← c.self.view_is) (λ told. c.write.ensures.any_moment told m.kept next (settled_stands (ReplayedTo m.kept) (ReplayedTo (sound.stands told).doubted) j.seat j.seat sound.gated (g.D.Disk.meaning j.disk) settled (sound.stands told).stood) carries)
 
 pub returns-in-Disk-clause-doubted : goal.returns-in-Disk-clause-doubted
@@ -98,7 +99,7 @@ returns-in-Disk-clause-doubted g c =
     let sound = c.self.invariant in
     let settled = rw (← c.self.view_is) at c.requires.settled in
     let carries = rw (← c.self.view_is) at c.requires.carries in
-    let next = (after c.args.prepared m).kept in
+    let next = (after c.args.ready.prepared m).kept in
     rw (← c.self.view_is) (λ told is. c.write.ensures.doubted told m.kept next (settled_stands (ReplayedTo m.kept) (ReplayedTo (sound.stands told).doubted) j.seat j.seat sound.gated (g.D.Disk.meaning j.disk) settled (sound.stands told).stood) carries c.in-Disk.is)
 
 pub returns-in-Full-clause-full : goal.returns-in-Full-clause-full

@@ -31,6 +31,11 @@ begin-requires-clause-settled g c = λ _ _. c.recover.ensures.settled ∙ c.in-O
 pub begin-requires-clause-read : goal.begin-requires-clause-read
 begin-requires-clause-read g c = λ _ _ told. c.in-Ok-recover.ensures.read told (c.in-Ok.ensures.mounted told)
 
+pub returns-in-Ok-recover-clause-started : goal.returns-in-Ok-recover-clause-started
+returns-in-Ok-recover-clause-started g c =
+    match_both c.begin.result _ _ _ _ _ _ c.begin.ensures.begun c.begin.ensures.begun
+    (λ store begun _. (c.in-Ok-recover.engine.state.kept, begun.0, begun.1)) (λ failed none _. none)
+
 pub returns-in-Ok-recover-clause-opened : goal.returns-in-Ok-recover-clause-opened
 returns-in-Ok-recover-clause-opened g c = λ told.
     let laws = g.met.D.Disk g.world.𝓛 g.world.𝓜 g.world.𝓡 ((λ s x. x), (λ x. x), (λ x. x), λ x. x) in

@@ -49,7 +49,8 @@ returns-in-Ok-clause-step g c =
     let same = c.prepare.ensures.state ∙ c.mend.ensures.same.0 in
     let disk = c.prepare.ensures.same.0 in
     let s3 = c.make.new.self in
-    let prepared = c.in-Ok.prepared in
+    let ready = c.in-Ok.ready in
+    let prepared = ready.prepared in
     let at = event_at c.args.client c.args.ask.now in
     let event = at s2.reading in
     let seat : s2.seat ≡ mended s0.seat = c.prepare.ensures.same.1 ∙ c.mend.ensures.mended c.in-Done.is in
@@ -66,14 +67,15 @@ returns-in-Ok-clause-moves g c =
     let same = c.prepare.ensures.state ∙ c.mend.ensures.same.0 in
     let disk = c.prepare.ensures.same.0 in
     let s3 = c.make.new.self in
-    let prepared = c.in-Ok.prepared in
+    let ready = c.in-Ok.ready in
+    let prepared = ready.prepared in
     let at = event_at c.args.client c.args.ask.now in
     let event = at s2.reading in
     let seat : s2.seat ≡ mended s0.seat = c.prepare.ensures.same.1 ∙ c.mend.ensures.mended c.in-Done.is in
     subst (λ (r : ℕ). StepMoves s0.state (at r) s3.state c.make.result s0.seat s3.seat) (sym c.make.ensures.same.1)
     (subst (λ (s : State). StepMoves s event s3.state c.make.result s0.seat s3.seat) same
     (moves_from s2.state s3.state event s0.seat s2.seat seat c.make.result s3.seat
-    (step_moves s2.state event prepared c.in-Ok.ensures.writes s3.state c.make.result s2.seat s3.seat c.make.ensures.made c.make.ensures.within c.make.ensures.moved)))
+    (step_moves s2.state event ready c.in-Ok.ensures.ready s3.state c.make.result s2.seat s3.seat c.make.ensures.made c.make.ensures.within c.make.ensures.moved)))
 
 pub returns-in-Ok-clause-full : goal.returns-in-Ok-clause-full
 returns-in-Ok-clause-full g c =
@@ -84,13 +86,14 @@ returns-in-Ok-clause-full g c =
     let same = c.prepare.ensures.state ∙ c.mend.ensures.same.0 in
     let disk = c.prepare.ensures.same.0 in
     let s3 = c.make.new.self in
-    let prepared = c.in-Ok.prepared in
+    let ready = c.in-Ok.ready in
+    let prepared = ready.prepared in
     let at = event_at c.args.client c.args.ask.now in
     let event = at s2.reading in
     let seat : s2.seat ≡ mended s0.seat = c.prepare.ensures.same.1 ∙ c.mend.ensures.mended c.in-Done.is in
     λ needed limit is. subst (λ (r : ℕ). Exceeds s0.state (at r) s0.seat needed limit) (sym c.make.ensures.same.1)
     (subst (λ (s : State). Exceeds s event s0.seat needed limit) same
-    (exceeds_from s2.state s3.state event s0.seat s2.seat seat needed limit (exceeds_by s2.state event prepared c.in-Ok.ensures.writes s2.seat needed limit (c.make.ensures.full needed limit is))))
+    (exceeds_from s2.state s3.state event s0.seat s2.seat seat needed limit (exceeds_by s2.state event ready c.in-Ok.ensures.ready s2.seat needed limit (c.make.ensures.full needed limit is))))
 
 pub returns-in-Ok-clause-any_moment : goal.returns-in-Ok-clause-any_moment
 returns-in-Ok-clause-any_moment g c =
@@ -101,7 +104,8 @@ returns-in-Ok-clause-any_moment g c =
     let same = c.prepare.ensures.state ∙ c.mend.ensures.same.0 in
     let disk = c.prepare.ensures.same.0 in
     let s3 = c.make.new.self in
-    let prepared = c.in-Ok.prepared in
+    let ready = c.in-Ok.ready in
+    let prepared = ready.prepared in
     let at = event_at c.args.client c.args.ask.now in
     let event = at s2.reading in
     let seat : s2.seat ≡ mended s0.seat = c.prepare.ensures.same.1 ∙ c.mend.ensures.mended c.in-Done.is in
@@ -122,7 +126,8 @@ returns-in-Ok-clause-time g c =
     let same = c.prepare.ensures.state ∙ c.mend.ensures.same.0 in
     let disk = c.prepare.ensures.same.0 in
     let s3 = c.make.new.self in
-    let prepared = c.in-Ok.prepared in
+    let ready = c.in-Ok.ready in
+    let prepared = ready.prepared in
     let at = event_at c.args.client c.args.ask.now in
     let event = at s2.reading in
     let seat : s2.seat ≡ mended s0.seat = c.prepare.ensures.same.1 ∙ c.mend.ensures.mended c.in-Done.is in
@@ -137,14 +142,15 @@ returns-in-Ok-clause-cost g c =
     let same = c.prepare.ensures.state ∙ c.mend.ensures.same.0 in
     let disk = c.prepare.ensures.same.0 in
     let s3 = c.make.new.self in
-    let prepared = c.in-Ok.prepared in
+    let ready = c.in-Ok.ready in
+    let prepared = ready.prepared in
     let at = event_at c.args.client c.args.ask.now in
     let event = at s2.reading in
     let seat : s2.seat ≡ mended s0.seat = c.prepare.ensures.same.1 ∙ c.mend.ensures.mended c.in-Done.is in
     subst (λ (r : ℕ). StepCosts s0.state (at r) (mend_bytes s0.seat.doubt) c.make.result (meaning s0.disk).written (meaning s3.disk).written) (sym c.make.ensures.same.1)
     (subst (λ (s : State). StepCosts s event (mend_bytes s0.seat.doubt) c.make.result (meaning s0.disk).written (meaning s3.disk).written) same
     (let mid = written_from meaning s1.disk s2.disk disk in
-    step_costs s2.state event prepared c.in-Ok.ensures.writes (mend_bytes s0.seat.doubt) s3.state c.make.result (meaning s0.disk).written (meaning s3.disk).written c.make.ensures.made
+    step_costs s2.state event ready c.in-Ok.ensures.ready (mend_bytes s0.seat.doubt) s3.state c.make.result (meaning s0.disk).written (meaning s3.disk).written c.make.ensures.made
     (omega (arith, mid, c.mend.ensures.cost, c.make.ensures.cost))
     (λ needed limit is. let still = written_from meaning s2.disk s3.disk (c.make.ensures.untouched needed limit is) in omega (arith, mid, still, c.mend.ensures.cost))))
 
@@ -157,7 +163,8 @@ returns-in-Ok-clause-cause g c =
     let same = c.prepare.ensures.state ∙ c.mend.ensures.same.0 in
     let disk = c.prepare.ensures.same.0 in
     let s3 = c.make.new.self in
-    let prepared = c.in-Ok.prepared in
+    let ready = c.in-Ok.ready in
+    let prepared = ready.prepared in
     let at = event_at c.args.client c.args.ask.now in
     let event = at s2.reading in
     let seat : s2.seat ≡ mended s0.seat = c.prepare.ensures.same.1 ∙ c.mend.ensures.mended c.in-Done.is in
@@ -194,7 +201,8 @@ returns-in-Ok-clause-tries g c =
     let s2 = c.prepare.new.self in
     let same = c.prepare.ensures.state ∙ c.mend.ensures.same.0 in
     let s3 = c.make.new.self in
-    let prepared = c.in-Ok.prepared in
+    let ready = c.in-Ok.ready in
+    let prepared = ready.prepared in
     let at = event_at c.args.client c.args.ask.now in
     let next = (after prepared s2.state).kept in
     inl (record {
@@ -202,7 +210,7 @@ returns-in-Ok-clause-tries g c =
       wrote = λ is. subst (λ (r : ℕ). HasFrameWithin s0.state s0.seat (at r)) (sym c.make.ensures.same.1)
           (subst (λ (s : State). HasFrameWithin s s0.seat (at s2.reading)) same
           (subst (λ (x : Seat). HasFrameWithin s2.state x (at s2.reading)) (c.prepare.ensures.same.1 ∙ c.mend.ensures.mended c.in-Done.is)
-          (frame_within s2.state (at s2.reading) prepared c.in-Ok.ensures.writes s2.seat (c.make.ensures.wrote is) (c.make.ensures.fits is))));
+          (frame_within s2.state (at s2.reading) ready c.in-Ok.ensures.ready s2.seat (c.make.ensures.wrote is) (c.make.ensures.fits is))));
       doubts = λ told is. subst (λ (r : ℕ). StepDoubts s0.state (at r) (meaning s3.disk) s3.seat) (sym c.make.ensures.same.1)
           (subst (λ (s : State). StepDoubts s (at s2.reading) (meaning s3.disk) s3.seat) same
           (next, made_after s2.state (at s2.reading) prepared c.in-Ok.ensures.step, c.make.ensures.doubted told is));
@@ -212,13 +220,13 @@ pub make-requires-clause-left : goal.make-requires-clause-left
 make-requires-clause-left g c =
     let s2 = c.prepare.new.self in
     let event = event_at c.args.client c.args.ask.now s2.reading in
-    λ _ _ bytes is. record {
+    λ _ _ some. record {
       from = s2.state;
       event = event;
       gone = [];
       since = refl;
-      has_frame = frame_there s2.state event c.in-Ok.prepared c.in-Ok.ensures.writes (bytes, is);
-      is_after = made_after s2.state event c.in-Ok.prepared c.in-Ok.ensures.step;
+      has_frame = frame_there s2.state event c.in-Ok.ready c.in-Ok.ensures.ready some;
+      is_after = made_after s2.state event c.in-Ok.ready.prepared c.in-Ok.ensures.step;
     }
 
 pub returns-in-Disk-clause-in_doubt : goal.returns-in-Disk-clause-in_doubt
@@ -252,7 +260,7 @@ returns-in-Err-clause-untouched g c = λ left settled. c.prepare.ensures.same.0 
 
 pub returns-in-Ok-clause-untouched : goal.returns-in-Ok-clause-untouched
 returns-in-Ok-clause-untouched g c = λ left settled.
-    let full = left_full c.in-Ok.prepared c.prepare.new.self.state c.make.new.self.state c.make.result c.make.ensures.made left in
+    let full = left_full c.in-Ok.ready.prepared c.prepare.new.self.state c.make.new.self.state c.make.result c.make.ensures.made left in
     c.make.ensures.untouched full.0 full.1 full.2 ∙ c.prepare.ensures.same.0 ∙ c.mend.ensures.still settled
 
 pub returns-in-Err-clause-mended : goal.returns-in-Err-clause-mended
@@ -261,5 +269,5 @@ returns-in-Err-clause-mended g c = λ told left.
 
 pub returns-in-Ok-clause-mended : goal.returns-in-Ok-clause-mended
 returns-in-Ok-clause-mended g c = λ told left.
-    let full = left_full c.in-Ok.prepared c.prepare.new.self.state c.make.new.self.state c.make.result c.make.ensures.made left in
+    let full = left_full c.in-Ok.ready.prepared c.prepare.new.self.state c.make.new.self.state c.make.result c.make.ensures.made left in
     reads_from g.D.Disk.meaning c.mend.new.self.disk c.make.new.self.disk (c.make.ensures.untouched full.0 full.1 full.2 ∙ c.prepare.ensures.same.0) ∙ c.mend.ensures.reads told c.in-Done.is

@@ -1,0 +1,14 @@
+pub mod Chosen
+pub mod Clashing
+pub mod Coming
+pub mod Counting
+pub mod Deletions
+pub mod KeyRules
+pub mod KeysOf
+pub mod Members
+pub mod Numbers
+pub mod Once
+pub mod Parts
+pub mod SetLemmas
+pub mod Twins
+pub mod Updates

@@ -1,0 +1,4 @@
+pub mod Behind
+pub mod Deleting
+pub mod Inside
+pub mod Updating

@@ -1,9 +1,0 @@
-use Rattle.au_engine.proofs.statements.built_texts_are_read.Goals as goal
-
-pub returns : goal.returns
-returns c = λ reads built. record {
-  reads = reads;
-  built = built;
-  sound = c.statements_are_sound.ensures c.args.text.now reads;
-  placed = c.statements_stand_in_their_texts.ensures c.args.text.now c.args.statement.now c.as_bytes-bytes.ensures.utf8 reads;
-}

@@ -1,0 +1,3 @@
+pub mod Fits
+pub mod Keyed
+pub mod Known

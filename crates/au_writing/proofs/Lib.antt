@@ -1,0 +1,12 @@
+mod Changing
+mod Contents
+mod Deleting
+mod Fitting
+mod Giving
+mod Inserting
+mod Lists
+mod Planned
+mod Seen
+mod Shown
+mod Updating
+mod Values
