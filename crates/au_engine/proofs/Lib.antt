@@ -1,5 +1,6 @@
 pub mod Apart
 pub mod Beginning
+pub mod Bodies
 pub mod BusyTables
 pub mod Changing
 pub mod Concluded
@@ -16,4 +17,5 @@ pub mod Rulings
 pub mod Settled
 pub mod Settles
 pub mod Taken
+pub mod Untold
 pub mod Views

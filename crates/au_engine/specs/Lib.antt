@@ -1,3 +1,4 @@
+pub mod Imaging
 pub mod Inside
 pub mod Logons
 pub mod Prepared

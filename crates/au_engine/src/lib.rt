@@ -5,6 +5,7 @@ mod busy;
 mod concluding;
 mod engine;
 mod framing;
+mod imaging;
 mod logons;
 mod outcome;
 mod places;

@@ -1,5 +1,5 @@
 -- How the commands `trail` and `check` end, and why.
-use Rattle.std.proofs.Common.{◌≡◌, inl, inr, ℕ, List, [], get_or, refl, sym, ◌∙◌, ap, subst, arith}
+use Rattle.std.proofs.Common.{◌≡◌, inl, inr, ℕ, List, refl, sym, ◌∙◌, ap, subst}
 use Rattle.std.specs.Prelude.{Option}
 use Rattle.au_entries.specs.declared.kept.Kept.{Kept}
 use Rattle.au_io.specs.declared.disk.Area.{Area}
@@ -13,25 +13,13 @@ use Rattle.au_store.specs.Looking.{LookCause, LookSays, ReadsUpTo, opening_fault
 use Rattle.au_store.specs.Recovery.{ReadsAs}
 use Rattle.au_store.specs.Starting.{IsOfBytes, OpenSays}
 use Rattle.au_main.specs.declared.export.Export.{Export}
-use Rattle.au_main.specs.declared.export.Export.TheVariants as export
 use Rattle.au_main.specs.declared.status.Status.{Status}
 use Rattle.au_main.specs.declared.status.Status.TheVariants.{Done, Usage, ReadFault, WriteFault, DiskFault, Unformatted, Formatted, Damaged, BadLine, TooLong, LobbyFault, Memory, Worn}
 use Rattle.au_main.specs.Causes.{EndSays}
 use Rattle.au_main.specs.Complete.{IsDoneOrShort, IsEndOr, NoneRose}
-use Rattle.au_main.specs.Exports.{CanBeRead, ExportTo, GivesText, IsExport, IsOfLook, look_status, text_of}
+use Rattle.au_main.specs.Exports.{CanBeRead, ExportTo, IsOfLook, look_status, text_of}
+use Rattle.au_main.specs.Given.{GivesText}
 use Rattle.au_main.specs.Ran.{IsReadCause, IsWriteCause}
-
--- ---- the words
-
-abbrev first_byte : List (List ℕ) → ℕ
-first_byte words = get_or (get_or words 0 []) 0 0
-
--- the words are one command
-pub one_command : (words : List (List ℕ)) (a b : Export) → IsExport words a → IsExport words b → a ≡ b
-one_command words export.Trail export.Trail is too = refl
-one_command words export.Check export.Check is too = refl
-one_command words export.Trail export.Check is too = let same : 116 ≡ 99 = ap first_byte (sym is ∙ too) in absurd (omega (arith, same))
-one_command words export.Check export.Trail is too = let same : 99 ≡ 116 = ap first_byte (sym is ∙ too) in absurd (omega (arith, same))
 
 -- ---- what comes of it
 

@@ -1,12 +1,14 @@
+pub mod Commands
 pub mod Counts
 pub mod Ends
 pub mod Exported
 pub mod Gathering
 pub mod Giving
 pub mod Histories
+pub mod Nothing
 pub mod OnDisk
-pub mod Options
 pub mod Pieces
 pub mod Running
 pub mod Runs
+pub mod Sampled
 pub mod Serving

@@ -104,7 +104,7 @@ CameBy-uncertain p here answers kept reached un =
 -- ---- the images
 
 -- no call passes no moment
-passes_none : (m : Meaning) → CountsNow m → OnlyNow m → Passes m m
+pub passes_none : (m : Meaning) → CountsNow m → OnlyNow m → Passes m m
 passes_none m counts only = record {
   later = omega arith;
   splits = λ t c le since. inl since;

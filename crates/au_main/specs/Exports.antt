@@ -1,5 +1,5 @@
 -- What the commands `trail` and `check` write of a store, without opening it.
-use Rattle.std.specs.Prelude.{◌≡◌, ⊤, ℕ, List, [], ◌∷◌, Option, codes}
+use Rattle.std.specs.Prelude.{◌≡◌, ⊤, ℕ, List, Option}
 use Rattle.std.specs.Io.KnownBytes.{Appends}
 use Rattle.au_entries.specs.declared.kept.Kept.{Kept}
 use Rattle.au_io.specs.declared.disk.Area.{Area}
@@ -11,6 +11,9 @@ use Rattle.au_report.specs.Exports.{trail_text}
 use Rattle.au_store.specs.declared.look_fault.LookFault.{LookFault}
 use Rattle.au_store.specs.declared.look_fault.LookFault.TheVariants as look
 use Rattle.au_store.specs.Looking.{LookSays, ReadsUpTo}
+use Rattle.au_words.specs.declared.command.Command.{Command}
+use Rattle.au_words.specs.declared.command.Command.TheVariants as word
+use Rattle.au_words.specs.Words.{IsCommand}
 use Rattle.au_main.specs.declared.export.Export.{Export}
 use Rattle.au_main.specs.declared.export.Export.TheVariants as export
 use Rattle.au_main.specs.declared.status.Status.{Status}
@@ -19,14 +22,14 @@ use Rattle.au_main.specs.Given.{AppendsFront}
 
 -- ---- the words
 
--- the word of the command
-abbrev pub word_of : Export → List ℕ
-word_of export.Trail = codes "trail"
-word_of export.Check = codes "check"
+-- as one of the commands
+abbrev pub as_command : Export → Command
+as_command export.Trail = word.Trail
+as_command export.Check = word.Check
 
--- the words are this one command
+-- the words are this command
 abbrev pub IsExport : List (List ℕ) → Export → Type 0
-IsExport words command = words ≡ word_of command ∷ []
+IsExport words what = IsCommand words (as_command what)
 
 -- ---- the text
 
@@ -36,22 +39,6 @@ text_of export.Trail kept used = trail_text kept.trail
 text_of export.Check kept used = check_text (counts_of kept used)
 
 -- ---- how it ends
-
--- what comes of giving the text, by how it ends: all of it was given, or a front of it, or, without memory for it, nothing
-abbrev pub GivesText : List ℕ → Status → (given gave : Option (List ℕ)) → Type 0
-GivesText text Done given gave = Appends given gave text
-GivesText text WriteFault given gave = AppendsFront given gave text
-GivesText text Memory given gave = gave ≡ given
-GivesText text Usage given gave = ⊥
-GivesText text ReadFault given gave = ⊥
-GivesText text DiskFault given gave = ⊥
-GivesText text Unformatted given gave = ⊥
-GivesText text Formatted given gave = ⊥
-GivesText text (Damaged area at) given gave = ⊥
-GivesText text (BadLine n) given gave = ⊥
-GivesText text TooLong given gave = ⊥
-GivesText text LobbyFault given gave = ⊥
-GivesText text Worn given gave = ⊥
 
 -- the whole text was given
 abbrev pub IsExported : Export → (told : Type 0) → Areas → (given gave : Option (List ℕ)) → Type 0

@@ -8,6 +8,6 @@ pub mod Lines
 pub mod Means
 pub mod OnDisk
 pub mod Ran
+pub mod Samples
 pub mod Status
-pub mod Words
 pub mod descent

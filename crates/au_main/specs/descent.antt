@@ -1,3 +1,4 @@
 pub mod NextLine
+pub mod Sampling
 pub mod Serving
 pub mod Stretch

@@ -2,8 +2,10 @@
 ghost use Rattle.std.specs.Prelude.{◌≡◌, OnOk, OnErr};
 ghost use Rattle.std.specs.Io.KnownBytes.{Appends};
 ghost use Rattle.au_io.specs.Faults.{HasRisen};
-ghost use Rattle.au_main.specs.Given.{AppendsFront};
+ghost use Rattle.au_main.specs.Given.{AppendsFront, GivesText};
+ghost use Rattle.au_main.specs.Ran.{IsWriteCause};
 
+use crate::status::Status;
 use au_io::{Gave, Sink};
 
 /// The sink failed.
@@ -25,4 +27,15 @@ pub(crate) fn give_all<W: Sink>(sink: &mut W, bytes: &[u8]) -> Result<(), WriteF
         }
     }
     Ok(())
+}
+
+/// Gives the text of a command, which is done then.
+pub(crate) fn give<W: Sink>(sink: &mut W, text: &[u8]) -> Status
+    ensures gives { GivesText text.now result (W.given sink.old) (W.given sink.new) }
+    ensures write { IsWriteCause result (W.faults sink.old) (W.faults sink.new) }
+{
+    match give_all(sink, text) {
+        Ok(()) => Status::Done,
+        Err(_) => Status::WriteFault,
+    }
 }

@@ -14,7 +14,7 @@ pub(crate) fn init<D: Disk, C: Clock>(
     password: &str,
     limit: u32,
 ) -> Status
-    requires { IsLimit limit }
+    requires limit { IsLimit limit }
     ensures { HasInit D.told D.meaning D.faults result password.now limit disk.old disk.new }
 {
     match Store::<D, C>::create(alloc, disk, password.as_bytes(), limit) {

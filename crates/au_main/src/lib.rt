@@ -1,6 +1,7 @@
 //! The top call: all that the program does, on the outside that it is handed.
 #![tactic(auto)]
 
+mod asked;
 mod command;
 mod export;
 mod exporting;
@@ -10,12 +11,12 @@ mod line;
 mod next_line;
 mod refill;
 mod run;
+mod sampling;
 mod serve;
 mod status;
 mod stop;
 mod stretch;
-mod words;
 
-pub use command::top;
+pub use command::{alone, top};
 pub use export::Export;
 pub use status::Status;

@@ -66,8 +66,8 @@ fn answer<D: Disk, C: Clock, W: Sink>(
     Ok(())
 }
 
-// One step of the client, whose count of steps nobody asks.
-fn step<D: Disk, C: Clock>(
+/// One step of the client, whose count of steps nobody asks.
+pub(crate) fn step<D: Disk, C: Clock>(
     alloc: Global,
     store: &mut Store<D, C>,
     client: ClientNo,

@@ -1,4 +1,5 @@
 pub mod Checks
 pub mod Exports
 pub mod Lines
+pub mod Summaries
 pub mod descent

@@ -44,7 +44,13 @@ fn push_audit(alloc: Global, text: &mut String, counts: &Counts) -> Result<(), M
     push_line(alloc, text, "records", counts.records)
 }
 
-fn push_line(alloc: Global, text: &mut String, word: &str, number: u64) -> Result<(), Memory>
+/// Adds a line of a word, a space and a number.
+pub(crate) fn push_line(
+    alloc: Global,
+    text: &mut String,
+    word: &str,
+    number: u64,
+) -> Result<(), Memory>
     ensures { OnOk result (string_bytes text.new ≡ string_bytes text.old ++ counted word.now number) }
 {
     let digits = number.to_string(alloc)?;

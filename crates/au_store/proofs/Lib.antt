@@ -1,9 +1,9 @@
 pub mod Begun
-pub mod Copies
 pub mod EventFrames
 pub mod Exclusive
 pub mod Frames
 pub mod Going
+pub mod Imaged
 pub mod Keeping
 pub mod Leading
 pub mod Looked

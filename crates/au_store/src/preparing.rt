@@ -1,18 +1,15 @@
 //! Working out the step of an ask.
 ghost use Rattle.std.specs.Prelude.{◌≡◌, ◌≢◌, IfOk};
-ghost use Rattle.au_entries.specs.declared.kept.Kept.{Kept};
 ghost use Rattle.au_engine.specs.Prepared.{Fits, after, logged_of};
 ghost use Rattle.au_step.specs.Replaying.{EndsWell};
-ghost use Rattle.au_step.specs.State.{IsStampOf, resting};
+ghost use Rattle.au_step.specs.State.{IsStampOf};
 ghost use Rattle.au_step.specs.Step.{StepAt};
 ghost use Rattle.au_store.specs.descent.Making.{CarriesTo, IsImageFor, IsReady, WritesTo, written_in};
 
 use crate::ready::Ready;
-use crate::replaying::{begin_by, go_on_by};
 use au_base::{Ask, ClientNo, List, Memory, Stamp};
-use au_engine::{Engine, Prepared, asks_are_text, body_in, reading_of};
+use au_engine::{Engine, Prepared, asks_are_text, reading_of};
 use au_step::{frames_lead_on, images_come_back, one_result};
-use rec_codec::one_front;
 use std::alloc::Global;
 
 /// Reads the text that a client asks, plans it where it is on rows, and works out the step at this
@@ -52,6 +49,7 @@ fn image_after(
     prepared: &Prepared,
 ) -> Result<Option<List<u8>>, Memory>
     requires seated { EndsWell engine.now.state.kept }
+    requires fits { Fits prepared.now engine.now }
     requires carries { CarriesTo engine.now.state.kept prepared.now.framed (after prepared.now engine.now.state).kept }
     requires ends { EndsWell (after prepared.now engine.now.state).kept }
     ensures { IfOk result (IsImageFor (after prepared.now engine.now.state).kept (logged_of prepared.now).purge) }
@@ -59,40 +57,7 @@ fn image_after(
     if !prepared.purges() {
         return Ok(None);
     }
-    let copy = copy_after(engine, alloc, prepared)?;
-    let image = copy.image(alloc)?;
+    images_come_back();
+    let image = engine.image_after(alloc, prepared)?;
     Ok(Some(List::from_vec(image)))
-}
-
-// What is kept after the step, built beside the state. It takes as long as an image of what is kept,
-// and as much memory.
-fn copy_after(engine: &Engine, alloc: Global, prepared: &Prepared) -> Result<Engine, Memory>
-    requires seated { EndsWell engine.now.state.kept }
-    ensures { (next : Kept) → CarriesTo engine.now.state.kept prepared.now.framed next → IfOk result (λ copy. copy.state.kept ≡ next) }
-{
-    one_front();
-    let mut copy = copy_of(engine, alloc)?;
-    match prepared.body() {
-        None => Ok(copy),
-        Some(body) => {
-            go_on_by(alloc, &mut copy, body)?;
-            Ok(copy)
-        }
-    }
-}
-
-// What is kept, built beside the state from its image.
-fn copy_of(engine: &Engine, alloc: Global) -> Result<Engine, Memory>
-    requires seated { EndsWell engine.now.state.kept }
-    ensures kept { IfOk result (λ copy. copy.state.kept ≡ engine.now.state.kept) }
-    ensures resting { IfOk result (λ copy. copy.state ≡ resting copy.state.kept) }
-    ensures ends { IfOk result (λ copy. EndsWell copy.state.kept) }
-{
-    one_front();
-    let image = engine.image(alloc)?;
-    match begin_by(alloc, body_in(image.as_slice()))? {
-        Some(copy) => Ok(copy),
-        // An image is always one that can be replayed from nothing.
-        None => Err(Memory),
-    }
 }

@@ -9,9 +9,14 @@
 //! - `init`, `init LIMIT`: makes a store, whose journal has that limit; the answer is how that ends
 //! - `run ASK ..`: a script of these asks of one client: `local`, `logoff`, `audit` (AUDIT POLICY P_ALL),
 //!   `noaudit`, `policy` (P, for COMMIT), `enable` (AUDIT POLICY P), `create` (table T), `insert1` and
-//!   `insert2` (a row each), `commit`, `rollback`, `purge` (of the whole trail), `count` (of the trail),
-//!   `rows` (of T). The answers are `ok`, the count, `disk` or `full`, and behind them how often the
-//!   clock was read; where the run ends otherwise than done, how
+//!   `insert2` (a row each), `commit`, `rollback`, `purge` (of the whole trail), `archive` (the archive
+//!   timestamp is now), `clean` (of what is before it), `wrong` (a purge with a bad argument), `count`
+//!   (of the trail), `rows` (of T). The answers are `ok`, the count, `46250`, `disk` or `full`, and
+//!   behind them how often the clock was read; where the run ends otherwise than done, how
+//! - `open`: a run without an ask; the answer is how it ends
+//! - `check`: its lines, with commas between them
+//! - `letter`: the byte that Head reads, as a number
+//! - `crash PICK`: the disk is from here on its image of that pick, which fails no more
 //! - `grow N`: the frames behind the start of the first run are written so many times more, as if their
 //!   statements had been asked again at the same moments; the answer is the size of area A
 //! - `images`: what a run counts on each image, the records of the trail, and behind a comma the rows of

@@ -1,8 +1,8 @@
 //! The program's commands on an outside in memory.
 
 use crate::fault::Fault;
-use crate::scripts::{said_answers, said_counts, script_of};
-use crate::words::number;
+use crate::scripts::{joined_lines, said_answers, said_counts, script_of};
+use crate::words::{number, pick};
 use au_base::Text;
 use au_io::{Area, Disk, MemClock, MemDisk, MemSink, MemSource, NoLobby};
 use au_main::{Status, top};
@@ -57,6 +57,10 @@ pub fn said_step(
             Ok(format!(in alloc; "{size} bytes")?)
         }
         "images" => said_images(alloc, disk),
+        "open" => said_open(alloc, disk),
+        "check" => said_check(alloc, disk),
+        "letter" => said_letter(alloc, disk),
+        "crash" => said_crash(alloc, disk, pick(part)?),
         _ => Err(Fault::NoCase),
     }
 }
@@ -183,6 +187,36 @@ fn said_run(alloc: Global, ran: &Outcome) -> Result<String, Fault> {
             Ok(format!(in alloc; "{said}, {readings} readings, {status}")?)
         }
     }
+}
+
+// How a run without an ask ends.
+fn said_open(alloc: Global, disk: &mut MemDisk) -> Result<String, Fault> {
+    let ran = command(alloc, &["run"], "", disk)?;
+    said_status(alloc, ran.status)
+}
+
+// The lines of a check, or how it ends.
+fn said_check(alloc: Global, disk: &mut MemDisk) -> Result<String, Fault> {
+    let counted = command(alloc, &["check"], "", disk)?;
+    match counted.status {
+        Status::Done => joined_lines(alloc, &counted.given),
+        _ => said_status(alloc, counted.status),
+    }
+}
+
+// The byte of Head that reads.
+fn said_letter(alloc: Global, disk: &mut MemDisk) -> Result<String, Fault> {
+    let mut letter = [0u8; 1];
+    match disk.read(Area::Head, 0, &mut letter)? {
+        0 => Ok(format!(in alloc; "no letter")?),
+        _ => Ok(format!(in alloc; "letter {}", letter[0])?),
+    }
+}
+
+// Puts the picked image in the place of the disk.
+fn said_crash(alloc: Global, disk: &mut MemDisk, pick: u8) -> Result<String, Fault> {
+    *disk = disk.image(alloc, pick)?;
+    Ok(format!(in alloc; "crashed")?)
 }
 
 fn said_images(alloc: Global, disk: &MemDisk) -> Result<String, Fault> {

@@ -8,10 +8,20 @@ const OK: &str = "{\"code\":0,\"columns\":[],";
 
 const NO_TABLE: &str = "{\"code\":942,\"columns\":[],\"count\":0,\"rows\":[]}";
 
+const BAD_ARGUMENT: &str = "{\"code\":46250,\"columns\":[],\"count\":0,\"rows\":[]}";
+
 const COUNT: &str = "{\"code\":0,\"columns\":[\"COUNT(*)\"],\"count\":1,\"rows\":[[";
 
 const PURGE: &str =
     "s1 sql BEGIN DBMS_AUDIT_MGMT.CLEAN_AUDIT_TRAIL(AUDIT_TRAIL_TYPE => DBMS_AUDIT_MGMT.AUDIT_TRAIL_UNIFIED, USE_LAST_ARCH_TIMESTAMP => FALSE); END;\n";
+
+const CLEAN: &str =
+    "s1 sql BEGIN DBMS_AUDIT_MGMT.CLEAN_AUDIT_TRAIL(AUDIT_TRAIL_TYPE => DBMS_AUDIT_MGMT.AUDIT_TRAIL_UNIFIED); END;\n";
+
+const WRONG: &str = "s1 sql BEGIN DBMS_AUDIT_MGMT.CLEAN_AUDIT_TRAIL(AUDIT_TRAIL_TYPE => 1); END;\n";
+
+const ARCHIVE: &str =
+    "s1 sql BEGIN DBMS_AUDIT_MGMT.SET_LAST_ARCHIVE_TIMESTAMP(AUDIT_TRAIL_TYPE => DBMS_AUDIT_MGMT.AUDIT_TRAIL_UNIFIED, LAST_ARCHIVE_TIME => SYSTIMESTAMP); END;\n";
 
 /// A script of these asks, with spaces between them.
 pub fn script_of(alloc: Global, asks: &str) -> Result<String, Fault> {
@@ -36,6 +46,9 @@ fn line_of(ask: &str) -> Result<&'static str, Fault> {
         "commit" => Ok("s1 sql COMMIT\n"),
         "rollback" => Ok("s1 sql ROLLBACK\n"),
         "purge" => Ok(PURGE),
+        "clean" => Ok(CLEAN),
+        "wrong" => Ok(WRONG),
+        "archive" => Ok(ARCHIVE),
         "count" => Ok("s1 sql SELECT COUNT(*) FROM UNIFIED_AUDIT_TRAIL\n"),
         "rows" => Ok("s1 sql SELECT COUNT(*) FROM T\n"),
         _ => Err(Fault::NoCase),
@@ -54,6 +67,18 @@ pub fn said_answers(alloc: Global, given: &str) -> Result<String, Fault> {
     Ok(said)
 }
 
+/// The lines with commas between them.
+pub fn joined_lines(alloc: Global, given: &str) -> Result<String, Fault> {
+    let mut said = String::new(alloc);
+    for line in given.lines() {
+        if !said.is_empty() {
+            said.push_str(", ")?;
+        }
+        said.push_str(line)?;
+    }
+    Ok(said)
+}
+
 /// What the answers to `local count rows` count: the records, and behind a comma the rows of T, where
 /// it stands.
 pub fn said_counts(alloc: Global, given: &str) -> Result<String, Fault> {
@@ -68,10 +93,13 @@ pub fn said_counts(alloc: Global, given: &str) -> Result<String, Fault> {
     Ok(format!(in alloc; "{records},{rows}")?)
 }
 
-// An answer in short: `ok`, a count, a fault, or the text itself.
+// An answer in short: `ok`, the code of a bad argument, a count, a fault, or the text itself.
 fn short(line: &str) -> &str {
     if line.starts_with(OK) {
         return "ok";
+    }
+    if line == BAD_ARGUMENT {
+        return "46250";
     }
     if line == "{\"fault\":\"disk\"}" {
         return "disk";

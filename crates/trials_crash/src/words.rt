@@ -8,6 +8,11 @@ pub fn number(word: &str) -> Result<u64, Fault> {
     word.parse().map_err(|_| Fault::NoCase)
 }
 
+/// The image that the word picks.
+pub fn pick(word: &str) -> Result<u8, Fault> {
+    word.parse().map_err(|_| Fault::NoCase)
+}
+
 /// The numbers that the word lists, with commas between them. `-` lists none.
 pub fn numbers(alloc: Global, word: &str) -> Result<Vec<u64>, Fault> {
     let mut listed = Vec::new(alloc);

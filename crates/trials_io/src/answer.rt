@@ -2,13 +2,17 @@
 
 use crate::disk::disk_lines;
 use crate::fault::Fault;
+use crate::files::files_line;
 use crate::links::{link_line, lobby_lines, sink_line, source_line};
+use crate::port::port_line;
+use crate::streams::{century_line, printed_line, reader_line, writer_line};
 use crate::words::{first_word, number};
 use au_io::{Clock, MemClock};
 use std::alloc::Global;
 
 /// What is answered to a case, in lines that begin with two spaces.
-pub fn answer(alloc: Global, case: &str) -> Result<String, Fault> {
+pub fn answer(rt: HostRuntime, case: &str) -> Result<String, Fault> {
+    let alloc = rt.alloc();
     let (made, calls) = case.split_once(':').ok_or(Fault::NoCase)?;
     let (object, parts) = first_word(made);
     match object {
@@ -18,6 +22,19 @@ pub fn answer(alloc: Global, case: &str) -> Result<String, Fault> {
         "lobby" => lobby_lines(alloc, parts, calls),
         "disk" => disk_lines(alloc, parts, calls),
         "clock" => clock_line(alloc, parts, calls),
+        _ => real_answer(rt, object, parts, calls),
+    }
+}
+
+// What the real outside answers.
+fn real_answer(rt: HostRuntime, object: &str, parts: &str, calls: &str) -> Result<String, Fault> {
+    match object {
+        "files" => files_line(rt, calls),
+        "reader" => reader_line(rt.alloc(), parts, calls),
+        "writer" => writer_line(rt.alloc(), parts, calls),
+        "printed" => printed_line(rt, calls),
+        "century" => century_line(rt),
+        "port" => port_line(rt, calls),
         _ => Err(Fault::NoCase),
     }
 }

@@ -29,7 +29,8 @@ pub fn disk_lines(alloc: Global, parts: &str, calls: &str) -> Result<String, Fau
     Ok(lines)
 }
 
-fn area_named(name: &str) -> Result<Area, Fault> {
+/// The area of this name.
+pub fn area_named(name: &str) -> Result<Area, Fault> {
     match name {
         "head" => Ok(Area::Head),
         "a" => Ok(Area::A),
@@ -57,17 +58,18 @@ fn said_call(
     }
 }
 
-// How a write, a cut or a sync came out.
+/// How a write, a cut or a sync came out.
 #[derive(Clone, Copy)]
-enum Done {
+pub enum Done {
     Done,
     Failed,
-    // The area doesn't reach there, and nothing was asked for.
+    /// The area doesn't reach there, and nothing was asked for.
     PastTheEnd,
 }
 
 impl Done {
-    fn of(answer: Result<(), Failed>) -> Done {
+    /// How the call came out that answers so.
+    pub fn of(answer: Result<(), Failed>) -> Done {
         match answer {
             Ok(()) => Done::Done,
             Err(Failed) => Done::Failed,
@@ -93,7 +95,8 @@ fn shorten(disk: &mut MemDisk, area: Area, size: u64) -> Done {
     }
 }
 
-fn said_done(alloc: Global, done: Done) -> Result<String, Fault> {
+/// How it came out.
+pub fn said_done(alloc: Global, done: Done) -> Result<String, Fault> {
     let said = match done {
         Done::Done => "done",
         Done::Failed => "failed",
@@ -102,8 +105,13 @@ fn said_done(alloc: Global, done: Done) -> Result<String, Fault> {
     Ok(format!(in alloc; "  {said}")?)
 }
 
-// How many bytes the area reads from that place on into a room of eight dots, and the whole room then.
-fn said_read(alloc: Global, disk: &mut MemDisk, area: Area, at: u64) -> Result<String, Fault> {
+/// How many bytes the area reads from that place on into a room of eight dots, and the whole room then.
+pub fn said_read<D: Disk>(
+    alloc: Global,
+    disk: &mut D,
+    area: Area,
+    at: u64,
+) -> Result<String, Fault> {
     let mut room = *b"........";
     match disk.read(area, at, &mut room) {
         Ok(count) => Ok(format!(in alloc; "  {count} [{}]", said_bytes(alloc, &room)?)?),

@@ -123,7 +123,8 @@ fn fresh_link(alloc: Global, text: &str) -> Result<MemLink, Fault>
     })
 }
 
-fn said_opened(alloc: Global, answer: Opened) -> Result<String, Fault> {
+/// How opening came out.
+pub fn said_opened(alloc: Global, answer: Opened) -> Result<String, Fault> {
     match answer {
         Opened::Ready => Ok(format!(in alloc; "  ready")?),
         Opened::Failed => Ok(format!(in alloc; "  failed")?),
@@ -138,7 +139,8 @@ fn said_next(alloc: Global, came: Next<()>) -> Result<String, Fault> {
     }
 }
 
-fn said_taken<S: Source>(alloc: Global, source: &mut S) -> Result<String, Fault> {
+/// The bytes that it gives, at most eight, or how it fails or ends.
+pub fn said_taken<S: Source>(alloc: Global, source: &mut S) -> Result<String, Fault> {
     let mut room = [0u8; ROOM];
     match source.take(&mut room) {
         Took::Bytes(count) => Ok(format!(in alloc; "  {}", text_of(&room[..count]))?),
@@ -147,7 +149,8 @@ fn said_taken<S: Source>(alloc: Global, source: &mut S) -> Result<String, Fault>
     }
 }
 
-fn said_given<W: Sink>(alloc: Global, sink: &mut W, offered: &[u8]) -> Result<String, Fault> {
+/// How many of the bytes it takes, or that it fails.
+pub fn said_given<W: Sink>(alloc: Global, sink: &mut W, offered: &[u8]) -> Result<String, Fault> {
     if offered.is_empty() {
         return Err(Fault::NoCase);
     }

@@ -29,10 +29,12 @@ pub fn asked(alloc: Global, world: &World, line: &str) -> Result<String, Fault>
     }
 }
 
-fn goes(alloc: Global, sight: &Sight<'_>, image: bool, line: &str) -> Result<bool, Fault>
+/// Whether the change of the line goes on from what the sight shows.
+pub fn goes(alloc: Global, sight: &Sight<'_>, image: bool, line: &str) -> Result<bool, Fault>
     requires { IsSorted sight.now }
 {
-    goes_from(alloc, sight, image, &change(alloc, line)?)
+    let asked = change(alloc, line)?;
+    goes_from(alloc, sight, image, &asked)
 }
 
 /// Whether the change goes on from what the sight shows.

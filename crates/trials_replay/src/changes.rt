@@ -38,7 +38,7 @@ fn named(alloc: Global, line: &str) -> Result<Change, Fault> {
 }
 
 fn user(alloc: Global, line: &str) -> Result<Change, Fault> {
-    let verifier = field(line, 2).parse().map_err(|_| Fault::NoCase)?;
+    let verifier = parts::byte(field(line, 2))?;
     Ok(Change::User(name(alloc, field(line, 1))?, [verifier; 32]))
 }
 
@@ -70,6 +70,5 @@ fn archive(line: &str) -> Result<Change, Fault> {
 }
 
 fn start(line: &str) -> Result<Change, Fault> {
-    let instance = field(line, 1).parse().map_err(|_| Fault::NoCase)?;
-    Ok(Change::Start(instance))
+    Ok(Change::Start(parts::short(field(line, 1))?))
 }

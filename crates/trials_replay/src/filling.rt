@@ -1,7 +1,7 @@
 //! Changes that are made many times.
 ghost use Rattle.au_catalog.specs.Staging.{IsOrdered};
 
-use crate::asking::goes_from;
+use crate::asking::goes;
 use crate::changes::change;
 use crate::field;
 use crate::grants::grant_change;
@@ -54,36 +54,15 @@ fn list_many(
 fn list(alloc: Global, changes: &mut Vec<Change>, world: &World, line: &str) -> Result<(), Fault>
     requires { IsOrdered world.now.catalog }
 {
-    push_change(changes, change(alloc, line)?)?;
-    keep_going(alloc, changes, world)
+    if goes(alloc, &sight(world), false, line)? {
+        push_change(changes, change(alloc, line)?)?;
+    }
+    Ok(())
 }
 
 fn push_change(changes: &mut Vec<Change>, change: Change) -> Result<(), Fault> {
     changes.push(change)?;
     Ok(())
-}
-
-// Takes the last change away where it doesn't go on.
-fn keep_going(alloc: Global, changes: &mut Vec<Change>, world: &World) -> Result<(), Fault>
-    requires { IsOrdered world.now.catalog }
-{
-    if !last_goes(alloc, changes.as_slice(), world)? {
-        drop_last(changes);
-    }
-    Ok(())
-}
-
-fn last_goes(alloc: Global, changes: &[Change], world: &World) -> Result<bool, Fault>
-    requires { IsOrdered world.now.catalog }
-{
-    match changes.last() {
-        Some(change) => goes_from(alloc, &sight(world), false, change),
-        None => Ok(false),
-    }
-}
-
-fn drop_last(changes: &mut Vec<Change>) {
-    let _last = changes.pop();
 }
 
 /// A draft of the grants in which the line's grant was made so many times.
@@ -100,7 +79,8 @@ fn push_grant(alloc: Global, changes: &mut Vec<GrantChange>, line: &str) -> Resu
 }
 
 fn granted(alloc: Global, line: &str) -> Result<Option<GrantChange>, Fault> {
-    grant_change(&change(alloc, line)?)
+    let made = change(alloc, line)?;
+    grant_change(&made)
 }
 
 fn push_some(changes: &mut Vec<GrantChange>, granted: Option<GrantChange>) -> Result<(), Fault> {

@@ -64,19 +64,18 @@ pub fn grant_change(change: &Change) -> Result<Option<GrantChange>, Fault> {
 
 fn revoke(change: &Change) -> Result<Option<GrantChange>, Fault> {
     match change {
-        Change::SysRevoke(name, privilege) => Ok(Some(GrantChange::SystemRevoke(
-            name.clone()?,
-            *privilege,
-        ))),
-        Change::RoleRevoke(name, role) => Ok(Some(GrantChange::RoleRevoke(
-            name.clone()?,
-            role.clone()?,
-        ))),
-        Change::ObjRevoke(name, table, action) => Ok(Some(GrantChange::ObjectRevoke(
-            name.clone()?,
-            table.clone()?,
-            *action,
-        ))),
+        Change::SysRevoke(name, privilege) => {
+            let name = name.clone()?;
+            Ok(Some(GrantChange::SystemRevoke(name, *privilege)))
+        }
+        Change::RoleRevoke(name, role) => {
+            let (name, role) = (name.clone()?, role.clone()?);
+            Ok(Some(GrantChange::RoleRevoke(name, role)))
+        }
+        Change::ObjRevoke(name, table, action) => {
+            let (name, table) = (name.clone()?, table.clone()?);
+            Ok(Some(GrantChange::ObjectRevoke(name, table, *action)))
+        }
         _ => Ok(None),
     }
 }

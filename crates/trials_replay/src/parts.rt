@@ -1,9 +1,31 @@
 //! Parts of changes, as lines have them.
+ghost use Rattle.std.specs.Prelude.{◌≤◌, IfOk};
 
 use au_base::{Action, Cell, Column, ColumnKind, List, Name, Privilege, TableName, Text};
 use au_entries::{Enabled, Evaluate, Outcomes};
 use std::alloc::Global;
-use trials_lines::{Fault, name};
+use trials_lines::{Fault, name, number};
+
+/// A number of at most so much.
+fn up_to(text: &str, most: u64) -> Result<u64, Fault>
+    ensures { IfOk result (λ number. number ≤ most) }
+{
+    let number = number(text)?;
+    if number > most {
+        return Err(Fault::NoCase);
+    }
+    Ok(number)
+}
+
+/// A number of 32 bits.
+pub fn short(text: &str) -> Result<u32, Fault> {
+    Ok(up_to(text, 4_294_967_295)? as u32)
+}
+
+/// A number of 8 bits.
+pub fn byte(text: &str) -> Result<u8, Fault> {
+    Ok(up_to(text, 255)? as u8)
+}
 
 /// A table, by its owner and its name with a point between them.
 pub fn table(alloc: Global, text: &str) -> Result<TableName, Fault> {
@@ -130,7 +152,7 @@ fn column(alloc: Global, text: &str) -> Result<Column, Fault> {
     Ok(Column {
         name: name(alloc, column)?,
         kind: kind_of(kind)?,
-        size: size.parse().map_err(|_| Fault::NoCase)?,
+        size: up_to(size, 65_535)? as u16,
         not_null,
     })
 }
@@ -151,7 +173,7 @@ pub fn key(alloc: Global, text: &str) -> Result<List<u32>, Fault> {
         return Ok(listed);
     }
     for part in text.split(',') {
-        listed.push(part.parse().map_err(|_| Fault::NoCase)?)?;
+        listed.push(short(part)?)?;
     }
     Ok(listed)
 }

@@ -2,11 +2,11 @@
 
 use crate::trees::{fga_tree, policy_tree};
 use crate::{field, parts};
-use au_base::{List, TableName};
+use au_base::List;
 use au_entries::Table;
 use au_replay::{fits, is_table};
 use std::alloc::Global;
-use trials_lines::{Fault, name, yes_or_no};
+use trials_lines::{Fault, yes_or_no};
 
 /// What comes of a line that asks about columns, cells or a condition.
 pub fn asked(alloc: Global, line: &str) -> Result<String, Fault> {
@@ -36,10 +36,7 @@ fn is_condition(alloc: Global, line: &str) -> Result<bool, Fault> {
 
 // The table of a condition.
 fn table(alloc: Global, line: &str) -> Result<Table, Fault> {
-    let name = TableName {
-        owner: name(alloc, "SYS")?,
-        name: name(alloc, field(line, 2))?,
-    };
+    let name = parts::table(alloc, &format!(in alloc; "SYS.{}", field(line, 2))?)?;
     let columns = parts::columns(alloc, field(line, 3))?;
     Ok(Table {
         name,

@@ -50,5 +50,5 @@ pub fn gone(alloc: Global, line: &str) -> Result<Change, Fault> {
 }
 
 fn row(text: &str) -> Result<RowNo, Fault> {
-    Ok(RowNo(text.parse().map_err(|_| Fault::NoCase)?))
+    Ok(RowNo(parts::short(text)?))
 }

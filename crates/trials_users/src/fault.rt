@@ -1,13 +1,14 @@
 //! Why a trial has no answers.
 
 use au_base::Memory;
+use au_io::Failed;
 use std::alloc::{AllocError, AllocFailed};
 use std::io;
 
 /// Why a trial has no answers.
 #[derive(Clone, Copy, Debug, PartialEq, Eq)]
 pub enum Fault {
-    /// There was no memory.
+    /// There was no memory, for which alone a disk in memory fails that lists no failing call.
     Memory,
     /// It begins with a line that has no meaning, or no store could be made for it.
     NoTrial,
@@ -15,6 +16,12 @@ pub enum Fault {
 
 impl From<Memory> for Fault {
     fn from(_: Memory) -> Self {
+        Fault::Memory
+    }
+}
+
+impl From<Failed> for Fault {
+    fn from(_: Failed) -> Self {
         Fault::Memory
     }
 }
