@@ -1,3 +1,4 @@
+pub mod Counting
 pub mod Imaging
 pub mod Inside
 pub mod Logons

@@ -17,6 +17,8 @@ ghost use Rattle.au_step.specs.Sessions.{HaveOneEach};
 ghost use Rattle.au_engine.specs.Prepared.{Fits, after, instance_after};
 ghost use Rattle.au_engine.specs.Reserved.{contents_of};
 ghost use Rattle.au_kept.specs.Keeping.{HoldsTogether, desk_of};
+ghost use Rattle.au_pindex.specs.Changing.{changes_policies};
+ghost use Rattle.std.specs.List.{list_any};
 ghost use Rattle.rec_codec.specs.Frames.{IsSpellable, framed};
 
 use crate::prepared::Prepared;
@@ -26,6 +28,7 @@ use au_base::{ClientNo, LAST_MOMENT, List, Memory, Name, Reply, Stamp};
 use au_entries::{Change, Kept, Record};
 use au_kept::{Keeping, transactions_hold};
 use au_opening::opening_changes;
+use au_pindex::{Index, change_policies, indexes_stay};
 use au_step::{Session, ends_stay_lawful, starts_can_be_written};
 use rec_codec::Frame;
 use std::alloc::Global;
@@ -41,12 +44,16 @@ pub struct Engine {
     pub(crate) drawn: u32,
     /// The results that are kept of conditions which are evaluated once an instance.
     pub(crate) results: List<(Name, bool)>,
+    /// The index of the audit policies, where it is made.
+    pub(crate) index: Option<Index>,
     /// For so many more sessions there is room.
     pub(crate) seats: usize,
 }
 
 impl Model for Engine {
-    ghost use Rattle.std.specs.Prelude.{◌≡◌, ◌+◌, ◌≤◌, [], None, map, vec_len, vec_capacity};
+    ghost use Rattle.std.specs.Prelude.{◌≡◌, ◌+◌, ◌≤◌, [], IfSome, None, map, vec_len, vec_capacity};
+    ghost use Rattle.au_catalog.specs.Settling.{catalog_of};
+    ghost use Rattle.au_pindex.specs.Indexing.{IsIndexOf};
     ghost use Rattle.std.specs.Coded.{codes as value_codes};
     ghost use Rattle.au_base.specs.declared.numbers.ClientNo.{ClientNo as Client};
     ghost use Rattle.au_txn.specs.Logs.{changes_of};
@@ -71,7 +78,8 @@ impl Model for Engine {
     ghost invariant = { λ e. (vec_len e.sessions + e.seats ≤ vec_capacity e.sessions)
         × IsLawfulState (record { kept = e.keeping.kept; sessions = map (with_changes e.keeping.logs) e.sessions.items; drawn = e.drawn; results = e.results })
         × HaveOneEach (map (with_changes e.keeping.logs) e.sessions.items)
-        × ((client : Client) → session_of (map (with_changes e.keeping.logs) e.sessions.items) client ≡ None → changes_of client e.keeping.logs ≡ []) };
+        × ((client : Client) → session_of (map (with_changes e.keeping.logs) e.sessions.items) client ≡ None → changes_of client e.keeping.logs ≡ [])
+        × IfSome e.index (IsIndexOf (catalog_of e.keeping.kept)) };
 }
 
 impl Engine {
@@ -139,6 +147,7 @@ impl Engine {
         ensures err { OnErr result (self.new.state ≡ self.old.state) }
     {
         transactions_hold();
+        self.index = None;
         let done = self.keeping.replay(alloc, frame);
         self.keeping.holds_together();
         done
@@ -161,7 +170,8 @@ impl Engine {
         })
     }
 
-    /// Makes a step that was worked out. It takes no memory and can't fail.
+    /// Makes a step that was worked out. It takes no memory and can't fail. The index of the audit
+    /// policies is dropped where the step changes policies, enablements or users.
     pub fn apply(&mut self, prepared: Prepared) -> Reply
         requires { Fits prepared self.old }
         ensures reply { result ≡ prepared.reply }
@@ -173,13 +183,15 @@ impl Engine {
             sessions,
             results,
             finals: _,
-            changes: _,
+            changes,
             staged,
             purge,
             records,
             last,
             framed: _,
         } = prepared;
+        indexes_stay();
+        drop_index(&mut self.index, changes.as_slice());
         self.seats -= 1;
         self.drawn = drawn_after(&sessions, self.drawn);
         let kept = KeptChange {
@@ -258,6 +270,7 @@ impl Engine {
             sessions: Vec::new(alloc),
             drawn: 0,
             results: List::new(alloc),
+            index: None,
             seats: 0,
         }
     }
@@ -279,6 +292,16 @@ impl Engine {
             return Ok(());
         }
         unreachable!()
+    }
+}
+
+// Drops the index, where one of the changes is of audit policies or of their enablements. It takes no
+// memory.
+fn drop_index(index: &mut Option<Index>, changes: &[Change])
+    ensures { index.new ≡ (if list_any changes_policies changes.now then None else index.old) }
+{
+    if change_policies(changes) {
+        *index = None;
     }
 }
 

@@ -1,10 +1,12 @@
 //! Steps of logons and logoffs.
-ghost use Rattle.std.specs.Prelude.{◌≡◌, ◌≤◌, ◌<◌, ◌==◌, ◌∷◌, ◌++◌, [], IfOk, length, false, if◌then◌else◌};
+ghost use Rattle.std.specs.Prelude.{◌≡◌, ◌≤◌, ◌<◌, ◌==◌, ◌∷◌, ◌++◌, [], IfOk, MatchOption, ⊥, length, false, if◌then◌else◌};
 ghost use Rattle.au_base.specs.Codes.{DONE};
 ghost use Rattle.au_base.specs.Limits.{INSTANCE_SESSIONS};
 ghost use Rattle.au_logon.specs.Admitting.{Admits, IsLocal};
 ghost use Rattle.au_step.specs.Lawful.{IsLawfulSession};
-ghost use Rattle.au_step.specs.Step.{AdmittedStep, EndStep, LogoffStep, LogonStep, after_logoff, after_logon, is_crowded, logoff_left, logon_left, logon_number, next_number, recorded};
+ghost use Rattle.au_step.specs.Step.{AdmittedStep, EndStep, LogoffStep, LogonStep, after_logoff, after_logon, is_crowded, logoff_left, logon_left, logon_number, next_number, recorded, session_of};
+ghost use Rattle.au_audit.specs.Statements.{logoff_facts, logon_facts};
+ghost use Rattle.au_engine.specs.Counting.{AreLogonFacts, CountsUp, IsCounted};
 ghost use Rattle.au_engine.specs.Inside.{CanBeMade, IsOwn};
 ghost use Rattle.au_engine.specs.Logons.{after_admission, after_refusal};
 ghost use Rattle.au_engine.specs.Prepared.{logged_by, made_of};
@@ -14,22 +16,25 @@ use crate::Engine;
 use crate::outcome::{Outcome, SessionChange};
 use crate::places::{logoff_facts, logoff_place, logon_facts, logon_place};
 use au_base::limits::{INSTANCE_SESSIONS, OPEN_SESSIONS};
-use au_base::{ClientNo, Code, List, Memory, SessionNo, Stamp, Text};
+use au_base::{ClientNo, Code, List, Memory, SessionNo, Stamp, Steps, Text};
 use au_entries::KeptResults;
 use au_logon::{Admission, admissions_hold, admit, admit_local};
 use au_recording::Left;
 use au_step::Session;
 use std::alloc::Global;
+use std::sync::ledger::Ledger;
 
 impl Engine {
     /// A logon of SYS without a password.
-    pub(crate) fn local(
+    pub(crate) fn local<L: Ledger>(
         &self,
         alloc: Global,
         client: ClientNo,
         stamp: Stamp,
+        steps: &mut Steps<L>,
     ) -> Result<Outcome, Memory>
         ensures step { IfOk result (λ outcome. LogonStep (IsLocal (is_crowded self.now.state)) self.now.state client stamp.0 outcome.reply (logged_by outcome) (made_of outcome self.now.state)) }
+        ensures counted { CountsUp self.now.state (AreLogonFacts (IsLocal (is_crowded self.now.state)) self.now.state client) steps.old steps.new }
         ensures made { IfOk result (CanBeMade self.now.state) }
     {
         if self.stands(client) {
@@ -37,20 +42,22 @@ impl Engine {
         }
         admissions_hold();
         let admission = admit_local(alloc, self.is_crowded())?;
-        let outcome = self.opens(alloc, client, admission, stamp)?;
+        let outcome = self.opens(alloc, client, admission, stamp, steps)?;
         Ok(outcome)
     }
 
     /// A logon with these texts of a user and of a password.
-    pub(crate) fn logon(
+    pub(crate) fn logon<L: Ledger>(
         &self,
         alloc: Global,
         client: ClientNo,
         user: &Text,
         password: &Text,
         stamp: Stamp,
+        steps: &mut Steps<L>,
     ) -> Result<Outcome, Memory>
         ensures step { IfOk result (λ outcome. LogonStep (Admits self.now.state.kept.users self.now.state.kept.grants (is_crowded self.now.state) user.now password.now) self.now.state client stamp.0 outcome.reply (logged_by outcome) (made_of outcome self.now.state)) }
+        ensures counted { CountsUp self.now.state (AreLogonFacts (Admits self.now.state.kept.users self.now.state.kept.grants (is_crowded self.now.state) user.now password.now) self.now.state client) steps.old steps.new }
         ensures made { IfOk result (CanBeMade self.now.state) }
     {
         if self.stands(client) {
@@ -58,7 +65,7 @@ impl Engine {
         }
         admissions_hold();
         let admission = self.admitted(alloc, user, password)?;
-        let outcome = self.opens(alloc, client, admission, stamp)?;
+        let outcome = self.opens(alloc, client, admission, stamp, steps)?;
         Ok(outcome)
     }
 
@@ -85,32 +92,41 @@ impl Engine {
     }
 
     // A logon of a client without a session that is admitted or refused so.
-    fn opens(
+    fn opens<L: Ledger>(
         &self,
         alloc: Global,
         client: ClientNo,
         admission: Admission,
         stamp: Stamp,
+        steps: &mut Steps<L>,
     ) -> Result<Outcome, Memory>
         requires open_to { admission.code ≡ DONE → is_crowded self.now.state ≡ false }
         ensures step { IfOk result (λ outcome. AdmittedStep self.now.state client stamp.0 admission outcome.reply (logged_by outcome) (made_of outcome self.now.state)) }
+        ensures counted { CountsUp self.now.state (λ facts. facts ≡ logon_facts admission.user admission.used admission.code) steps.old steps.new }
         ensures made { IfOk result (CanBeMade self.now.state) }
     {
-        let left = self.logon_left(alloc, &admission, stamp)?;
+        let left = self.logon_left(alloc, &admission, stamp, steps)?;
         Ok(self.opened(alloc, client, admission, left, stamp))
     }
 
     // What auditing leaves of a logon: one record at most.
-    fn logon_left(&self, alloc: Global, admission: &Admission, stamp: Stamp) -> Result<Left, Memory>
+    fn logon_left<L: Ledger>(
+        &self,
+        alloc: Global,
+        admission: &Admission,
+        stamp: Stamp,
+        steps: &mut Steps<L>,
+    ) -> Result<Left, Memory>
         requires open_to { admission.now.code ≡ DONE → is_crowded self.now.state ≡ false }
         ensures left { IfOk result (λ left. left ≡ logon_left self.now.state stamp.0 admission.now) }
         ensures few { IfOk result (λ left. length left.records ≤ 1) }
+        ensures counted { CountsUp self.now.state (λ facts. facts ≡ logon_facts admission.now.user admission.now.used admission.now.code) steps.old steps.new }
     {
         au_recording::records_can_be_written();
         let facts = logon_facts(alloc, admission)?;
         let place = logon_place(self.logon_number(admission), stamp);
         let results = List::new(alloc);
-        let left = self.event_left(alloc, &results, &facts, &place, &[], &[])?;
+        let left = self.event_left(alloc, &results, &facts, &place, &[], &[], steps)?;
         Ok(left)
     }
 
@@ -217,48 +233,59 @@ impl Engine {
     }
 
     /// A logoff of a client.
-    pub(crate) fn logoff(
+    pub(crate) fn logoff<L: Ledger>(
         &self,
         alloc: Global,
         client: ClientNo,
         stamp: Stamp,
+        steps: &mut Steps<L>,
     ) -> Result<Outcome, Memory>
         ensures step { IfOk result (λ outcome. LogoffStep self.now.state client stamp.0 outcome.reply (logged_by outcome) (made_of outcome self.now.state)) }
+        ensures counted { CountsUp self.now.state (λ facts. MatchOption (session_of self.now.state.sessions client) ⊥ (λ seat. facts ≡ logoff_facts seat.session.user DONE)) steps.old steps.new }
         ensures made { IfOk result (CanBeMade self.now.state) }
     {
         match self.own_session(client) {
             None => Ok(self.unchanged(alloc, Code::NOT_LOGGED_ON)),
             Some(session) => {
-                let outcome = self.ended(alloc, client, session, stamp)?;
+                let outcome = self.ended(alloc, client, session, stamp, steps)?;
                 Ok(outcome)
             }
         }
     }
 
     // A logoff of a client that has this session.
-    fn ended(
+    fn ended<L: Ledger>(
         &self,
         alloc: Global,
         client: ClientNo,
         session: &Session,
         stamp: Stamp,
+        steps: &mut Steps<L>,
     ) -> Result<Outcome, Memory>
         requires own { IsLawfulSession self.now.state.kept session.now }
         ensures step { IfOk result (λ outcome. EndStep self.now.state session.now client stamp.0 outcome.reply (logged_by outcome) (made_of outcome self.now.state)) }
+        ensures counted { CountsUp self.now.state (λ facts. facts ≡ logoff_facts session.now.user DONE) steps.old steps.new }
         ensures made { IfOk result (CanBeMade self.now.state) }
     {
-        let left = self.logoff_left(alloc, session, stamp)?;
+        let left = self.logoff_left(alloc, session, stamp, steps)?;
         Ok(self.without(alloc, client, left, stamp))
     }
 
     // What auditing leaves of a logoff.
-    fn logoff_left(&self, alloc: Global, session: &Session, stamp: Stamp) -> Result<Left, Memory>
+    fn logoff_left<L: Ledger>(
+        &self,
+        alloc: Global,
+        session: &Session,
+        stamp: Stamp,
+        steps: &mut Steps<L>,
+    ) -> Result<Left, Memory>
         requires own { IsLawfulSession self.now.state.kept session.now }
-        ensures { IfOk result (λ left. left ≡ logoff_left self.now.state session.now stamp.0) }
+        ensures counted { CountsUp self.now.state (λ facts. facts ≡ logoff_facts session.now.user DONE) steps.old steps.new }
+        ensures left { IfOk result (λ left. left ≡ logoff_left self.now.state session.now stamp.0) }
     {
         let facts = logoff_facts(alloc, &session.user)?;
         let place = logoff_place(session, stamp);
-        let left = self.event_left(alloc, &session.results, &facts, &place, &[], &[])?;
+        let left = self.event_left(alloc, &session.results, &facts, &place, &[], &[], steps)?;
         Ok(left)
     }
 

@@ -6,6 +6,7 @@ ghost use Rattle.au_step.specs.Reading.{IsReadOf};
 ghost use Rattle.au_step.specs.Replaying.{EndsWell};
 ghost use Rattle.au_step.specs.State.{IsStampOf};
 ghost use Rattle.au_step.specs.Step.{LoggedStep, StepAt};
+ghost use Rattle.au_engine.specs.Counting.{CountsFor};
 ghost use Rattle.au_engine.specs.Inside.{CanBeMade};
 ghost use Rattle.au_engine.specs.Prepared.{Fits, HasSpare, after, logged_by, logged_of, made_of};
 ghost use Rattle.au_engine.specs.Reserved.{contents_of};
@@ -16,19 +17,24 @@ use crate::Engine;
 use crate::framing::{asks_are_text, with_frame};
 use crate::outcome::{Outcome, RowsChange, SessionChange};
 use crate::prepared::Prepared;
-use au_base::{Ask, ClientNo, Code, Memory, Stamp};
+use au_base::{Ask, ClientNo, Code, Memory, Stamp, Steps};
 use au_entries::Change;
 use au_kept::spellings_are_short;
+use au_pindex::Index;
+use au_policy::lawful_policies_can_be_asked;
 use au_step::{clients_have_one_session, frames_lead_on, steps_hold};
 use au_world::RowPlan;
 use sql_ast::Statement;
 use std::alloc::Global;
+use std::sync::ledger::Ledger;
 
 impl Engine {
     /// Works out the step of a client's ask at this stamp, and leaves the state as it is. A text
     /// that is asked comes with what it is read as, and with its plan; with another ask any reading
-    /// comes. The results that the session and the instance keep of conditions are copied.
-    pub fn prepare(
+    /// comes. The results that the session and the instance keep of conditions are copied. Of the audit
+    /// policies those are tested that aren't Off and name the event, one step each; behind a step that
+    /// changed policies, enablements or users all are gone over once before.
+    pub fn prepare<L: Ledger>(
         &mut self,
         alloc: Global,
         client: ClientNo,
@@ -36,6 +42,7 @@ impl Engine {
         read: &Result<Statement, Code>,
         plan: Option<RowPlan>,
         stamp: Stamp,
+        steps: &mut Steps<L>,
     ) -> Result<Prepared, Memory>
         requires client { client.0 ≢ 0 }
         requires read { IsReadOf ask.now read.now }
@@ -47,12 +54,28 @@ impl Engine {
         ensures writes { IfOk result (λ prepared. Writes self.old.state client ask.now stamp.0 (after prepared self.old.state) prepared.framed) }
         ensures keeps { self.new.state ≡ self.old.state }
         ensures fits { IfOk result (λ prepared. Fits prepared self.new) }
+        ensures steps { CountsFor self.old.state client ask.now stamp.0 steps.old steps.new }
     {
         self.reserve()?;
-        let outcome = self.step(alloc, client, ask, read, plan, stamp)?;
+        self.index_policies(alloc)?;
+        let outcome = self.step(alloc, client, ask, read, plan, stamp, steps)?;
         let outcome = self.framed(alloc, client, ask, stamp, outcome)?;
         self.reserve_rows(alloc, &outcome.sessions)?;
         self.ready(alloc, client, ask, stamp, outcome)
+    }
+
+    // Makes the index of the audit policies, where a step has dropped it: in the time of going over them
+    // once, with their conditions.
+    fn index_policies(&mut self, alloc: Global) -> Result<(), Memory>
+        ensures keeps { self.new.state ≡ self.old.state }
+        ensures seats { self.new.seats ≡ self.old.seats }
+    {
+        if self.index.is_none() {
+            self.holds_together();
+            lawful_policies_can_be_asked();
+            self.index = Some(Index::of(alloc, self.keeping.catalog())?);
+        }
+        Ok(())
     }
 
     // Makes room for a session.
@@ -91,7 +114,7 @@ impl Engine {
     }
 
     // The step of the ask.
-    fn step(
+    fn step<L: Ledger>(
         &self,
         alloc: Global,
         client: ClientNo,
@@ -99,6 +122,7 @@ impl Engine {
         read: &Result<Statement, Code>,
         plan: Option<RowPlan>,
         stamp: Stamp,
+        steps: &mut Steps<L>,
     ) -> Result<Outcome, Memory>
         requires read { IsReadOf ask.now read.now }
         requires stamp { IsStampOf self.now.state stamp.0 }
@@ -106,12 +130,15 @@ impl Engine {
         requires planned { IsPlanFor self.now.state client ask.now stamp.0 read.now plan }
         ensures made { IfOk result (CanBeMade self.now.state) }
         ensures step { IfOk result (λ outcome. LoggedStep self.now.state client ask.now stamp.0 outcome.reply (logged_by outcome) (made_of outcome self.now.state)) }
+        ensures steps { CountsFor self.now.state client ask.now stamp.0 steps.old steps.new }
     {
         match ask {
-            Ask::Local => self.local(alloc, client, stamp),
-            Ask::Logon { user, password } => self.logon(alloc, client, user, password, stamp),
-            Ask::Sql(text) => self.sql(alloc, client, text, read, plan, stamp),
-            Ask::Logoff => self.logoff(alloc, client, stamp),
+            Ask::Local => self.local(alloc, client, stamp, steps),
+            Ask::Logon { user, password } => {
+                self.logon(alloc, client, user, password, stamp, steps)
+            }
+            Ask::Sql(text) => self.sql(alloc, client, text, read, plan, stamp, steps),
+            Ask::Logoff => self.logoff(alloc, client, stamp, steps),
         }
     }
 

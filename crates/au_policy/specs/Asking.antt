@@ -1,7 +1,7 @@
 -- What the audit policies of a catalogue demand now, and when they can be asked (SQL Language Reference, "CREATE AUDIT
 -- POLICY (Unified Auditing)"; that a condition which overflows is unknown, as only one of a journal may, is this project's
 -- profile).
-use Rattle.std.specs.Prelude.{⊤, ℕ, IsTrue, List, [], map, Option, Some, None}
+use Rattle.std.specs.Prelude.{⊤, IsTrue, [], map, Option, Some, None}
 use Rattle.std.specs.List.{AllByRecursion}
 use Rattle.au_base.specs.declared.truth.Truth.{Truth}
 use Rattle.au_base.specs.Order.{is_in_order, name_before}

@@ -40,8 +40,8 @@ pub fn asked(
     Ok(found)
 }
 
-// Whether the policy's parts meet the statement, and it is enabled for it.
-fn is_meant(policy: &AuditPolicy, catalog: &Catalog, grants: &Grants, facts: &Facts) -> bool
+/// Whether the policy's parts meet the statement, and it is enabled for it.
+pub fn is_meant(policy: &AuditPolicy, catalog: &Catalog, grants: &Grants, facts: &Facts) -> bool
     requires catalog { CanBeAsked catalog.now }
     ensures { result ≡ (parts_match grants.now facts.now policy.now && is_enabled_in catalog.now.enabled policy.now.name facts.now) }
 {
@@ -68,13 +68,27 @@ fn ask(
     ensures learnt { OnOk result (found.new.learnt ≡ found.old.learnt ++ (if is_new session.now.session kept.now policy.now.name policy.now.when then (policy.now.name, when_of (truth_now session.now) session.now.session kept.now policy.now) ∷ [] else [])) }
 {
     let holds = holds(alloc, policy, kept, session)?;
-    push_name(found, policy, holds)?;
-    push_result(
+    add_asked(
         found,
         policy,
         is_new(policy, kept, session.session()),
         holds,
     )
+}
+
+/// Adds what a policy demands that is meant for the statement: its name, where its condition holds,
+/// and the result of that, where it is kept from now on.
+pub fn add_asked(
+    found: &mut Demanded,
+    policy: &AuditPolicy,
+    is_new: bool,
+    holds: bool,
+) -> Result<(), Memory>
+    ensures names { OnOk result (found.new.names ≡ found.old.names ++ (if holds then policy.now.name ∷ [] else [])) }
+    ensures learnt { OnOk result (found.new.learnt ≡ found.old.learnt ++ (if is_new then (policy.now.name, holds) ∷ [] else [])) }
+{
+    push_name(found, policy, holds)?;
+    push_result(found, policy, is_new, holds)
 }
 
 // Adds the policy's name, where its condition holds.

@@ -80,8 +80,8 @@ fn has_session(number: SessionNo) -> bool
     number.0 != 0
 }
 
-// The result that is kept of the policy's condition.
-fn kept_result(
+/// The result that is kept of the policy's condition, which is evaluated so.
+pub fn kept_result(
     kept: &KeptResults,
     session: SessionNo,
     policy: &Name,
@@ -120,8 +120,8 @@ fn is_yes_now(alloc: Global, tree: &Expr, session: &SessionFacts) -> Result<bool
     }
 }
 
-// Whether the condition is Yes. One that overflows isn't.
-fn is_met(resolved: &Resolved, session: &SessionFacts) -> bool
+/// Whether the condition, which is resolved over no table, is Yes now. One that overflows isn't.
+pub fn is_met(resolved: &Resolved, session: &SessionFacts) -> bool
     ensures { result ≡ conditions.is_yes (truth_in (value_at [] session.now resolved.now)) }
 {
     match truth(resolved, &Row::new(), session) {

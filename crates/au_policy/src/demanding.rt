@@ -1,5 +1,5 @@
 //! What policies demand.
-ghost use Rattle.std.specs.Prelude.{◌≡◌, IfOk, IsTrue, OnOk};
+ghost use Rattle.std.specs.Prelude.{◌≡◌, IfOk, IsTrue, OnOk, if◌then◌else◌};
 ghost use Rattle.au_audit.specs.Conditions as conditions;
 ghost use Rattle.au_base.specs.BuiltIn.{ora_mandatory};
 ghost use Rattle.au_base.specs.Order.{is_in_order, name_before};
@@ -39,14 +39,12 @@ pub fn demanded(
         });
     }
     let mut found = asked(alloc, catalog, grants, facts, kept, session)?;
-    if is_mandatory(facts.action) {
-        place_mandatory(alloc, &mut found.names)?;
-    }
+    place_mandatory(alloc, &mut found.names, facts.action)?;
     Ok(found)
 }
 
-// Whether a refusal with this code leaves no record.
-fn is_unrecorded(code: Code) -> bool
+/// Whether a refusal with this code leaves no record.
+pub fn is_unrecorded(code: Code) -> bool
     ensures { result ≡ conditions.is_unrecorded code }
 {
     code.0 == Code::SESSION_PRESENT.0 || code.0 == Code::NOT_LOGGED_ON.0
@@ -60,10 +58,14 @@ fn is_mandatory(action: Action) -> bool
     16 <= code && code <= 20
 }
 
-// Places the name of what is mandatory among the names.
-fn place_mandatory(alloc: Global, names: &mut List<Name>) -> Result<(), Memory>
+/// Places the name of what is mandatory among the names, where the action is audited whatever the
+/// policies say.
+pub fn place_mandatory(alloc: Global, names: &mut List<Name>, action: Action) -> Result<(), Memory>
     requires order { IsTrue (is_in_order name_before names.old) }
-    ensures { OnOk result (names.new ≡ demand.placed ora_mandatory names.old) }
+    ensures { OnOk result (names.new ≡ (if demand.is_mandatory action then demand.placed ora_mandatory names.old else names.old)) }
 {
-    names.insert_in_order(Name::from_str(alloc, ORA_MANDATORY)?)
+    if is_mandatory(action) {
+        return names.insert_in_order(Name::from_str(alloc, ORA_MANDATORY)?);
+    }
+    Ok(())
 }

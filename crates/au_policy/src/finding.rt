@@ -7,6 +7,7 @@ ghost use Rattle.au_audit.specs.Conditions as conditions;
 ghost use Rattle.au_audit.specs.Conditions.{result_before};
 ghost use Rattle.au_base.specs.Order.{is_in_order, name_before};
 ghost use Rattle.au_entries.specs.Demand.{enablement_of};
+ghost use Rattle.au_entries.specs.Enabling.{is_on};
 ghost use Rattle.au_entries.specs.Matching.{is_enabled_for};
 
 use au_base::{Code, Name};
@@ -32,6 +33,18 @@ pub fn is_enabled(enabled: &[(Name, Enabled)], policy: &Name, user: &Name, code:
     let place = name_place(enabled, policy);
     if place < enabled.len() && enabled[place].0 == *policy {
         return enabled_for(&enabled[place].1, user, code);
+    }
+    false
+}
+
+/// Whether the policy of this name is enabled for somebody.
+pub fn is_policy_on(enabled: &[(Name, Enabled)], policy: &Name) -> bool
+    requires order { IsTrue (is_in_order name_before (map (λ entry. entry.0) enabled.now)) }
+    ensures { result ≡ is_on (enablement_of enabled.now policy.now) }
+{
+    let place = name_place(enabled, policy);
+    if place < enabled.len() && enabled[place].0 == *policy {
+        return enabled[place].1.is_on();
     }
     false
 }

@@ -7,5 +7,8 @@ mod demanding;
 mod finding;
 mod laws;
 
-pub use demanding::demanded;
-pub use laws::lawful_policies_can_be_asked;
+pub use asking::{add_asked, is_meant};
+pub use condition::{is_met, is_new, kept_result};
+pub use demanding::{demanded, is_unrecorded, place_mandatory};
+pub use finding::is_policy_on;
+pub use laws::{demanding_names_stand_in_order, lawful_policies_can_be_asked};

@@ -7,6 +7,7 @@ ghost use Rattle.au_io.specs.Moments.{LeavesSince};
 ghost use Rattle.au_io.specs.Time.{Reads};
 ghost use Rattle.au_journal.specs.Causes.{MendCause};
 ghost use Rattle.au_journal.specs.Seats.{mend_bytes, mended, mended_reads};
+ghost use Rattle.au_engine.specs.Counting.{CountsFor};
 ghost use Rattle.au_engine.specs.Prepared.{Fits, after};
 ghost use Rattle.au_step.specs.Replaying.{EndsWell};
 ghost use Rattle.au_step.specs.State.{stamp_of};
@@ -39,7 +40,8 @@ impl<D: Disk, C: Clock> Store<D, C> {
     /// in doubt; where nothing was in doubt before, the disk wasn't called.
     ///
     /// Client 0, by whom frames are replayed, asks nothing. `steps` counts the audit policies that are
-    /// tested one by one: none yet.
+    /// tested: at most those that aren't Off and name the event, and none where the mend failed or the
+    /// ask is no event.
     pub fn step<L: Ledger>(
         &mut self,
         alloc: Global,
@@ -58,17 +60,16 @@ impl<D: Disk, C: Clock> Store<D, C> {
         ensures kept { D.told → result ≢ Said.Disk → IsKeptOn self.new.state.kept (D.meaning self.new.disk) self.new.seat }
         ensures untouched { IsLeftOut result → self.old.seat.doubt ≡ Doubt.Settled → self.new.disk ≡ self.old.disk }
         ensures mended { D.told → IsLeftOut result → (D.meaning self.new.disk).reads ≡ mended_reads self.old.seat.doubt self.old.seat (D.meaning self.old.disk).reads }
-        ensures steps { steps.new ≡ steps.old }
+        ensures steps { CountsFor self.old.state client ask.now (stamp_of self.old.state self.new.reading) steps.old steps.new }
         ensures any_moment { D.told → (doubted : Kept) → IsStoodOn self.old.state.kept doubted (D.meaning self.old.disk) self.old.seat
             → LeavesSince (StepLeaves self.old.state (event_at client ask.now self.new.reading) doubted) (D.meaning self.old.disk) (D.meaning self.new.disk) }
         ensures time { Passes (D.meaning self.old.disk) (D.meaning self.new.disk) }
         ensures cost { StepCosts self.old.state (event_at client ask.now self.new.reading) (mend_bytes self.old.seat.doubt) result (D.meaning self.old.disk).written (D.meaning self.new.disk).written }
         ensures cause { StepCause result (D.faults self.old.disk) (D.faults self.new.disk) }
     {
-        let _ = &steps;
         match self.mend() {
             Mended::Disk => Said::Disk,
-            Mended::Done => match self.prepare(alloc, client, ask) {
+            Mended::Done => match self.prepare(alloc, client, ask, steps) {
                 Ok(ready) => self.make(ready),
                 Err(_) => Said::Memory,
             },
@@ -96,7 +97,13 @@ impl<D: Disk, C: Clock> Store<D, C> {
     }
 
     // Reads the clock, and works out the step of the ask.
-    fn prepare(&mut self, alloc: Global, client: ClientNo, ask: &Ask) -> Result<Ready, Memory>
+    fn prepare<L: Ledger>(
+        &mut self,
+        alloc: Global,
+        client: ClientNo,
+        ask: &Ask,
+        steps: &mut Steps<L>,
+    ) -> Result<Ready, Memory>
         requires client { client.0 ≢ 0 }
         ensures reading { Reads (C.ticking self.old.clock) (C.ticking self.new.clock) self.new.reading }
         ensures step { IfOk result (λ ready. Step self.new.state (event_at client ask.now self.new.reading) ready.prepared.reply (after ready.prepared self.new.state)) }
@@ -105,12 +112,13 @@ impl<D: Disk, C: Clock> Store<D, C> {
         ensures ends { IfOk result (λ ready. EndsWell (after ready.prepared self.new.state).kept) }
         ensures fits { IfOk result (λ ready. Fits ready.prepared (reserved_of self.new)) }
         ensures state { self.new.state ≡ self.old.state }
+        ensures steps { CountsFor self.old.state client ask.now (stamp_of self.old.state self.new.reading) steps.old steps.new }
         ensures same { (self.new.disk ≡ self.old.disk) × (self.new.seat ≡ self.old.seat) }
     {
         let reading = self.clock.now();
         self.reading = reading;
         let stamp = self.engine.stamp(reading);
-        prepare(&mut self.engine, alloc, client, ask, stamp)
+        prepare(&mut self.engine, alloc, client, ask, stamp, steps)
     }
 
     // Writes what the step that is ready leaves to be kept, and makes the step.

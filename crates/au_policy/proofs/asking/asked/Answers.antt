@@ -1,4 +1,4 @@
-use Rattle.std.proofs.Common.{◌≡◌, ◌+◌, ◌∙◌, ◌++◌, ℕ, Bool, List, ap, drop, sym}
+use Rattle.std.proofs.Common.{◌+◌, ◌∙◌, ◌++◌, ℕ, Bool, List, ap, drop, sym}
 use Rattle.au_audit.specs.Conditions.{learnt, when_of}
 use Rattle.au_entries.specs.declared.facts.Demanded.{Demanded}
 use Rattle.au_entries.specs.Demand.{demanding}

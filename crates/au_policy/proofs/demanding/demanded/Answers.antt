@@ -1,4 +1,4 @@
-use Rattle.std.proofs.Common.{◌≡◌, ℕ, List, subst, sym}
+use Rattle.std.proofs.Common.{ℕ, List, subst, sym}
 use Rattle.std.specs.Prelude.{IsTrue}
 use Rattle.au_audit.specs.Conditions.{when_of}
 use Rattle.au_base.specs.Order.{is_in_order, name_before}

@@ -1,4 +1,4 @@
-use Rattle.std.proofs.Common.{◌≡◌, ◌∙◌, ℕ, Bool, List, ap, sym}
+use Rattle.std.proofs.Common.{◌∙◌, ℕ, Bool, List, ap, sym}
 use Rattle.std.specs.Prelude.{Option}
 use Rattle.au_base.specs.declared.code.Code.{Code}
 use Rattle.au_entries.specs.declared.policy.Enabled.{Enabled}

@@ -1,4 +1,4 @@
-use Rattle.std.proofs.Common.{◌≡◌, ◌∙◌, ℕ, Bool, List, ap, sym}
+use Rattle.std.proofs.Common.{◌∙◌, ℕ, Bool, List, ap, sym}
 use Rattle.std.specs.Prelude.{Option, option_map}
 use Rattle.au_policy.proofs.Found.{found_at, missed_at, missed_past}
 use Rattle.au_policy.proofs.finding.result_in.Goals as goal

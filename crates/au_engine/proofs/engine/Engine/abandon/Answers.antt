@@ -1,5 +1,7 @@
 use Rattle.std.proofs.Common.{◌≡◌, ◌∙◌, List, map, ap, refl, sym, subst, arith}
-use Rattle.std.specs.Prelude.{None}
+use Rattle.std.specs.Prelude.{IfSome, None}
+use Rattle.au_catalog.specs.Settling.{catalog_of}
+use Rattle.au_pindex.specs.Indexing.{IsIndexOf}
 use Rattle.au_entries.specs.declared.kept.Kept.{Kept}
 use Rattle.au_step.specs.declared.session.Session.{Session}
 use Rattle.au_step.specs.Abandoning.{abandoned, sessions_without}
@@ -27,6 +29,7 @@ invariant_of-self c =
           (subst (λ (l : List OpenSession). IsLawfulState (record m { sessions = l })) (sym seats) (c.ends_stay_lawful.ensures.lawful m client was.1)),
       subst (λ (l : List OpenSession). HaveOneEach l) (sym seats) (c.ends_stay_lawful.ensures.one m client was.2),
       (λ q none. quiet_after (Ends client) e.keeping.logs logs m.sessions c.forget.ensures.lists was.3 tt q (subst (λ (l : List OpenSession). session_of l q ≡ None) seats none)),
+      subst (λ (k : Kept). IfSome e.index (IsIndexOf (catalog_of k))) (sym c.forget.ensures.kept) was.4,
     )
 
 pub returns : goal.returns

@@ -11,4 +11,4 @@ returns-clause-left c =
     let place = c.logon_place-place.result in
     left_at m [] facts _ place _ [] [] [] [] c.in_ok-left.left
     c.in_ok-facts.ensures (c.logon_place-place.ensures ∙ ap (λ (n : SessionNo). logon_place n c.args.stamp.0) c.logon_number.ensures) refl refl
-    (c.in_ok-left.ensures ∙ ap (λ (results : List (List ℕ × Bool)). event_left m results facts place [] []) c.new-results.ensures)
+    (c.in_ok-left.ensures.left ∙ ap (λ (results : List (List ℕ × Bool)). event_left m results facts place [] []) c.new-results.ensures)

@@ -21,4 +21,5 @@ invariant_of-result c =
           (subst (λ (l : List (List ℕ × Bool)). IsTrue (is_in_order result_before l)) (sym c.new-2.ensures) refl) c.transactions_hold.ensures.same,
       subst (λ (l : List OpenSession). HaveOneEach l) (sym none) tt,
       (λ client off. quiet client),
+      tt,
     )

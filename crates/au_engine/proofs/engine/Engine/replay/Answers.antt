@@ -23,6 +23,7 @@ invariant_of-self c =
       rests k _ e.drawn e.results c.holds_together.ensures.kept c.holds_together.ensures.together none c.replay-done.ensures.alone was.1.drawn was.1.results c.transactions_hold.ensures.same,
       subst (λ (l : List OpenSession). HaveOneEach l) (sym none) tt,
       (λ q off. c.replay-done.ensures.alone q),
+      tt,
     )
 
 pub returns-clause-rule : goal.returns-clause-rule

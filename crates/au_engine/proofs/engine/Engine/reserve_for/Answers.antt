@@ -1,5 +1,8 @@
 use Rattle.std.proofs.Common.{◌≡◌, ◌∙◌, ap, sym, subst, arith}
-use Rattle.std.specs.Prelude.{None}
+use Rattle.std.specs.Prelude.{IfSome, None}
+use Rattle.au_catalog.specs.Settling.{catalog_of}
+use Rattle.au_entries.specs.declared.kept.Kept.{Kept}
+use Rattle.au_pindex.specs.Indexing.{IsIndexOf}
 use Rattle.au_step.specs.Lawful.{IsLawfulState}
 use Rattle.au_step.specs.Sessions.{HaveOneEach}
 use Rattle.au_step.specs.State.{State}
@@ -17,6 +20,7 @@ invariant_of-self c =
       subst IsLawfulState (sym same) was.1,
       subst (λ (s : State). HaveOneEach s.sessions) (sym same) was.2,
       (λ q none. c.reserve.ensures.lists q ∙ was.3 q (subst (λ (s : State). session_of s.sessions q ≡ None) same none)),
+      subst (λ (k : Kept). IfSome e.index (IsIndexOf (catalog_of k))) (sym c.reserve.ensures.kept) was.4,
     )
 
 pub returns-clause-keeps : goal.returns-clause-keeps

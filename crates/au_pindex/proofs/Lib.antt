@@ -1,0 +1,9 @@
+pub mod Added
+pub mod GrantedTo
+pub mod Keys
+pub mod Named
+pub mod Numbers
+pub mod Placing
+pub mod Stays
+pub mod Taken
+pub mod Tested
