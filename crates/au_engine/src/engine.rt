@@ -171,7 +171,7 @@ impl Engine {
     }
 
     /// Makes a step that was worked out. It takes no memory and can't fail. The index of the audit
-    /// policies is dropped where the step changes policies, enablements or users.
+    /// policies is dropped where the step changes policies or enablements or drops a user.
     pub fn apply(&mut self, prepared: Prepared) -> Reply
         requires { Fits prepared self.old }
         ensures reply { result ≡ prepared.reply }

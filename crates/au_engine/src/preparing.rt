@@ -32,8 +32,9 @@ impl Engine {
     /// Works out the step of a client's ask at this stamp, and leaves the state as it is. A text
     /// that is asked comes with what it is read as, and with its plan; with another ask any reading
     /// comes. The results that the session and the instance keep of conditions are copied. Of the audit
-    /// policies those are tested that aren't Off and name the event, one step each; behind a step that
-    /// changed policies, enablements or users all are gone over once before.
+    /// policies those are tested that aren't Off and name the event, one step each; at the
+    /// first step, and behind one that changed policies or enablements or dropped a user, the index of
+    /// all is made before.
     pub fn prepare<L: Ledger>(
         &mut self,
         alloc: Global,

@@ -16,8 +16,8 @@ use std::alloc::Global;
 use std::sync::ledger::Ledger;
 
 /// What auditing leaves of an event with these facts, at this place of the trail, at which these
-/// fine-grained policies fired and the results of these audit policies are forgotten. Each audit
-/// policy that isn't Off and names the event is tested once, which is one step; no other is.
+/// fine-grained policies fired and the results of these audit policies are forgotten. Of the
+/// audit policies at most those are tested that aren't Off and name the event, one step each.
 pub fn left_by<L: Ledger>(
     alloc: Global,
     audited: Audited<'_>,

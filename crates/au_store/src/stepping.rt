@@ -40,8 +40,7 @@ impl<D: Disk, C: Clock> Store<D, C> {
     /// in doubt; where nothing was in doubt before, the disk wasn't called.
     ///
     /// Client 0, by whom frames are replayed, asks nothing. `steps` counts the audit policies that are
-    /// tested: at most those that aren't Off and name the event, and none where the mend failed or the
-    /// ask is no event.
+    /// tested: at most those that aren't Off and name the event, and none where the ask is no event.
     pub fn step<L: Ledger>(
         &mut self,
         alloc: Global,
