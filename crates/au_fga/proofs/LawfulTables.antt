@@ -1,5 +1,5 @@
 -- Fine-grained policies of what is lawful, and of a statement that is refused.
-use Rattle.std.proofs.Common.{◌≡◌, ◌≢◌, ◌∙◌, ℕ, suc, Bool, true, false, cond, ◌&&◌, ◌||◌, List, [], ◌∷◌, map, refl, sym, ap, subst, arith}
+use Rattle.std.proofs.Common.{◌≡◌, ◌≢◌, ◌∙◌, ℕ, zero, suc, Bool, true, false, cond, ◌&&◌, ◌||◌, List, [], ◌∷◌, map, refl, sym, ap, subst, arith}
 use Rattle.std.specs.Prelude.{◌==◌, IsTrue, Option, Some, None}
 use Rattle.std.specs.List.{AllByRecursion, Contains, filter, list_any}
 use Rattle.std.proofs.lemmas.Bool.Decides.{nat_tests}
@@ -13,7 +13,7 @@ use Rattle.au_entries.specs.declared.fine_grained.FgaPolicy.{FgaPolicy}
 use Rattle.au_entries.specs.declared.kept.Kept.{Kept}
 use Rattle.au_entries.specs.declared.policy.Condition.{Condition}
 use Rattle.au_entries.specs.declared.table.Table.{Table}
-use Rattle.au_entries.specs.Lawful.{IsFgaTruth}
+use Rattle.au_entries.specs.Lawful.{IsFgaTruth, IsLawful}
 use Rattle.au_entries.specs.Replaying.{Conditions, has_table}
 use Rattle.au_expr.specs.Resolving.{IsCondition}
 use Rattle.au_fga.specs.Testing.{IsTruthOver, range_of, table_of}

@@ -1,7 +1,7 @@
 -- Which fine-grained policies of a catalogue demand a record now, and when they can be tested (PL/SQL Packages and Types
 -- Reference, "DBMS_FGA"; that a condition which overflows is unknown, as only one of a journal may, is this project's
 -- profile).
-use Rattle.std.specs.Prelude.{⊤, IsTrue, List, [], ◌∷◌, find, map, Option, Some, None}
+use Rattle.std.specs.Prelude.{⊤, ℕ, IsTrue, List, [], ◌∷◌, find, map, Option, Some, None}
 use Rattle.std.specs.Borrow.{Bor}
 use Rattle.std.specs.List.{AllByRecursion}
 use Rattle.au_base.specs.Codes.{DONE}

@@ -1,4 +1,4 @@
-use Rattle.std.proofs.Common.{◌∙◌, Some, ap, sym}
+use Rattle.std.proofs.Common.{◌≡◌, ◌∙◌, Some, ap, sym}
 use Rattle.au_fga.proofs.Found.{by_fields, found_at, missed_at, missed_past}
 use Rattle.au_fga.proofs.finding.table_of.Goals as goal
 use Rattle.au_fga.proofs.finding.table_of.Goals.{else-place-tables-via-then-place-tables+else-is_same_table, else-place-tables-via-else-place-tables}

@@ -1,4 +1,4 @@
-use Rattle.std.proofs.Common.{◌+◌, ◌∙◌, ◌++◌, ◌∷◌, [], List, ap, drop, map, sym}
+use Rattle.std.proofs.Common.{◌≡◌, ◌+◌, ◌∙◌, ◌++◌, ◌∷◌, [], List, ap, drop, map, sym}
 use Rattle.std.specs.List.{filter}
 use Rattle.au_audit.specs.Firing.{fires}
 use Rattle.au_base.specs.Codes.{DONE}

@@ -1,4 +1,4 @@
-use Rattle.std.proofs.Common.{◌∙◌, map, sym}
+use Rattle.std.proofs.Common.{◌≡◌, ◌∙◌, map, sym}
 use Rattle.au_audit.specs.Firing.{meets, of_table}
 use Rattle.au_fga.specs.Testing.{seen_rows, truth_over}
 use Rattle.au_fga.proofs.Found.{found_alike}
