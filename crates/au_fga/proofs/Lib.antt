@@ -1,3 +1,4 @@
+pub mod Compared
 pub mod Found
 pub mod LawfulTables
 pub mod Sorted

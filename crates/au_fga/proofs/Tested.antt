@@ -1,6 +1,6 @@
 -- Conditions over rows that fit, and policies that are tested one after another.
 use Rattle.std.proofs.Common.{◌≡◌, ◌<◌, ◌+◌, ◌∙◌, ℕ, suc, Bool, true, false, cond, ◌&&◌, List, [], ◌∷◌, ◌++◌, map, length, get_or, drop, refl, sym, ap, subst, append_assoc, add-one, drop-cons}
-use Rattle.std.specs.Prelude.{Option, Some, None}
+use Rattle.std.specs.Prelude.{Option, Some}
 use Rattle.std.specs.List.{AllByRecursion, filter, list_any}
 use Rattle.au_audit.specs.Conditions.{is_yes}
 use Rattle.au_audit.specs.Firing.{of_table}
@@ -16,6 +16,7 @@ use Rattle.au_expr.specs.Rows.{FitsColumns, FitsRanges, Range, named}
 use Rattle.au_expr.specs.Sessions.{Session}
 use Rattle.au_expr.specs.Values.{Value, truth_in}
 use Rattle.au_fga.specs.Testing.{FitTable, RowsFit, range_of, table_of, truth_in_table}
+use Rattle.au_fga.specs.descent.Comparing.{Decides}
 use Rattle.au_fga.specs.descent.Rows.{is_met_at}
 use Rattle.au_fga.proofs.Touched.{any_same, each_gives, each_of}
 use Rattle.sql_ast.specs.declared.expression.Expr.{Expr}
@@ -24,15 +25,19 @@ use Rattle.sql_ast.specs.declared.expression.Expr.{Expr}
 abbrev pub NamesOrPlaces : Type 0
 NamesOrPlaces = (ranges : List Range) (rows : List (List Cell)) (session : Session) (x : Expr) → FitsRanges ranges rows → value_at rows session (placed ranges x) ≡ value (named ranges rows) session x
 
--- over rows that fit, the condition is met by the places of its columns where it is by their names
-pub met_alike : NamesOrPlaces → (session : Session) (table : Table) (x : Expr) (tree : Placed) → tree ≡ placed (range_of table ∷ []) x → (rows : List (List Cell)) → AllByRecursion (FitsColumns table.columns) rows
-    → list_any (is_met_at session tree) rows ≡ list_any (λ (row : List Cell). is_yes (truth_in_table session (Some table) x row)) rows
-met_alike law session table x tree is rows fit =
-    any_same (is_met_at session tree) (λ (row : List Cell). is_yes (truth_in_table session (Some table) x row)) rows
-    (each_gives (FitsColumns table.columns) (λ (row : List Cell). is_met_at session tree row ≡ is_yes (truth_in_table session (Some table) x row))
-    (λ row fits. ap (λ (t : Placed). is_yes (truth_in (value_at (row ∷ []) session t))) is
-    ∙ ap (λ (given : Value). is_yes (truth_in given)) (law (range_of table ∷ []) (row ∷ []) session x (fits, tt)))
-    rows fit)
+-- over a row that fits, the condition is met by the places of its columns where it is by their names
+pub met_alike : NamesOrPlaces → (table : Table) (x : Expr) (tree : Placed) → tree ≡ placed (range_of table ∷ []) x → Decides table x (λ session. is_met_at session tree)
+met_alike law table x tree is session row fits =
+    ap (λ (t : Placed). is_yes (truth_in (value_at (row ∷ []) session t))) is
+    ∙ ap (λ (given : Value). is_yes (truth_in given)) (law (range_of table ∷ []) (row ∷ []) session x (fits, tt))
+
+-- over rows that fit, what decides as the condition finds one that meets it
+pub decided_alike : (table : Table) (x : Expr) (answer : Session → List Cell → Bool) → Decides table x answer
+    → (session : Session) (rows : List (List Cell)) → AllByRecursion (FitsColumns table.columns) rows
+    → list_any (answer session) rows ≡ list_any (λ (row : List Cell). is_yes (truth_in_table session (Some table) x row)) rows
+decided_alike table x answer decides session rows fit =
+    any_same (answer session) (λ (row : List Cell). is_yes (truth_in_table session (Some table) x row)) rows
+    (each_gives (FitsColumns table.columns) (λ (row : List Cell). answer session row ≡ is_yes (truth_in_table session (Some table) x row)) (decides session) rows fit)
 
 front : {X : Type 0} (xs : List X) (i : ℕ) (x : X) → i < length xs → x ≡ get_or xs i x → drop i xs ≡ x ∷ drop (i + 1) xs
 front xs i x within is = rw (add-one, drop-cons xs i x) (ap (λ z. z ∷ drop (suc i) xs) (sym is))

@@ -1,2 +1,3 @@
 -- What only mirrors the code: tests of rows that are lent.
+pub mod Comparing
 pub mod Rows

@@ -1,12 +1,14 @@
 //! Fine-grained auditing: which policies demand a record of what a statement did to rows.
 #![tactic(auto)]
 
+mod comparing;
 mod facts;
 mod finding;
 mod laws;
 mod naming;
 mod ordering;
 mod policies;
+mod testing;
 mod touching;
 
 pub use facts::RowFacts;

@@ -23,6 +23,8 @@ use std::alloc::Global;
 /// the order of their records: by the policy's name, then the owner, then the table. Each policy is
 /// tested once. Where a row of its table is touched, the table is found by halving, the condition is
 /// resolved once over it, and the rows are tested until one meets it; nothing is allocated for a row.
+/// A condition that is one comparison of a column with a number or a text isn't resolved: its column
+/// is found by name, and the rows are compared in a loop that calls nothing for a number.
 pub fn firing(
     alloc: Global,
     catalog: &Catalog,

@@ -6,11 +6,13 @@ ghost use Rattle.au_audit.specs.Firing.{of_table};
 ghost use Rattle.au_expr.specs.Resolving.{IsCondition};
 ghost use Rattle.au_expr.specs.Rows.{FitsColumns};
 ghost use Rattle.au_fga.specs.Testing.{range_of, seen_rows, truth_in_table};
-ghost use Rattle.au_fga.specs.descent.Rows.{is_met_at, some_lent, some_of};
+ghost use Rattle.au_fga.specs.descent.Comparing.{passes};
+ghost use Rattle.au_fga.specs.descent.Rows.{some_lent, some_of};
 
-use au_base::{Cell, List, Memory, TableName, Truth, is_same_table};
+use crate::testing::{Test, one_passes, test_of};
+use au_base::{Cell, List, Memory, TableName, is_same_table};
 use au_entries::Table;
-use au_expr::{Resolved, Row, SessionFacts, names_or_places, resolve_condition, truth};
+use au_expr::SessionFacts;
 use sql_ast::Expr;
 use std::alloc::Global;
 
@@ -53,72 +55,41 @@ pub fn some_meets(
     requires rows { AllByRecursion (FitsColumns table.now.columns) (of_table name.now (map seen_rows touched.now)) }
     ensures { IfOk result (λ met. met ≡ list_any (λ row. conditions.is_yes (truth_in_table session.now (Some table.now) tree.now row)) (of_table name.now (map seen_rows touched.now))) }
 {
-    names_or_places();
-    let range = (table.name.name.clone()?, table.columns.clone()?);
-    match resolve_condition(alloc, tree, &[range])? {
-        Ok(resolved) => Ok(some_meets_at(&resolved, name, touched, session)),
-        Err(_) => unreachable!(),
-    }
+    let test = test_of(alloc, tree, table)?;
+    Ok(some_passes(&test, name, touched, session))
 }
 
-fn some_meets_at(
-    resolved: &Resolved,
+fn some_passes(
+    test: &Test<'_>,
     table: &TableName,
     touched: &[(TableName, List<&[Cell]>)],
     session: &SessionFacts,
 ) -> bool
-    ensures { result ≡ list_any (is_met_at session.now resolved.now) (of_table table.now (map seen_rows touched.now)) }
+    ensures { result ≡ list_any (passes session.now test.now) (of_table table.now (map seen_rows touched.now)) }
 {
-    some_meets_in(resolved, table, touched, session)
+    some_passes_in(test, table, touched, session)
 }
 
-fn some_meets_in(
-    resolved: &Resolved,
+fn some_passes_in(
+    test: &Test<'_>,
     table: &TableName,
     touched: &[(TableName, List<&[Cell]>)],
     session: &SessionFacts,
 ) -> bool
-    ensures { result ≡ list_any (some_of (is_met_at session.now resolved.now) table.now) touched.now }
+    ensures { result ≡ list_any (some_of (passes session.now test.now) table.now) touched.now }
 {
     touched
         .iter()
-        .any(|entry| meets_in(resolved, table, entry, session))
+        .any(|entry| passes_in(test, table, entry, session))
 }
 
-fn meets_in(
-    resolved: &Resolved,
+fn passes_in(
+    test: &Test<'_>,
     table: &TableName,
     entry: &(TableName, List<&[Cell]>),
     session: &SessionFacts,
 ) -> bool
-    ensures { result ≡ some_of (is_met_at session.now resolved.now) table.now entry.now }
+    ensures { result ≡ some_of (passes session.now test.now) table.now entry.now }
 {
-    is_same_table(&entry.0, table) && one_meets(resolved, entry.1.as_slice(), session)
-}
-
-fn one_meets(resolved: &Resolved, rows: &[&[Cell]], session: &SessionFacts) -> bool
-    ensures { result ≡ some_lent (is_met_at session.now resolved.now) rows.now }
-{
-    rows.iter().any(|cells| meets_at(resolved, cells, session))
-}
-
-// Whether the condition is Yes over the row. One that overflows isn't.
-fn meets_at(resolved: &Resolved, cells: &[Cell], session: &SessionFacts) -> bool
-    ensures { result ≡ is_met_at session.now resolved.now cells.now }
-{
-    let mut row = Row::new();
-    row.push(cells);
-    match truth(resolved, &row, session) {
-        Ok(found) => is_yes(found),
-        Err(_) => false,
-    }
-}
-
-fn is_yes(truth: Truth) -> bool
-    ensures { result ≡ conditions.is_yes truth }
-{
-    match truth {
-        Truth::Yes => true,
-        Truth::No | Truth::Unknown => false,
-    }
+    is_same_table(&entry.0, table) && one_passes(test, entry.1.as_slice(), session)
 }

@@ -1,16 +1,10 @@
-use Rattle.std.proofs.Common.{◌≡◌, ◌∙◌, ℕ, List, [], ◌∷◌, ap₂, map}
-use Rattle.std.specs.List.{each_same}
+use Rattle.std.proofs.Common.{◌∙◌, map}
 use Rattle.au_audit.specs.Firing.{of_table}
-use Rattle.au_base.specs.declared.table.Column.{Column}
-use Rattle.au_expr.specs.Resolving.{placed}
 use Rattle.au_fga.specs.Testing.{seen_rows}
-use Rattle.au_fga.proofs.Tested.{met_alike}
+use Rattle.au_fga.proofs.Tested.{decided_alike}
 use Rattle.au_fga.proofs.touching.some_meets.Goals as goal
 
 pub returns : goal.returns
 returns c =
-    let found = rw c.in-Ok.is at c.in_ok-resolved.ensures in
-    c.some_meets_at.ensures
-    ∙ met_alike c.names_or_places.ensures c.args.session.now c.args.table.now c.args.tree.now c.in-Ok.resolved
-    (found.0.places ∙ ap₂ (λ (name : List ℕ) (columns : List Column). placed ((name, columns) ∷ []) c.args.tree.now) c.in_ok-clone.ensures.cases (each_same _ _ c.in_ok-clone-2.ensures.cases))
-    (of_table c.args.name.now (map seen_rows c.args.touched.now)) c.requires.rows
+    c.some_passes.ensures
+    ∙ decided_alike c.args.table.now c.args.tree.now _ c.in_ok-test.ensures c.args.session.now (of_table c.args.name.now (map seen_rows c.args.touched.now)) c.requires.rows
