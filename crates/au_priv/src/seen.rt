@@ -43,12 +43,7 @@ pub trait GrantsSeen {
         ensures { result ≡ list_any (grants_object grantee.now table.now action) (seen self.now).object };
 
     /// Whether a grant of the role to the grantee would close a circle. The grants are as they were.
-    fn closes_circle(
-        &mut self,
-        alloc: Global,
-        grantee: &Name,
-        role: &Name,
-    ) -> Result<bool, Memory>
+    fn closes_circle(&mut self, alloc: Global, grantee: &Name, role: &Name) -> Result<bool, Memory>
         ensures closes { IfOk result (λ closes. IsTrue closes ↔ IsHolder (seen self.old).role role.now grantee.now) }
         ensures same { seen self.new ≡ seen self.old };
 }
