@@ -1,6 +1,5 @@
 -- What the first of several rights says of each.
-use Rattle.std.proofs.Common.{◌≡◌, ◌<◌, ◌↔◌, ◌⊎◌, ℕ, zero, suc, inl, inr, Bool, true, false, List, [], ◌∷◌, Option, Some, None, is_some, refl, sym, subst, ◌∙◌, arith}
-use Rattle.std.specs.List.{slice_get}
+use Rattle.std.proofs.Common.{◌≡◌, ◌↔◌, ◌⊎◌, ℕ, zero, suc, inl, inr, Bool, true, false, List, [], ◌∷◌, Option, Some, None, is_some, refl, sym, subst, ◌∙◌, arith}
 use Rattle.std.proofs.lemmas.Option.{same_Some}
 use Rattle.au_base.specs.declared.table.TableName.{TableName}
 use Rattle.au_grants.specs.declared.grants.Grants.{Grants}
@@ -8,7 +7,7 @@ use Rattle.au_grants.specs.declared.right.Sought.{Sought}
 use Rattle.au_grants.specs.declared.right.Sought.TheVariants.{AnyTable}
 use Rattle.au_grants.specs.Holding.{Holds, HoldsNone, IsFirstHeld}
 use Rattle.au_grants.specs.Rights.{Name, HasSomeObjectPrivilege}
-use Rattle.au_priv.specs.Allowing.{HasSomething, HoldsSomeAnyTable}
+use Rattle.au_priv.specs.Allowing.{HasSomething}
 use Rattle.au_priv.proofs.Answers.{any_table_held}
 
 -- the first right, where it is held

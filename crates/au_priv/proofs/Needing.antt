@@ -1,7 +1,7 @@
 -- A loop that gathers what rights need.
 use Rattle.std.proofs.Common.{◌≡◌, ◌≤◌, ◌<◌, ◌+◌, ◌⊎◌, ◌↔◌, ℕ, Bool, inl, inr, List, Result, Ok, Err, Some, get_or, length, refl, sym, subst, ap, ◌∙◌, arith, true}
 use Rattle.std.specs.Prelude.{IsErrAnd, MatchResult}
-use Rattle.std.specs.List.{slice_get, Contains}
+use Rattle.std.specs.List.{slice_get}
 use Rattle.std.proofs.lemmas.Option.{same_Some, slice_get-get_or, slice_get_within}
 use Rattle.au_base.specs.Codes.{PRIVILEGE_MISSING}
 use Rattle.au_base.specs.declared.code.Code.{Code}
@@ -15,7 +15,7 @@ use Rattle.au_grants.specs.declared.right.Sought.TheVariants.{PrivilegeWithAdmin
 use Rattle.au_grants.specs.Holding.{Holds}
 use Rattle.au_grants.specs.Rights.{Name, AdministersRole, HoldsPrivilege}
 use Rattle.au_priv.specs.declared.decided.Known.{Known}
-use Rattle.au_priv.specs.Deciding.{Administers, IsNoRole, Needs, NoneRefused, RefusesRight, any_right}
+use Rattle.au_priv.specs.Deciding.{IsNoRole, Needs, NoneRefused, RefusesRight}
 use Rattle.au_priv.specs.descent.Asking.{AreNeeded, AreNeededHeld, AreNeededWith, IsNeededWith, NeedsFor}
 use Rattle.au_priv.proofs.Refusals.{NoneBefore, below_or_at, none_all, none_more}
 

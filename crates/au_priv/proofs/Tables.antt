@@ -1,5 +1,5 @@
 -- Names of tables that are the same are equal.
-use Rattle.std.proofs.Common.{◌≡◌, ℕ, true, ◌&&◌, ◌↔◌, List, refl, ap, ◌∙◌}
+use Rattle.std.proofs.Common.{◌≡◌, true, refl, ap, ◌∙◌}
 use Rattle.std.specs.Str.{bytes_eq}
 use Rattle.std.proofs.lemmas.Bool.{and_parts, and_from}
 use Rattle.std.proofs.lemmas.Slice.Eq.{bytes_eq-Decides}

@@ -1,2 +1,4 @@
 pub mod Asking
+pub mod Granted
+pub mod Judging
 pub mod Progressing

@@ -13,11 +13,11 @@ ghost use Rattle.au_priv.specs.Pairs.{object_pair, pairs, right_pair};
 ghost use Rattle.au_grants.specs.Rights.{HasNoCircle, HoldsPrivilege, grant_count};
 
 use crate::decided::{Decided, Known};
+use crate::judging::{judge_object_rights, judge_rights};
 use crate::pair::Way;
-use crate::walking::{Progress, walk_object_rights, walk_rights};
 use au_base::{Code, GrantStatement, List, Memory, Name, ObjectRight, Privilege, Right, TableName};
 use au_grants::{
-    Course, GrantChange, Grants, Sought, changes_add_one_grant_at_most, changes_keep_no_circle,
+    GrantChange, Grants, Sought, changes_add_one_grant_at_most, changes_keep_no_circle,
 };
 use std::alloc::Global;
 
@@ -155,12 +155,8 @@ fn decide_right_pairs(
     if let Some(code) = grantees_refusal(case.known, grantees) {
         return Ok((code, List::new(alloc)));
     }
-    let start = Progress {
-        after: Course::of(alloc, case.grants.clone()?),
-        changes: List::new(alloc),
-    };
-    match walk_rights(alloc, start, way, rights, grantees)? {
-        Ok(end) => Ok((Code::DONE, end.changes)),
+    match judge_rights(alloc, case.grants, way, rights, grantees)? {
+        Ok(changes) => Ok((Code::DONE, changes)),
         Err(code) => Ok((code, List::new(alloc))),
     }
 }
@@ -196,12 +192,8 @@ fn decide_object_pairs(
     if let Some(code) = grantees_refusal(case.known, grantees) {
         return Ok((code, List::new(alloc)));
     }
-    let start = Progress {
-        after: Course::of(alloc, case.grants.clone()?),
-        changes: List::new(alloc),
-    };
-    match walk_object_rights(alloc, start, way, table, rights, grantees)? {
-        Ok(end) => Ok((Code::DONE, end.changes)),
+    match judge_object_rights(alloc, case.grants, way, table, rights, grantees)? {
+        Ok(changes) => Ok((Code::DONE, changes)),
         Err(code) => Ok((code, List::new(alloc))),
     }
 }

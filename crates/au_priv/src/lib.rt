@@ -6,8 +6,11 @@ mod allowed;
 mod allowing;
 mod decided;
 mod deciding;
+mod granted;
+mod judging;
 mod laws;
 mod pair;
+mod seen;
 mod walking;
 
 pub use allowed::Allowed;

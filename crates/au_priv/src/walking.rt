@@ -8,6 +8,7 @@ ghost use Rattle.au_priv.specs.Walking.{RefusesPair, ClosesCircle, IsOverLimit, 
 ghost use Rattle.au_priv.specs.descent.Progressing.{Walked};
 
 use crate::pair::{Way, changes_of_object_right, changes_of_right};
+use crate::seen::GrantsSeen;
 use au_base::limits::GRANTS;
 use au_base::{Code, List, Memory, Name, ObjectRight, Right, TableName};
 use au_grants::{Course, GrantChange};
@@ -137,12 +138,13 @@ fn walked_on(
     })
 }
 
-fn effective(
+/// What the pair changes.
+pub fn effective<G: GrantsSeen>(
     alloc: Global,
-    grants: &Course,
+    grants: &G,
     pair: &[GrantChange],
 ) -> Result<List<GrantChange>, Memory>
-    ensures { IfOk result (λ changes. changes ≡ made grants.now pair.now) }
+    ensures { IfOk result (λ changes. changes ≡ made (G.seen grants.now) pair.now) }
 {
     let mut changes = List::new(alloc);
     for change in pair {
@@ -162,13 +164,14 @@ fn joined(changes: List<GrantChange>, more: List<GrantChange>) -> Result<List<Gr
     Ok(List::from_vec(all))
 }
 
-fn pair_refusal(
+/// The refusal of the pair. The grants are as they were.
+pub fn pair_refusal<G: GrantsSeen>(
     alloc: Global,
-    grants: &mut Course,
+    grants: &mut G,
     pair: &[GrantChange],
 ) -> Result<Option<Code>, Memory>
-    ensures refusal { IfOk result (λ found. MatchOption found ((code : Code) → ¬ RefusesPair grants.old pair.now code) (RefusesPair grants.old pair.now)) }
-    ensures same { grants.new ≡ grants.old }
+    ensures refusal { IfOk result (λ found. MatchOption found ((code : Code) → ¬ RefusesPair (G.seen grants.old) pair.now code) (RefusesPair (G.seen grants.old) pair.now)) }
+    ensures same { G.seen grants.new ≡ G.seen grants.old }
 {
     if closes_circle(alloc, grants, pair)? {
         return Ok(Some(Code::CIRCULAR_ROLE_GRANT));
@@ -177,9 +180,9 @@ fn pair_refusal(
 }
 
 // The refusal of a pair that closes no circle.
-fn open_refusal(grants: &Course, pair: &[GrantChange]) -> Option<Code>
-    requires { ¬ ClosesCircle grants.now.role pair.now }
-    ensures { MatchOption result ((code : Code) → ¬ RefusesPair grants.now pair.now code) (RefusesPair grants.now pair.now) }
+fn open_refusal<G: GrantsSeen>(grants: &G, pair: &[GrantChange]) -> Option<Code>
+    requires { ¬ ClosesCircle (G.seen grants.now).role pair.now }
+    ensures { MatchOption result ((code : Code) → ¬ RefusesPair (G.seen grants.now) pair.now code) (RefusesPair (G.seen grants.now) pair.now) }
 {
     if is_over_limit(grants, pair) {
         return Some(Code::TOO_MANY_OBJECTS);
@@ -190,9 +193,13 @@ fn open_refusal(grants: &Course, pair: &[GrantChange]) -> Option<Code>
     missing(pair)
 }
 
-fn closes_circle(alloc: Global, grants: &mut Course, pair: &[GrantChange]) -> Result<bool, Memory>
-    ensures closes { IfOk result (λ closes. IsTrue closes ↔ ClosesCircle grants.old.role pair.now) }
-    ensures same { grants.new ≡ grants.old }
+fn closes_circle<G: GrantsSeen>(
+    alloc: Global,
+    grants: &mut G,
+    pair: &[GrantChange],
+) -> Result<bool, Memory>
+    ensures closes { IfOk result (λ closes. IsTrue closes ↔ ClosesCircle (G.seen grants.old).role pair.now) }
+    ensures same { G.seen grants.new ≡ G.seen grants.old }
 {
     for change in pair {
         if closes(alloc, grants, change)? {
@@ -202,9 +209,13 @@ fn closes_circle(alloc: Global, grants: &mut Course, pair: &[GrantChange]) -> Re
     Ok(false)
 }
 
-fn closes(alloc: Global, grants: &mut Course, change: &GrantChange) -> Result<bool, Memory>
-    ensures closes { IfOk result (λ closes. IsTrue closes ↔ Closes grants.old.role change.now) }
-    ensures same { grants.new ≡ grants.old }
+fn closes<G: GrantsSeen>(
+    alloc: Global,
+    grants: &mut G,
+    change: &GrantChange,
+) -> Result<bool, Memory>
+    ensures closes { IfOk result (λ closes. IsTrue closes ↔ Closes (G.seen grants.old).role change.now) }
+    ensures same { G.seen grants.new ≡ G.seen grants.old }
 {
     match change {
         GrantChange::RoleGrant(grantee, role, _) => grants.closes_circle(alloc, grantee, role),
@@ -212,8 +223,8 @@ fn closes(alloc: Global, grants: &mut Course, change: &GrantChange) -> Result<bo
     }
 }
 
-fn is_over_limit(grants: &Course, pair: &[GrantChange]) -> bool
-    ensures { IsTrue result ↔ IsOverLimit grants.now pair.now }
+fn is_over_limit<G: GrantsSeen>(grants: &G, pair: &[GrantChange]) -> bool
+    ensures { IsTrue result ↔ IsOverLimit (G.seen grants.now) pair.now }
 {
     let (system, role, object) = grants.counts();
     let room = GRANTS
@@ -223,22 +234,22 @@ fn is_over_limit(grants: &Course, pair: &[GrantChange]) -> bool
     room < new_count(grants, pair)
 }
 
-fn new_count(grants: &Course, pair: &[GrantChange]) -> usize
-    ensures { result ≡ length (filter (is_new grants.now) pair.now) }
+fn new_count<G: GrantsSeen>(grants: &G, pair: &[GrantChange]) -> usize
+    ensures { result ≡ length (filter (is_new (G.seen grants.now)) pair.now) }
 {
     pair.iter()
         .filter(|change| is_new_grant(grants, change))
         .count()
 }
 
-fn has_some_effect(grants: &Course, pair: &[GrantChange]) -> bool
-    ensures { result ≡ list_any (is_effective grants.now) pair.now }
+fn has_some_effect<G: GrantsSeen>(grants: &G, pair: &[GrantChange]) -> bool
+    ensures { result ≡ list_any (is_effective (G.seen grants.now)) pair.now }
 {
     pair.iter().any(|change| has_effect(grants, change))
 }
 
-fn has_effect(grants: &Course, change: &GrantChange) -> bool
-    ensures { result ≡ is_effective grants.now change.now }
+fn has_effect<G: GrantsSeen>(grants: &G, change: &GrantChange) -> bool
+    ensures { result ≡ is_effective (G.seen grants.now) change.now }
 {
     match change {
         GrantChange::SystemGrant(grantee, privilege, admin) => {
@@ -261,8 +272,8 @@ fn has_effect(grants: &Course, change: &GrantChange) -> bool
     }
 }
 
-fn is_new_grant(grants: &Course, change: &GrantChange) -> bool
-    ensures { result ≡ is_new grants.now change.now }
+fn is_new_grant<G: GrantsSeen>(grants: &G, change: &GrantChange) -> bool
+    ensures { result ≡ is_new (G.seen grants.now) change.now }
 {
     match change {
         GrantChange::SystemGrant(grantee, privilege, _) => {

@@ -1,4 +1,3 @@
-use Rattle.std.proofs.Common.{◌≡◌}
 use Rattle.au_priv.specs.declared.deciding.Needed.{Needed}
 use Rattle.au_base.specs.declared.code.Code.{Code}
 use Rattle.au_grants.specs.declared.right.Sought.TheVariants.{RoleWithAdmin}

@@ -6,5 +6,5 @@ use Rattle.au_priv.specs.Walking.{RefusesPair}
 use Rattle.au_priv.proofs.walking.pair_refusal.Goals as goal
 
 pub returns-clause-refusal : goal.returns-clause-refusal
-returns-clause-refusal c =
+returns-clause-refusal g c =
     subst (λ (g : Grants). MatchOption c.open_refusal.result ((code : Code) → ¬ RefusesPair g c.args.pair.now code) (RefusesPair g c.args.pair.now)) c.in_ok-closes_circle.ensures.same c.open_refusal.ensures

@@ -1,0 +1,14 @@
+use Rattle.std.proofs.Common.{◌∙◌, ◌&&◌, ap, rules, tests}
+use Rattle.std.specs.List.{filter, list_any}
+use Rattle.std.specs.Str.{bytes_eq}
+use Rattle.std.proofs.lemmas.Iterator.{YieldsList-from_slice}
+use Rattle.std.proofs.lemmas.Iterator.Search.{any_from_yields_List}
+use Rattle.au_grants.specs.Holding.{same_action, same_table}
+use Rattle.au_priv.proofs.Together.{object_kept}
+use Rattle.au_priv.proofs.seen.LentGrantsSeen.has_object.Goals as goal
+
+pub returns : goal.returns
+returns c =
+    any_from_yields_List (λ grant. same_table grant.1 c.args.table.now && same_action grant.2 c.args.action) _ _ _ c.any.ensures.ran (YieldsList-from_slice c.granted_to.result.now cc) (λ x b q k. search (rules, tests))
+    ∙ ap (list_any (λ grant. same_table grant.1 c.args.table.now && same_action grant.2 c.args.action)) (c.granted_to.ensures ∙ ap (filter (λ grant. bytes_eq grant.0 c.args.grantee.now)) c.object_grants.ensures.value)
+    ∙ object_kept c.args.grantee.now c.args.table.now c.args.action _
