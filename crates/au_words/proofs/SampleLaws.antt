@@ -1,66 +1,140 @@
--- Two options in either order, and the words of `sample`.
-use Rattle.std.proofs.Common.{◌≡◌, inl, inr, ℕ, List, [], ◌∷◌, ◌++◌, get_or, sym, ap, ◌∙◌, subst, arith, codes}
-use Rattle.au_words.specs.Words.{AreBoth, InOrder, IsNumber, IsOption, IsRowsText, IsSample, rows_name, seed_name}
-use Rattle.au_words.proofs.OptionLaws.{first_word, heads, other_front, same_option, tails}
+-- The options of `sample`, by what `clap` finds.
+use Rattle.std.proofs.Common.{◌≡◌, ◌≢◌, inl, inr, ℕ, Bool, true, false, List, [], ◌∷◌, Option, Some, None, refl, sym, ap, ◌∙◌, subst, codes}
+use Rattle.std.specs.List.{All}
+use Rattle.std.specs.Prelude.{IsSomeAnd, MatchOption}
+use Rattle.clap.specs.Faults.{fault_of}
+use Rattle.clap.specs.Simple.{App, matches_of}
+use Rattle.clap.specs.Matches.{first_value}
+use Rattle.clap.specs.Walk.{Row, Text, first_of, rows_of}
+use Rattle.clap.specs.declared.parser.matches.Found.{Found}
+use Rattle.clap.proofs.WalkLemmas.{first_value-rows}
+use Rattle.au_words.specs.Options.{AreSample, IsFormed, two_options}
+use Rattle.au_words.specs.Words.{AreBoth, IsNumber, IsRowsText, IsSample, rows_name, seed_name}
+use Rattle.au_words.proofs.TwoLaws.{AreGiven, AreNames, IsFound, IsGiven, IsTaken, given, taken}
 
--- ---- in one order
+abbrev pub seed_id : Text
+seed_id = codes "seed"
 
-pub order_none : (name other : List ℕ) (words : List (List ℕ)) → ((value : List ℕ) (option rest : List (List ℕ)) → IsOption name value option → words ≡ option ++ rest → ⊥)
-    → (value behind : List ℕ) → InOrder name other value behind words → ⊥
-order_none name other words none value behind x = none value x.option x.rest x.first x.split
+abbrev pub rows_id : Text
+rows_id = codes "rows"
 
--- ---- in either order
+abbrev pub app : App
+app = two_options (codes "sample") seed_id rows_id true
 
-pub both_none : (name other : List ℕ) (words : List (List ℕ)) → ((value behind : List ℕ) → InOrder name other value behind words → ⊥)
-    → ((behind value : List ℕ) → InOrder other name behind value words → ⊥) → (value behind : List ℕ) → AreBoth name other value behind words → ⊥
-both_none name other words none not value behind (inl x) = none value behind x
-both_none name other words none not value behind (inr x) = not behind value x
+sample_names : AreNames seed_id rows_id
+sample_names = record {
+  first = 115;
+  rest = codes "eed";
+  some = refl;
+  second = 114;
+  more = codes "ows";
+  other_some = refl;
+  plain = refl;
+  other_plain = refl;
+  apart = refl;
+  other_apart = refl;
+}
 
--- what two options are read as, in one way
-pub record SameBoth (v w b d : List ℕ) : Type 0 where
-  pub value : v ≡ w
-  pub behind : b ≡ d
+-- both options have a text
+record HasTexts (words : List Text) (rows : List Row) : Type 0 where
+  seed : Text
+  count : Text
+  are : AreBoth seed_name rows_name seed count words
+  first : first_of seed_id rows ≡ Some seed
+  second : first_of rows_id rows ≡ Some count
 
-same_order : (name other v w b d : List ℕ) (words : List (List ℕ)) → InOrder name other v b words → InOrder name other w d words → SameBoth v w b d
-same_order name other v w b d words x y =
-    let front = other_front name v w words x.option y.option x.rest y.rest x.first y.first x.split y.split in
-    let back = same_option other b d x.rest y.rest [] [] x.second y.second (ap (λ (l : List (List ℕ)). l ++ []) front.rest) in
-    record { value = front.value; behind = back.value }
+texts_found : (words : List Text) → All IsFormed words → fault_of app words ≡ [] → HasTexts words (matches_of app words)
+texts_found words formed passes = by_given (taken (codes "sample") seed_id rows_id true sample_names words formed passes)
+  where
+    by_behind : (g : IsGiven seed_id rows_id true words (matches_of app words)) (o : Option Text) → g.behind ≡ o → HasTexts words (matches_of app words)
+    by_behind g None e = absurd (g.needed refl e)
+    by_behind g (Some count) e = record {
+      seed = g.value;
+      count = count;
+      are = subst (λ (o : Option Text). AreGiven seed_id rows_id g.value o words) e g.are;
+      first = g.first;
+      second = g.second ∙ e;
+    }
 
--- the options of the seed and of the rows begin with other letters
-apart : (v w : List ℕ) (words a b r q : List (List ℕ)) → IsOption seed_name v a → IsOption rows_name w b → words ≡ a ++ r → words ≡ b ++ q → ⊥
-apart v w words a b r q x y e f =
-    let g = first_word seed_name v a r x in
-    let h = first_word rows_name w b q y in
-    let same = heads (seed_name ++ g.0) (rows_name ++ h.0) g.1 h.1 (sym g.2 ∙ sym e ∙ f ∙ h.2) in
-    let letters : get_or (seed_name ++ g.0) 2 0 ≡ get_or (rows_name ++ h.0) 2 0 = ap (λ (word : List ℕ). get_or word 2 0) same in
-    omega (arith, letters)
+    by_given : IsGiven seed_id rows_id true words (matches_of app words) → HasTexts words (matches_of app words)
+    by_given g = by_behind g g.behind refl
 
-pub one_both : (v w b d : List ℕ) (words : List (List ℕ)) → AreBoth seed_name rows_name v b words → AreBoth seed_name rows_name w d words → SameBoth v w b d
-one_both v w b d words (inl x) (inl y) = same_order seed_name rows_name v w b d words x y
-one_both v w b d words (inl x) (inr y) = absurd (apart v d words x.option y.option x.rest y.rest x.first y.first x.split y.split)
-one_both v w b d words (inr x) (inl y) = absurd (apart w b words y.option x.option y.rest x.rest y.first x.first y.split x.split)
-one_both v w b d words (inr x) (inr y) =
-    let same = same_order rows_name seed_name b d v w words x y in
-    record { value = same.behind; behind = same.value }
+both_taken : (words : List Text) (seed count : Text) → AreBoth seed_name rows_name seed count words → IsTaken app seed_id rows_id words seed (Some count)
+both_taken words seed count are = given (codes "sample") seed_id rows_id true sample_names words seed (Some count) are (λ _ e. let bad : Some count ≡ None = e in cc)
 
--- ---- the command
+behind_name : (words : List Text) (seed rows : ℕ) → (x : IsSample (codes "sample" ∷ words) seed rows) → AreBoth seed_name rows_name x.seed_text x.rows_text words
+behind_name words seed rows x =
+    let same : codes "sample" ∷ x.options ≡ codes "sample" ∷ words = sym x.split in
+    let options_are : x.options ≡ words = cc in
+    subst (λ (l : List Text). AreBoth seed_name rows_name x.seed_text x.rows_text l) options_are x.reads
 
-module _ (words options : List (List ℕ)) (first : List ℕ) (split : words ≡ first ∷ options) where
-  pub no_both : ((value behind : List ℕ) → AreBoth seed_name rows_name value behind options → ⊥) → (seed rows : ℕ) → IsSample words seed rows → ⊥
-  no_both none seed rows x =
-      none x.seed_text x.rows_text
-      (subst (λ (l : List (List ℕ)). AreBoth seed_name rows_name x.seed_text x.rows_text l) (sym (tails first (codes "sample") options x.options (sym split ∙ x.split))) x.reads)
+pub no_sample : (words : List Text) → (All IsFormed words → fault_of app words ≡ [] → ⊥) → (seed rows : ℕ) → IsSample (codes "sample" ∷ words) seed rows → ⊥
+no_sample words none seed rows x =
+    let t = both_taken words x.seed_text x.rows_text (behind_name words seed rows x) in
+    none t.formed t.passes
 
-  same_texts : (value behind : List ℕ) (seed rows : ℕ) → AreBoth seed_name rows_name value behind options → (x : IsSample words seed rows) → SameBoth x.seed_text value x.rows_text behind
-  same_texts value behind seed rows are x =
-      let reads = subst (λ (l : List (List ℕ)). AreBoth seed_name rows_name x.seed_text x.rows_text l) (sym (tails first (codes "sample") options x.options (sym split ∙ x.split))) x.reads in
-      one_both x.seed_text value x.rows_text behind options reads are
+sample_found : (words : List Text) (seed rows : ℕ) (x : IsSample (codes "sample" ∷ words) seed rows)
+    → AreSample (first_of seed_id (matches_of app words)) (first_of rows_id (matches_of app words)) seed rows
+sample_found words seed rows x =
+    let t = both_taken words x.seed_text x.rows_text (behind_name words seed rows x) in (
+      subst (λ (o : Option Text). IsSomeAnd o (λ text. IsNumber text seed)) (sym t.first) x.seed_is,
+      subst (λ (o : Option Text). IsSomeAnd o (λ text. IsRowsText text rows)) (sym t.second) x.rows_is,
+    )
 
-  pub no_seed : (value behind : List ℕ) → AreBoth seed_name rows_name value behind options → ((number : ℕ) → IsNumber value number → ⊥) → (seed rows : ℕ) → IsSample words seed rows → ⊥
-  no_seed value behind are none seed rows x =
-      none seed (subst (λ (t : List ℕ). IsNumber t seed) (same_texts value behind seed rows are x).value x.seed_is)
+abbrev AreTexts : Found → ℕ → ℕ → Type 0
+AreTexts f = AreSample (first_value f seed_id) (first_value f rows_id)
 
-  pub no_rows : (value behind : List ℕ) → AreBoth seed_name rows_name value behind options → ((number : ℕ) → IsRowsText behind number → ⊥) → (seed rows : ℕ) → IsSample words seed rows → ⊥
-  no_rows value behind are none seed rows x =
-      none rows (subst (λ (t : List ℕ). IsRowsText t rows) (same_texts value behind seed rows are x).behind x.rows_is)
+module _ (words : List Text) (f : Found) (found : IsFound app words (rows_of f)) where
+  first_is : first_value f seed_id ≡ first_of seed_id (matches_of app words)
+  first_is = first_value-rows f seed_id ∙ ap (first_of seed_id) found.rows_are
+
+  second_is : first_value f rows_id ≡ first_of rows_id (matches_of app words)
+  second_is = first_value-rows f rows_id ∙ ap (first_of rows_id) found.rows_are
+
+  no_texts : ((seed rows : ℕ) → AreTexts f seed rows → ⊥) → (seed rows : ℕ) → IsSample (codes "sample" ∷ words) seed rows → ⊥
+  no_texts none seed rows x =
+      let is = sample_found words seed rows x in
+      none seed rows (
+        subst (λ (o : Option Text). IsSomeAnd o (λ text. IsNumber text seed)) (sym first_is) is.0,
+        subst (λ (o : Option Text). IsSomeAnd o (λ text. IsRowsText text rows)) (sym second_is) is.1,
+      )
+
+  is_sample : (seed rows : ℕ) → AreTexts f seed rows → IsSample (codes "sample" ∷ words) seed rows
+  is_sample seed rows is =
+      let t = texts_found words found.formed found.passes in
+      record {
+        options = words;
+        seed_text = t.seed;
+        rows_text = t.count;
+        split = refl;
+        reads = t.are;
+        seed_is = subst (λ (o : Option Text). IsSomeAnd o (λ text. IsNumber text seed)) (first_is ∙ t.first) is.0;
+        rows_is = subst (λ (o : Option Text). IsSomeAnd o (λ text. IsRowsText text rows)) (second_is ∙ t.second) is.1;
+      }
+
+  pub sample_read : (o : Option (ℕ × ℕ)) → MatchOption o ((seed rows : ℕ) → AreTexts f seed rows → ⊥) (λ sample. AreTexts f sample.0 sample.1)
+      → MatchOption o ((seed rows : ℕ) → IsSample (codes "sample" ∷ words) seed rows → ⊥) (λ sample. IsSample (codes "sample" ∷ words) sample.0 sample.1)
+  sample_read None none = no_texts none
+  sample_read (Some sample) is = is_sample sample.0 sample.1 is
+
+-- the words name one seed and one number of rows
+pub record OneSample (seed other rows count : ℕ) : Type 0 where
+  pub seeds : seed ≡ other
+  pub counts : rows ≡ count
+
+one_number : (o : Option Text) (k n : ℕ) → IsSomeAnd o (λ text. IsNumber text k) → IsSomeAnd o (λ text. IsNumber text n) → k ≡ n
+one_number None k n x y = absurd x
+one_number (Some text) k n x y = x.value ∙ sym y.value
+
+one_count : (o : Option Text) (k n : ℕ) → IsSomeAnd o (λ text. IsRowsText text k) → IsSomeAnd o (λ text. IsRowsText text n) → k ≡ n
+one_count None k n x y = absurd x
+one_count (Some text) k n x y = x.0.value ∙ sym y.0.value
+
+pub one_sample : (words : List Text) (seed other rows count : ℕ) → IsSample words seed rows → IsSample words other count → OneSample seed other rows count
+one_sample words seed other rows count x y =
+    let a = sample_found y.options seed rows (subst (λ (l : List Text). IsSample l seed rows) y.split x) in
+    let b = sample_found y.options other count (subst (λ (l : List Text). IsSample l other count) y.split y) in
+    record {
+      seeds = one_number (first_of seed_id (matches_of app y.options)) seed other a.0 b.0;
+      counts = one_count (first_of rows_id (matches_of app y.options)) rows count a.1 b.1;
+    }
