@@ -1,16 +1,16 @@
 -- The options of `init`, by what `clap` finds.
-use Rattle.std.proofs.Common.{◌≡◌, ◌≢◌, inl, inr, ℕ, Bool, true, false, List, [], ◌∷◌, ◌++◌, Option, Some, None, refl, sym, ap, ◌∙◌, subst, append-nil, codes, true≢false}
+use Rattle.std.proofs.Common.{◌≡◌, inl, inr, ℕ, false, List, [], ◌∷◌, ◌++◌, Option, Some, None, refl, sym, ap, ◌∙◌, subst, append-nil, codes, true≢false}
 use Rattle.std.specs.List.{All}
 use Rattle.clap.specs.Faults.{fault_of}
 use Rattle.clap.specs.Simple.{App, matches_of}
 use Rattle.clap.specs.Matches.{first_value}
-use Rattle.clap.specs.Walk.{Row, Text, first_of, rows_of}
+use Rattle.clap.specs.Walk.{Text, first_of, rows_of}
 use Rattle.clap.specs.declared.parser.matches.Found.{Found}
 use Rattle.clap.proofs.WalkLemmas.{first_value-rows}
 use Rattle.std.specs.Prelude.{Err, IfOk, MatchOption, Ok, Result}
 use Rattle.au_words.specs.Options.{AreInit, IsFormed, IsLimitOf, two_options}
-use Rattle.au_words.specs.Words.{AreOptions, InOrder, IsInit, IsLimitText, IsOption, IsPassword, LimitAt, limit_name, sys_password}
-use Rattle.au_words.proofs.TwoLaws.{AreGiven, AreNames, IsFound, IsGiven, IsTaken, given, taken}
+use Rattle.au_words.specs.Words.{AreOptions, IsInit, IsOption, IsPassword, LimitAt, sys_password}
+use Rattle.au_words.proofs.TwoLaws.{AreGiven, AreNames, IsFound, IsGiven, given, taken}
 
 abbrev pub password_id : Text
 password_id = codes "sys-password"
@@ -139,21 +139,3 @@ module _ (words : List Text) (f : Found) (found : IsFound app words (rows_of f))
       → IfOk r (λ o. MatchOption o ((password : Text) (limit : ℕ) → IsInit (codes "init" ∷ words) password limit → ⊥) (λ init. IsInit (codes "init" ∷ words) init.0 init.1))
   init_read (Ok o) read = read_of o read
   init_read (Err e) read = tt
-
--- the words name one password and one limit
-pub record OneInit (p q : Text) (k n : ℕ) : Type 0 where
-  pub password : p ≡ q
-  pub limit : k ≡ n
-
-one_limit : (text : Option Text) (k n : ℕ) → IsLimitOf text k → IsLimitOf text n → k ≡ n
-one_limit None k n x y = x ∙ sym y
-one_limit (Some text) k n x y = x.0.value ∙ sym y.0.value
-
-pub one_init : (words : List Text) (p q : Text) (k n : ℕ) → IsInit words p k → IsInit words q n → OneInit p q k n
-one_init words p q k n x y =
-    let same : codes "init" ∷ x.options ≡ codes "init" ∷ y.options = sym x.split ∙ y.split in
-    let options_are : x.options ≡ y.options = cc in
-    let a = (options_read y.options p k (subst (λ (l : List Text). AreOptions l p k) options_are x.reads)).found x.may_be in
-    let b = (options_read y.options q n y.reads).found y.may_be in
-    let texts : Some p ≡ Some q = sym a.0 ∙ b.0 in
-    record { password = cc; limit = one_limit (first_of limit_id (matches_of app y.options)) k n a.2 b.2 }

@@ -1,5 +1,5 @@
 -- The options of `sample`, by what `clap` finds.
-use Rattle.std.proofs.Common.{◌≡◌, ◌≢◌, inl, inr, ℕ, Bool, true, false, List, [], ◌∷◌, Option, Some, None, refl, sym, ap, ◌∙◌, subst, codes}
+use Rattle.std.proofs.Common.{◌≡◌, ℕ, true, List, [], ◌∷◌, Option, Some, None, refl, sym, ap, ◌∙◌, subst, codes}
 use Rattle.std.specs.List.{All}
 use Rattle.std.specs.Prelude.{IsSomeAnd, MatchOption}
 use Rattle.clap.specs.Faults.{fault_of}
@@ -116,25 +116,3 @@ module _ (words : List Text) (f : Found) (found : IsFound app words (rows_of f))
       → MatchOption o ((seed rows : ℕ) → IsSample (codes "sample" ∷ words) seed rows → ⊥) (λ sample. IsSample (codes "sample" ∷ words) sample.0 sample.1)
   sample_read None none = no_texts none
   sample_read (Some sample) is = is_sample sample.0 sample.1 is
-
--- the words name one seed and one number of rows
-pub record OneSample (seed other rows count : ℕ) : Type 0 where
-  pub seeds : seed ≡ other
-  pub counts : rows ≡ count
-
-one_number : (o : Option Text) (k n : ℕ) → IsSomeAnd o (λ text. IsNumber text k) → IsSomeAnd o (λ text. IsNumber text n) → k ≡ n
-one_number None k n x y = absurd x
-one_number (Some text) k n x y = x.value ∙ sym y.value
-
-one_count : (o : Option Text) (k n : ℕ) → IsSomeAnd o (λ text. IsRowsText text k) → IsSomeAnd o (λ text. IsRowsText text n) → k ≡ n
-one_count None k n x y = absurd x
-one_count (Some text) k n x y = x.0.value ∙ sym y.0.value
-
-pub one_sample : (words : List Text) (seed other rows count : ℕ) → IsSample words seed rows → IsSample words other count → OneSample seed other rows count
-one_sample words seed other rows count x y =
-    let a = sample_found y.options seed rows (subst (λ (l : List Text). IsSample l seed rows) y.split x) in
-    let b = sample_found y.options other count (subst (λ (l : List Text). IsSample l other count) y.split y) in
-    record {
-      seeds = one_number (first_of seed_id (matches_of app y.options)) seed other a.0 b.0;
-      counts = one_count (first_of rows_id (matches_of app y.options)) rows count a.1 b.1;
-    }

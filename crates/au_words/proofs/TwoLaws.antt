@@ -1,6 +1,6 @@
 -- What a command of two options makes of the words.
-use Rattle.std.proofs.Common.{◌<◌, ◌↔◌, Bor, IsTrue, length, true≢false, ◌≡◌, ◌≢◌, ◌⊎◌, ◌&&◌, ◌||◌, inl, inr, ℕ, Bool, true, false, not, List, [], ◌∷◌, ◌++◌, Option, Some, None, cond, refl, sym, ap, ap₂, ◌∙◌, subst, arith, append-nil, eqb-true}
-use Rattle.std.specs.Prelude.{◌==◌, find, fold}
+use Rattle.std.proofs.Common.{◌<◌, ◌↔◌, Bor, IsTrue, length, true≢false, ◌≡◌, ◌≢◌, ◌⊎◌, ◌&&◌, ◌||◌, inl, inr, ℕ, Bool, true, false, not, List, [], ◌∷◌, ◌++◌, Option, Some, None, cond, refl, sym, ap, ap₂, ◌∙◌, subst, arith, append-nil}
+use Rattle.std.specs.Prelude.{◌==◌}
 use Rattle.std.specs.Bool.{MatchBool}
 use Rattle.std.specs.List.{All, AllWithin, HoldsAt, list_any}
 use Rattle.std.specs.Str.{bytes_eq}
@@ -13,16 +13,16 @@ use Rattle.clap.specs.Matches.{found_of}
 use Rattle.clap.specs.Values.{reading_of}
 use Rattle.clap.specs.declared.parser.matches.ArgMatches.{ArgMatches}
 use Rattle.clap.specs.Kinds.{Kinds, or_else}
-use Rattle.clap.specs.Simple.{App, Shape, built, is_simple, matches_of}
+use Rattle.clap.specs.Simple.{App, built, matches_of}
 use Rattle.clap.specs.Takes.{is_given}
-use Rattle.clap.specs.Walk.{Held, Row, Rule, Text, Walk, arg_by_id, arg_by_index, arg_by_long, finished, first_of, has_row, idle, nothing_held, rows_of, settled, texts, walk, with_default}
-use Rattle.clap.specs.Faults.{check_fault, default_fault, defaults_fault, fault_of, given_default_fault, is_simple_and_free, level_fault, settle_fault, walk_fault}
+use Rattle.clap.specs.Walk.{Held, Row, Rule, Text, Walk, arg_by_long, finished, first_of, has_row, idle, nothing_held, rows_of, settled, texts, walk, with_default}
+use Rattle.clap.specs.Faults.{default_fault, defaults_fault, fault_of, given_default_fault, is_simple_and_free, settle_fault, walk_fault}
 use Rattle.clap.specs.declared.parser.matches.ValueSource.TheVariants.{CommandLine}
 use Rattle.clap.specs.declared.builder.value_parser.ValueParser.TheVariants as vp
 use Rattle.clap.specs.declared.error.kind.ErrorKind.TheVariants.{MissingRequiredArgument}
 use Rattle.au_words.specs.Words.{AreBoth, InOrder, IsOption}
 use Rattle.au_words.specs.Options.{Finds, IsFormed, two_options}
-use Rattle.au_words.proofs.WalkLaws.{IsOfOptions, IsNamed, Lacks-cons, Reads, all_fault, at, built_shape, complete, ends, first_none, or_else_assoc, Good, Passes, option_rule, rows_behind, second_none, sound, takes, with_option}
+use Rattle.au_words.proofs.WalkLaws.{IsOfOptions, IsNamed, Lacks-cons, Reads, all_fault, at, built_shape, complete, ends, first_none, or_else_assoc, Good, option_rule, rows_behind, second_none, sound, takes, with_option}
 
 -- ---- names
 

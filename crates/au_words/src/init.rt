@@ -4,7 +4,7 @@ ghost use Rattle.clap.specs.Words.{app_of, first_value, found_of};
 ghost use Rattle.au_words.specs.Options.{AreInit, IsLimitOf, two_options};
 ghost use Rattle.au_words.specs.Words.{IsInit, IsPassword};
 
-use crate::options::{matches_of, strs_of};
+use crate::options::{matches_of, str_words};
 use au_base::limits::{
     JOURNAL_LIMIT_DEFAULT, JOURNAL_LIMIT_MAX, JOURNAL_LIMIT_MIN, PASSWORD_BYTES,
 };
@@ -18,7 +18,7 @@ pub(crate) fn init_of(alloc: Global, options: &[Text]) -> Result<Option<(Text, u
         ((password : List ℕ) (limit : ℕ) → IsInit (codes "init" ∷ options.now) password limit → ⊥)
         (λ init. IsInit (codes "init" ∷ options.now) init.0 init.1)) }
 {
-    let words = strs_of(alloc, options)?;
+    let words = str_words(alloc, options)?;
     let command = init_command(alloc)?;
     match matches_of(command, words.as_slice())? {
         Some(found) => password_and_limit(alloc, &found),
@@ -51,7 +51,10 @@ fn password_and_limit(alloc: Global, found: &ArgMatches<'_>) -> Result<Option<(T
         (λ init. AreInit (first_value (found_of found.now) (codes "sys-password"))
         (first_value (found_of found.now) (codes "limit")) init.0 init.1)) }
 {
-    match (found.get_str("sys-password"), limit_of(found.get_str("limit"))) {
+    match (
+        found.get_str("sys-password"),
+        limit_of(found.get_str("limit")),
+    ) {
         (Some(password), Some(limit)) if is_password(password) => {
             Ok(Some((Text::from_str(alloc, password)?, limit)))
         }

@@ -11,7 +11,7 @@ use clap::{ArgMatches, Command};
 use std::alloc::Global;
 
 /// The same words as `clap` takes them.
-pub(crate) fn strs_of(alloc: Global, words: &[Text]) -> Result<Vec<&str>, Memory>
+pub(crate) fn str_words(alloc: Global, words: &[Text]) -> Result<Vec<&str>, Memory>
     ensures { IfOk result (λ made. texts made.items ≡ words.now) }
 {
     let mut made = Vec::new(alloc);

@@ -4,7 +4,7 @@ ghost use Rattle.clap.specs.Words.{app_of, first_value, found_of};
 ghost use Rattle.au_words.specs.Options.{AreSample, two_options};
 ghost use Rattle.au_words.specs.Words.{IsNumber, IsRowsText, IsSample};
 
-use crate::options::{matches_of, strs_of};
+use crate::options::{matches_of, str_words};
 use au_base::limits::SAMPLE_ROWS;
 use au_base::{Memory, Text};
 use clap::{Arg, ArgMatches, Command};
@@ -16,7 +16,7 @@ pub(crate) fn sample_of(alloc: Global, options: &[Text]) -> Result<Option<(u32, 
         ((seed rows : ℕ) → IsSample (codes "sample" ∷ options.now) seed rows → ⊥)
         (λ sample. IsSample (codes "sample" ∷ options.now) sample.0 sample.1)) }
 {
-    let words = strs_of(alloc, options)?;
+    let words = str_words(alloc, options)?;
     let command = sample_command(alloc)?;
     match matches_of(command, words.as_slice())? {
         Some(found) => Ok(seed_and_rows(&found)),

@@ -1,4 +1,4 @@
-use Rattle.std.proofs.Common.{◌≡◌, ◌↔◌, IsTrue, ℕ, Bool, ◌<◌, Bor, rules, List, true}
+use Rattle.std.proofs.Common.{ℕ, Bor, rules, List}
 use Rattle.std.proofs.lemmas.Iterator.{YieldsList-from_slice, cases_from_all}
 use Rattle.au_words.specs.Options.{IsFormed}
 use Rattle.au_words.proofs.TwoLaws.{all_formed}
