@@ -1,8 +1,8 @@
 -- The options of a command, as `clap` is asked for them.
-use Rattle.std.specs.Prelude.{◌≡◌, ◌≢◌, ◌⊎◌, ℕ, Bool, true, List, [], ◌∷◌, Option, Some, None, IsSomeAnd}
+use Rattle.std.specs.Prelude.{◌≡◌, ◌≢◌, ◌⊎◌, ℕ, Bool, true, List, [], ◌∷◌, Option, Some, None, IsSomeAnd, codes}
 use Rattle.std.specs.List.{All}
 use Rattle.clap.specs.Simple.{new_shape}
-use Rattle.clap.specs.Words.{App, Rule, Text, fault_of, found_of, matches_of, new_rule, rows_of}
+use Rattle.clap.specs.Words.{App, Rule, Text, fault_of, first_value, found_of, matches_of, new_rule, rows_of}
 use Rattle.clap.specs.declared.parser.matches.ArgMatches.{ArgMatches}
 use Rattle.au_base.specs.Limits.{JOURNAL_LIMIT_DEFAULT}
 use Rattle.au_words.specs.Words.{IsLimitText, IsNumber, IsOwnWord, IsPassword, IsRowsText}
@@ -49,11 +49,14 @@ abbrev pub IsLimitOf : Option Text → ℕ → Type 0
 IsLimitOf None limit = limit ≡ JOURNAL_LIMIT_DEFAULT
 IsLimitOf (Some text) limit = IsLimitText text limit
 
--- the texts of both options are this password and this limit
-abbrev pub AreInit : Option Text → Option Text → Text → ℕ → Type 0
-AreInit first second password limit = (first ≡ Some password) × IsPassword password × IsLimitOf second limit
+-- what was found for `init` is this password and this limit
+abbrev pub FindsInit : ArgMatches → Text → ℕ → Type 0
+FindsInit found password limit =
+    (first_value (found_of found) (codes "sys-password") ≡ Some password) × IsPassword password
+    × IsLimitOf (first_value (found_of found) (codes "limit")) limit
 
--- the texts of both options are this seed and this number of rows
-abbrev pub AreSample : Option Text → Option Text → ℕ → ℕ → Type 0
-AreSample first second seed rows =
-    IsSomeAnd first (λ text. IsNumber text seed) × IsSomeAnd second (λ text. IsRowsText text rows)
+-- what was found for `sample` is this seed and this number of rows
+abbrev pub FindsSample : ArgMatches → ℕ → ℕ → Type 0
+FindsSample found seed rows =
+    IsSomeAnd (first_value (found_of found) (codes "seed")) (λ text. IsNumber text seed)
+    × IsSomeAnd (first_value (found_of found) (codes "rows")) (λ text. IsRowsText text rows)

@@ -1,7 +1,7 @@
 //! The options of `init`.
 ghost use Rattle.std.specs.Prelude.{◌≡◌, ◌∷◌, ◌↔◌, ℕ, List, IfOk, IsTrue, MatchOption, codes, false, option_map};
-ghost use Rattle.clap.specs.Words.{app_of, first_value, found_of};
-ghost use Rattle.au_words.specs.Options.{AreInit, IsLimitOf, two_options};
+ghost use Rattle.clap.specs.Words.{app_of};
+ghost use Rattle.au_words.specs.Options.{FindsInit, IsLimitOf, two_options};
 ghost use Rattle.au_words.specs.Words.{IsInit, IsPassword};
 
 use crate::options::{matches_of, str_words};
@@ -43,13 +43,11 @@ fn init_command<'a>(alloc: Global) -> Result<Command<'a>, Memory>
     Ok(command)
 }
 
-// The password and the limit that the options' texts are.
+// The password and the limit that the texts of the options are.
 fn password_and_limit(alloc: Global, found: &ArgMatches<'_>) -> Result<Option<(Text, u32)>, Memory>
     ensures { IfOk result (λ read. MatchOption read
-        ((password : List ℕ) (limit : ℕ) → AreInit (first_value (found_of found.now) (codes "sys-password"))
-        (first_value (found_of found.now) (codes "limit")) password limit → ⊥)
-        (λ init. AreInit (first_value (found_of found.now) (codes "sys-password"))
-        (first_value (found_of found.now) (codes "limit")) init.0 init.1)) }
+        ((password : List ℕ) (limit : ℕ) → FindsInit found.now password limit → ⊥)
+        (λ init. FindsInit found.now init.0 init.1)) }
 {
     match (
         found.get_str("sys-password"),

@@ -10,7 +10,7 @@ use clap::error::ErrorKind;
 use clap::{ArgMatches, Command};
 use std::alloc::Global;
 
-/// The same words as `clap` takes them.
+/// The same words as `&str`, which `clap` takes.
 pub(crate) fn str_words(alloc: Global, words: &[Text]) -> Result<Vec<&str>, Memory>
     ensures { IfOk result (λ made. texts made.items ≡ words.now) }
 {
@@ -21,7 +21,7 @@ pub(crate) fn str_words(alloc: Global, words: &[Text]) -> Result<Vec<&str>, Memo
     Ok(made)
 }
 
-/// What the command finds among the words, where it takes them.
+/// What the command finds among the words. `None` where it refuses them, or one isn't formed.
 pub(crate) fn matches_of<'a>(
     command: Command<'a>,
     words: &'a [&'a str],

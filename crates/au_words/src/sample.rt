@@ -1,7 +1,7 @@
 //! The options of `sample`.
 ghost use Rattle.std.specs.Prelude.{◌≡◌, ◌∷◌, ℕ, List, IfOk, MatchOption, codes, true};
-ghost use Rattle.clap.specs.Words.{app_of, first_value, found_of};
-ghost use Rattle.au_words.specs.Options.{AreSample, two_options};
+ghost use Rattle.clap.specs.Words.{app_of};
+ghost use Rattle.au_words.specs.Options.{FindsSample, two_options};
 ghost use Rattle.au_words.specs.Words.{IsNumber, IsRowsText, IsSample};
 
 use crate::options::{matches_of, str_words};
@@ -39,13 +39,11 @@ fn sample_command<'a>(alloc: Global) -> Result<Command<'a>, Memory>
     Ok(command)
 }
 
-// The seed and the rows that the options' texts are.
+// The seed and the rows that the texts of the options are.
 fn seed_and_rows(found: &ArgMatches<'_>) -> Option<(u32, u32)>
     ensures { MatchOption result
-        ((seed rows : ℕ) → AreSample (first_value (found_of found.now) (codes "seed"))
-        (first_value (found_of found.now) (codes "rows")) seed rows → ⊥)
-        (λ sample. AreSample (first_value (found_of found.now) (codes "seed"))
-        (first_value (found_of found.now) (codes "rows")) sample.0 sample.1) }
+        ((seed rows : ℕ) → FindsSample found.now seed rows → ⊥)
+        (λ sample. FindsSample found.now sample.0 sample.1) }
 {
     let seed = number_of(found.get_str("seed")?)?;
     let rows = rows_of(found.get_str("rows")?)?;
