@@ -1,2 +1,4 @@
-pub mod OptionLaws
+pub mod InitLaws
 pub mod SampleLaws
+pub mod TwoLaws
+pub mod WalkLaws

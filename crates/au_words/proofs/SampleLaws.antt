@@ -1,66 +1,68 @@
--- Two options in either order, and the words of `sample`.
-use Rattle.std.proofs.Common.{◌≡◌, inl, inr, ℕ, List, [], ◌∷◌, ◌++◌, get_or, sym, ap, ◌∙◌, subst, arith, codes}
-use Rattle.au_words.specs.Words.{AreBoth, InOrder, IsNumber, IsOption, IsRowsText, IsSample, rows_name, seed_name}
-use Rattle.au_words.proofs.OptionLaws.{first_word, heads, other_front, same_option, tails}
+-- The options of `sample`, by what `clap` finds.
+use Rattle.std.specs.List.{All}
+use Rattle.std.specs.Prelude.{IsSomeAnd, MatchOption}
+use Rattle.std.proofs.Common.{◌≡◌, ℕ, true, List, [], ◌∷◌, Option, Some, None, refl, sym, ap, ◌∙◌, subst, codes}
+use Rattle.clap.specs.Faults.{fault_of}
+use Rattle.clap.specs.Matches.{first_value, found_of}
+use Rattle.clap.specs.Simple.{App, matches_of}
+use Rattle.clap.specs.Walk.{Text, first_of, rows_of}
+use Rattle.clap.specs.declared.parser.matches.ArgMatches.{ArgMatches}
+use Rattle.clap.proofs.WalkLemmas.{first_value-rows}
+use Rattle.au_words.specs.Options.{FindsSample, IsFormed, two_options}
+use Rattle.au_words.specs.Words.{AreBoth, IsNumber, IsRowsText, IsSample, rows_name, seed_name}
+use Rattle.au_words.proofs.TwoLaws.{AreGiven, AreNames, IsFound, IsGiven, IsTaken, given, taken}
 
--- ---- in one order
+abbrev first_id : Text
+first_id = codes "seed"
 
-pub order_none : (name other : List ℕ) (words : List (List ℕ)) → ((value : List ℕ) (option rest : List (List ℕ)) → IsOption name value option → words ≡ option ++ rest → ⊥)
-    → (value behind : List ℕ) → InOrder name other value behind words → ⊥
-order_none name other words none value behind x = none value x.option x.rest x.first x.split
+abbrev second_id : Text
+second_id = codes "rows"
 
--- ---- in either order
+abbrev pub app : App
+app = two_options (codes "sample") first_id second_id true
 
-pub both_none : (name other : List ℕ) (words : List (List ℕ)) → ((value behind : List ℕ) → InOrder name other value behind words → ⊥)
-    → ((behind value : List ℕ) → InOrder other name behind value words → ⊥) → (value behind : List ℕ) → AreBoth name other value behind words → ⊥
-both_none name other words none not value behind (inl x) = none value behind x
-both_none name other words none not value behind (inr x) = not behind value x
+names : AreNames first_id second_id
+names = record { some = λ e. cc; other_some = λ e. cc; plain = refl; other_plain = refl; apart = refl; other_apart = refl }
 
--- what two options are read as, in one way
-pub record SameBoth (v w b d : List ℕ) : Type 0 where
-  pub value : v ≡ w
-  pub behind : b ≡ d
+is_taken : (words : List Text) (seed rows : ℕ) (x : IsSample (codes "sample" ∷ words) seed rows) → IsTaken app first_id second_id words x.seed_text (Some x.rows_text)
+is_taken words seed rows x =
+    let split : codes "sample" ∷ x.options ≡ codes "sample" ∷ words = sym x.split in
+    let same : x.options ≡ words = cc in
+    let are = subst (λ (l : List Text). AreBoth seed_name rows_name x.seed_text x.rows_text l) same x.reads in
+    given (codes "sample") first_id second_id true names words x.seed_text (Some x.rows_text) are (λ _ e. let bad : Some x.rows_text ≡ None = e in cc)
 
-same_order : (name other v w b d : List ℕ) (words : List (List ℕ)) → InOrder name other v b words → InOrder name other w d words → SameBoth v w b d
-same_order name other v w b d words x y =
-    let front = other_front name v w words x.option y.option x.rest y.rest x.first y.first x.split y.split in
-    let back = same_option other b d x.rest y.rest [] [] x.second y.second (ap (λ (l : List (List ℕ)). l ++ []) front.rest) in
-    record { value = front.value; behind = back.value }
+pub no_sample : (words : List Text) → (All IsFormed words → fault_of app words ≡ [] → ⊥) → (seed rows : ℕ) → IsSample (codes "sample" ∷ words) seed rows → ⊥
+no_sample words none seed rows x = let t = is_taken words seed rows x in none t.formed t.passes
 
--- the options of the seed and of the rows begin with other letters
-apart : (v w : List ℕ) (words a b r q : List (List ℕ)) → IsOption seed_name v a → IsOption rows_name w b → words ≡ a ++ r → words ≡ b ++ q → ⊥
-apart v w words a b r q x y e f =
-    let g = first_word seed_name v a r x in
-    let h = first_word rows_name w b q y in
-    let same = heads (seed_name ++ g.0) (rows_name ++ h.0) g.1 h.1 (sym g.2 ∙ sym e ∙ f ∙ h.2) in
-    let letters : get_or (seed_name ++ g.0) 2 0 ≡ get_or (rows_name ++ h.0) 2 0 = ap (λ (word : List ℕ). get_or word 2 0) same in
-    omega (arith, letters)
+module _ (words : List Text) (m : ArgMatches) (found : IsFound app words (rows_of (found_of m))) where
+  value_is : (id : Text) → first_value (found_of m) id ≡ first_of id (matches_of app words)
+  value_is id = first_value-rows (found_of m) id ∙ ap (first_of id) found.rows_are
 
-pub one_both : (v w b d : List ℕ) (words : List (List ℕ)) → AreBoth seed_name rows_name v b words → AreBoth seed_name rows_name w d words → SameBoth v w b d
-one_both v w b d words (inl x) (inl y) = same_order seed_name rows_name v w b d words x y
-one_both v w b d words (inl x) (inr y) = absurd (apart v d words x.option y.option x.rest y.rest x.first y.first x.split y.split)
-one_both v w b d words (inr x) (inl y) = absurd (apart w b words y.option x.option y.rest x.rest y.first x.first y.split x.split)
-one_both v w b d words (inr x) (inr y) =
-    let same = same_order rows_name seed_name b d v w words x y in
-    record { value = same.behind; behind = same.value }
+  finds : (seed rows : ℕ) → IsSample (codes "sample" ∷ words) seed rows → FindsSample m seed rows
+  finds seed rows x =
+      let t = is_taken words seed rows x in (
+        subst (λ (o : Option Text). IsSomeAnd o (λ text. IsNumber text seed)) (sym (value_is first_id ∙ t.first)) x.seed_is,
+        subst (λ (o : Option Text). IsSomeAnd o (λ text. IsRowsText text rows)) (sym (value_is second_id ∙ t.second)) x.rows_is,
+      )
 
--- ---- the command
+  is_sample : (seed rows : ℕ) → FindsSample m seed rows → IsSample (codes "sample" ∷ words) seed rows
+  is_sample seed rows is =
+      let g = taken (codes "sample") first_id second_id true names words found.formed found.passes in
+      by_behind g g.behind refl
+    where
+      by_behind : (g : IsGiven first_id second_id true words (matches_of app words)) (o : Option Text) → g.behind ≡ o → IsSample (codes "sample" ∷ words) seed rows
+      by_behind g None e = absurd (g.needed refl e)
+      by_behind g (Some text) e = record {
+        options = words;
+        seed_text = g.value;
+        rows_text = text;
+        split = refl;
+        reads = subst (λ (o : Option Text). AreGiven first_id second_id g.value o words) e g.are;
+        seed_is = subst (λ (o : Option Text). IsSomeAnd o (λ text. IsNumber text seed)) (value_is first_id ∙ g.first) is.0;
+        rows_is = subst (λ (o : Option Text). IsSomeAnd o (λ text. IsRowsText text rows)) (value_is second_id ∙ g.second ∙ e) is.1;
+      }
 
-module _ (words options : List (List ℕ)) (first : List ℕ) (split : words ≡ first ∷ options) where
-  pub no_both : ((value behind : List ℕ) → AreBoth seed_name rows_name value behind options → ⊥) → (seed rows : ℕ) → IsSample words seed rows → ⊥
-  no_both none seed rows x =
-      none x.seed_text x.rows_text
-      (subst (λ (l : List (List ℕ)). AreBoth seed_name rows_name x.seed_text x.rows_text l) (sym (tails first (codes "sample") options x.options (sym split ∙ x.split))) x.reads)
-
-  same_texts : (value behind : List ℕ) (seed rows : ℕ) → AreBoth seed_name rows_name value behind options → (x : IsSample words seed rows) → SameBoth x.seed_text value x.rows_text behind
-  same_texts value behind seed rows are x =
-      let reads = subst (λ (l : List (List ℕ)). AreBoth seed_name rows_name x.seed_text x.rows_text l) (sym (tails first (codes "sample") options x.options (sym split ∙ x.split))) x.reads in
-      one_both x.seed_text value x.rows_text behind options reads are
-
-  pub no_seed : (value behind : List ℕ) → AreBoth seed_name rows_name value behind options → ((number : ℕ) → IsNumber value number → ⊥) → (seed rows : ℕ) → IsSample words seed rows → ⊥
-  no_seed value behind are none seed rows x =
-      none seed (subst (λ (t : List ℕ). IsNumber t seed) (same_texts value behind seed rows are x).value x.seed_is)
-
-  pub no_rows : (value behind : List ℕ) → AreBoth seed_name rows_name value behind options → ((number : ℕ) → IsRowsText behind number → ⊥) → (seed rows : ℕ) → IsSample words seed rows → ⊥
-  no_rows value behind are none seed rows x =
-      none rows (subst (λ (t : List ℕ). IsRowsText t rows) (same_texts value behind seed rows are x).behind x.rows_is)
+  pub sample_read : (o : Option (ℕ × ℕ)) → MatchOption o ((seed rows : ℕ) → FindsSample m seed rows → ⊥) (λ sample. FindsSample m sample.0 sample.1)
+      → MatchOption o ((seed rows : ℕ) → IsSample (codes "sample" ∷ words) seed rows → ⊥) (λ sample. IsSample (codes "sample" ∷ words) sample.0 sample.1)
+  sample_read None none = λ seed rows x. none seed rows (finds seed rows x)
+  sample_read (Some sample) is = is_sample sample.0 sample.1 is

@@ -1,26 +1,62 @@
-//! The words of `init`.
-ghost use Rattle.std.specs.Prelude.{◌↔◌, ℕ, List, IsTrue, MatchOption};
-ghost use Rattle.au_words.specs.Words.{AreOptions, IsInit, IsLimitText, IsPassword, LimitAndPassword, LimitAt};
+//! The options of `init`.
+ghost use Rattle.std.specs.Prelude.{◌≡◌, ◌∷◌, ◌↔◌, ℕ, List, IfOk, IsTrue, MatchOption, codes, false, option_map};
+ghost use Rattle.clap.specs.Words.{app_of};
+ghost use Rattle.au_words.specs.Options.{FindsInit, IsLimitOf, two_options};
+ghost use Rattle.au_words.specs.Words.{IsInit, IsPassword};
 
-use crate::options::{front_option, last_option};
-use au_base::Text;
+use crate::options::{matches_of, str_words};
 use au_base::limits::{
     JOURNAL_LIMIT_DEFAULT, JOURNAL_LIMIT_MAX, JOURNAL_LIMIT_MIN, PASSWORD_BYTES,
 };
+use au_base::{Memory, Text};
+use clap::{Arg, ArgMatches, Command};
+use std::alloc::Global;
 
-/// The password and the limit that the words name, where they are the word `init` and its options.
-pub(crate) fn init_of(words: &[Text]) -> Option<(&str, u32)>
-    ensures { MatchOption result ((password : List ℕ) (limit : ℕ) → IsInit words.now password limit → ⊥) (λ init. IsInit words.now init.0.now init.1) }
+/// The password and the limit that the options of `init` name.
+pub(crate) fn init_of(alloc: Global, options: &[Text]) -> Result<Option<(Text, u32)>, Memory>
+    ensures { IfOk result (λ found. MatchOption found
+        ((password : List ℕ) (limit : ℕ) → IsInit (codes "init" ∷ options.now) password limit → ⊥)
+        (λ init. IsInit (codes "init" ∷ options.now) init.0 init.1)) }
 {
-    let (first, options) = words.split_first()?;
-    if first.as_str() != "init" {
-        return None;
+    let words = str_words(alloc, options)?;
+    let command = init_command(alloc)?;
+    match matches_of(command, words.as_slice())? {
+        Some(found) => password_and_limit(alloc, &found),
+        None => Ok(None),
     }
-    let (password, limit) = options_of(options)?;
-    if is_password(password) {
-        Some((password, limit))
-    } else {
-        None
+}
+
+// The command `init`, as `clap` reads what comes behind its name.
+fn init_command<'a>(alloc: Global) -> Result<Command<'a>, Memory>
+    ensures { IfOk result (λ command. app_of command
+        ≡ two_options (codes "init") (codes "sys-password") (codes "limit") false) }
+{
+    let password = Arg::new(alloc, "sys-password")
+        .long("sys-password")
+        .required(true);
+    let limit = Arg::new(alloc, "limit").long("limit");
+    let command = Command::new(alloc, "init")
+        .no_binary_name(true)
+        .disable_help_flag(true)
+        .arg(password)?
+        .arg(limit)?;
+    Ok(command)
+}
+
+// The password and the limit that the texts of the options are.
+fn password_and_limit(alloc: Global, found: &ArgMatches<'_>) -> Result<Option<(Text, u32)>, Memory>
+    ensures { IfOk result (λ read. MatchOption read
+        ((password : List ℕ) (limit : ℕ) → FindsInit found.now password limit → ⊥)
+        (λ init. FindsInit found.now init.0 init.1)) }
+{
+    match (
+        found.get_str("sys-password"),
+        limit_of(found.get_str("limit")),
+    ) {
+        (Some(password), Some(limit)) if is_password(password) => {
+            Ok(Some((Text::from_str(alloc, password)?, limit)))
+        }
+        _ => Ok(None),
     }
 }
 
@@ -30,44 +66,14 @@ fn is_password(text: &str) -> bool
     !text.is_empty() && text.len() <= PASSWORD_BYTES
 }
 
-// The options in either order.
-fn options_of(words: &[Text]) -> Option<(&str, u32)>
-    ensures { MatchOption result ((password : List ℕ) (limit : ℕ) → AreOptions words.now password limit → ⊥) (λ options. AreOptions words.now options.0.now options.1) }
+// The limit that the text is, or the default where there is no text.
+fn limit_of(text: Option<&str>) -> Option<u32>
+    ensures { MatchOption result ((limit : ℕ) → IsLimitOf (option_map (λ s. s.now) text.entry) limit → ⊥)
+        (λ limit. IsLimitOf (option_map (λ s. s.now) text.entry) limit) }
 {
-    match front_option(words, "--sys-password") {
-        Some((password, rest)) => {
-            let limit = limit_at(rest)?;
-            Some((password, limit))
-        }
-        None => limit_and_password(words),
-    }
-}
-
-// The limit's option, which is the last one; nothing stands for the default.
-fn limit_at(words: &[Text]) -> Option<u32>
-    ensures { MatchOption result ((limit : ℕ) → LimitAt words.now limit → ⊥) (λ limit. LimitAt words.now limit) }
-{
-    if words.is_empty() {
+    let Some(text) = text else {
         return Some(JOURNAL_LIMIT_DEFAULT);
-    }
-    let text = last_option(words, "--limit")?;
-    limit_of(text)
-}
-
-// The limit's option, and the password's behind it.
-fn limit_and_password(words: &[Text]) -> Option<(&str, u32)>
-    ensures { MatchOption result ((password : List ℕ) (limit : ℕ) → LimitAndPassword words.now password limit → ⊥) (λ options. LimitAndPassword words.now options.0.now options.1) }
-{
-    let (text, rest) = front_option(words, "--limit")?;
-    let limit = limit_of(text)?;
-    let password = last_option(rest, "--sys-password")?;
-    Some((password, limit))
-}
-
-// The limit that the text is.
-fn limit_of(text: &str) -> Option<u32>
-    ensures { MatchOption result ((limit : ℕ) → IsLimitText text.now limit → ⊥) (λ limit. IsLimitText text.now limit) }
-{
+    };
     match text.parse::<u32>() {
         Ok(limit) if (JOURNAL_LIMIT_MIN..=JOURNAL_LIMIT_MAX).contains(&limit) => Some(limit),
         _ => None,

@@ -1,74 +1,59 @@
-//! Options among words.
-ghost use Rattle.std.specs.Prelude.{◌≡◌, ◌↔◌, ◌∷◌, ◌++◌, ℕ, List, IsTrue, MatchOption};
-ghost use Rattle.au_words.specs.Words.{AreBoth, InOrder, IsOption, IsOwnWord};
+//! Options among words, as `clap` finds them.
+ghost use Rattle.std.specs.Prelude.{◌≡◌, ◌↔◌, IfOk, IsTrue, true};
+ghost use Rattle.std.specs.List.{All};
+ghost use Rattle.clap.specs.Walk.{texts};
+ghost use Rattle.clap.specs.Words.{app_of, is_simple_and_free};
+ghost use Rattle.au_words.specs.Options.{Finds, IsFormed};
 
-use au_base::Text;
+use au_base::{Memory, Text};
+use clap::error::ErrorKind;
+use clap::{ArgMatches, Command};
+use std::alloc::Global;
 
-/// The values of the options of both names, where the words are these two, in either order.
-pub(crate) fn both_of<'a>(words: &'a [Text], name: &str, other: &str) -> Option<(&'a str, &'a str)>
-    ensures { MatchOption result ((value behind : List ℕ) → AreBoth name.now other.now value behind words.now → ⊥)
-        (λ found. AreBoth name.now other.now found.0.now found.1.now words.now) }
+/// The same words as `&str`, which `clap` takes.
+pub(crate) fn str_words(alloc: Global, words: &[Text]) -> Result<Vec<&str>, Memory>
+    ensures { IfOk result (λ made. texts made.items ≡ words.now) }
 {
-    match in_order(words, name, other) {
-        Some(values) => Some(values),
-        None => {
-            let (behind, value) = in_order(words, other, name)?;
-            Some((value, behind))
-        }
+    let mut made = Vec::new(alloc);
+    for word in words {
+        made.push(word.as_str())?;
+    }
+    Ok(made)
+}
+
+/// What the command finds among the words. `None` where it refuses them, or one isn't formed.
+pub(crate) fn matches_of<'a>(
+    command: Command<'a>,
+    words: &'a [&'a str],
+) -> Result<Option<ArgMatches<'a>>, Memory>
+    requires { is_simple_and_free (app_of command) ≡ true }
+    ensures { IfOk result (λ found. Finds (app_of command.entry) (texts words.entry.now) found) }
+{
+    if !are_formed(words) {
+        return Ok(None);
+    }
+    match command.try_get_matches_from(words) {
+        Ok(found) => Ok(Some(found)),
+        Err(error) => match error.kind() {
+            ErrorKind::OutOfMemory => Err(Memory),
+            _ => Ok(None),
+        },
     }
 }
 
-// The values of the options of both names, where the words are these two in this order.
-fn in_order<'a>(words: &'a [Text], name: &str, other: &str) -> Option<(&'a str, &'a str)>
-    ensures { MatchOption result ((value behind : List ℕ) → InOrder name.now other.now value behind words.now → ⊥)
-        (λ found. InOrder name.now other.now found.0.now found.1.now words.now) }
+fn are_formed(words: &[&str]) -> bool
+    ensures { IsTrue result ↔ All IsFormed (texts words.now) }
 {
-    let (value, rest) = front_option(words, name)?;
-    let behind = last_option(rest, other)?;
-    Some((value, behind))
+    words.iter().all(|word| is_formed(word))
 }
 
-/// The value of the option of that name, where the words are nothing else.
-pub(crate) fn last_option<'a>(words: &'a [Text], name: &str) -> Option<&'a str>
-    ensures { MatchOption result ((value : List ℕ) → IsOption name.now value words.now → ⊥) (λ value. IsOption name.now value.now words.now) }
+// Whether the word may be an option, or an option's value in a word of its own. `clap` would also
+// take `--` anywhere, and `-` and an empty word as values.
+fn is_formed(word: &str) -> bool
+    ensures { IsTrue result ↔ IsFormed word.now }
 {
-    let (value, rest) = front_option(words, name)?;
-    if rest.is_empty() { Some(value) } else { None }
-}
-
-/// The value of the option of that name at the front, and the words behind it.
-pub(crate) fn front_option<'a>(words: &'a [Text], name: &str) -> Option<(&'a str, &'a [Text])>
-    ensures { MatchOption result ((value : List ℕ) (option rest : List (List ℕ)) → IsOption name.now value option → words.now ≡ option ++ rest → ⊥)
-        (λ found. (option : List (List ℕ)) × IsOption name.now found.0.now option × (words.now ≡ option ++ found.1.now)) }
-{
-    let (first, rest) = words.split_first()?;
-    if first.as_str() == name {
-        return own_word(rest);
+    match word.strip_prefix("--") {
+        Some(rest) => !rest.is_empty(),
+        None => !word.is_empty() && !word.starts_with('-'),
     }
-    let value = value_in(first.as_str(), name)?;
-    Some((value, rest))
-}
-
-// The value that stands in one word with the option's name, behind `=`.
-fn value_in<'a>(word: &'a str, name: &str) -> Option<&'a str>
-    ensures { MatchOption result ((value : List ℕ) → word.now ≡ name.now ++ 61 ∷ value → ⊥) (λ value. word.now ≡ name.now ++ 61 ∷ value.now) }
-{
-    word.strip_prefix(name)?.strip_prefix('=')
-}
-
-// The value at the front, in a word of its own, and the words behind it.
-fn own_word(words: &[Text]) -> Option<(&str, &[Text])>
-    ensures { MatchOption result ((value : List ℕ) (rest : List (List ℕ)) → IsOwnWord value → words.now ≡ value ∷ rest → ⊥)
-        (λ found. IsOwnWord found.0.now × (words.now ≡ found.0.now ∷ found.1.now)) }
-{
-    match words {
-        [value, rest @ ..] if is_own_word(value.as_str()) => Some((value.as_str(), rest)),
-        _ => None,
-    }
-}
-
-fn is_own_word(text: &str) -> bool
-    ensures { IsTrue result ↔ IsOwnWord text.now }
-{
-    !text.is_empty() && !text.starts_with('-')
 }

@@ -17,18 +17,20 @@ use std::alloc::Global;
 pub fn command_of(alloc: Global, words: &[Text]) -> Result<Option<Command>, Memory>
     ensures { IfOk result (λ found. MatchOption found ((command : AnyCommand) → IsCommand words.now command → ⊥) (λ command. IsCommand words.now command)) }
 {
-    if let [word] = words {
-        return Ok(plain_command(word.as_str()));
-    }
-    if let Some((seed, rows)) = sample_of(words) {
-        return Ok(Some(Command::Sample { seed, rows }));
-    }
-    match init_of(words) {
-        Some((password, limit)) => {
-            let password = Text::from_str(alloc, password)?;
-            Ok(Some(Command::Init { password, limit }))
+    let Some((word, options)) = words.split_first() else {
+        return Ok(None);
+    };
+    match word.as_str() {
+        "init" => {
+            let init = init_of(alloc, options)?;
+            Ok(init.map(|(password, limit)| Command::Init { password, limit }))
         }
-        None => Ok(None),
+        "sample" => {
+            let sample = sample_of(alloc, options)?;
+            Ok(sample.map(|(seed, rows)| Command::Sample { seed, rows }))
+        }
+        word if options.is_empty() => Ok(plain_command(word)),
+        _ => Ok(None),
     }
 }
 

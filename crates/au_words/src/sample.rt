@@ -1,22 +1,52 @@
-//! The words of `sample`.
-ghost use Rattle.std.specs.Prelude.{ℕ, List, MatchOption};
+//! The options of `sample`.
+ghost use Rattle.std.specs.Prelude.{◌≡◌, ◌∷◌, ℕ, List, IfOk, MatchOption, codes, true};
+ghost use Rattle.clap.specs.Words.{app_of};
+ghost use Rattle.au_words.specs.Options.{FindsSample, two_options};
 ghost use Rattle.au_words.specs.Words.{IsNumber, IsRowsText, IsSample};
 
-use crate::options::both_of;
-use au_base::Text;
+use crate::options::{matches_of, str_words};
 use au_base::limits::SAMPLE_ROWS;
+use au_base::{Memory, Text};
+use clap::{Arg, ArgMatches, Command};
+use std::alloc::Global;
 
-/// The seed and the rows that the words name, where they are the word `sample` and its options.
-pub(crate) fn sample_of(words: &[Text]) -> Option<(u32, u32)>
-    ensures { MatchOption result ((seed rows : ℕ) → IsSample words.now seed rows → ⊥) (λ sample. IsSample words.now sample.0 sample.1) }
+/// The seed and the rows that the options of `sample` name.
+pub(crate) fn sample_of(alloc: Global, options: &[Text]) -> Result<Option<(u32, u32)>, Memory>
+    ensures { IfOk result (λ found. MatchOption found
+        ((seed rows : ℕ) → IsSample (codes "sample" ∷ options.now) seed rows → ⊥)
+        (λ sample. IsSample (codes "sample" ∷ options.now) sample.0 sample.1)) }
 {
-    let (first, options) = words.split_first()?;
-    if first.as_str() != "sample" {
-        return None;
+    let words = str_words(alloc, options)?;
+    let command = sample_command(alloc)?;
+    match matches_of(command, words.as_slice())? {
+        Some(found) => Ok(seed_and_rows(&found)),
+        None => Ok(None),
     }
-    let (seed, rows) = both_of(options, "--seed", "--rows")?;
-    let seed = number_of(seed)?;
-    let rows = rows_of(rows)?;
+}
+
+// The command `sample`, as `clap` reads what comes behind its name.
+fn sample_command<'a>(alloc: Global) -> Result<Command<'a>, Memory>
+    ensures { IfOk result (λ command. app_of command
+        ≡ two_options (codes "sample") (codes "seed") (codes "rows") true) }
+{
+    let seed = Arg::new(alloc, "seed").long("seed").required(true);
+    let rows = Arg::new(alloc, "rows").long("rows").required(true);
+    let command = Command::new(alloc, "sample")
+        .no_binary_name(true)
+        .disable_help_flag(true)
+        .arg(seed)?
+        .arg(rows)?;
+    Ok(command)
+}
+
+// The seed and the rows that the texts of the options are.
+fn seed_and_rows(found: &ArgMatches<'_>) -> Option<(u32, u32)>
+    ensures { MatchOption result
+        ((seed rows : ℕ) → FindsSample found.now seed rows → ⊥)
+        (λ sample. FindsSample found.now sample.0 sample.1) }
+{
+    let seed = number_of(found.get_str("seed")?)?;
+    let rows = rows_of(found.get_str("rows")?)?;
     Some((seed, rows))
 }
 

@@ -1,7 +1,21 @@
-use Rattle.au_words.proofs.OptionLaws.{no_options}
+use Rattle.std.proofs.Common.{◌≡◌, ◌∙◌, ap}
+use Rattle.clap.specs.Walk.{texts}
+use Rattle.clap.specs.Words.{app_of}
+use Rattle.au_words.proofs.InitLaws.{app, init_read, no_init}
+use Rattle.au_words.proofs.TwoLaws.{none_found, some_found}
 use Rattle.au_words.proofs.init.init_of.Goals as goal
 
-pub returns-in_err-password : goal.returns-in_err-password
-returns-in_err-password c =
-    rw c.from_residual-in_err-password.ensures
-    (no_options c.args.words.now c.in_ok-first.options.now c.in_ok-first.first.now c.in_ok-first.ensures.cases.0 c.in_err-password.ensures)
+pub returns-in-Some : goal.returns-in-Some
+returns-in-Some c =
+    let words_are : texts c.as_slice.result.now ≡ c.args.options.now = ap texts c.as_slice.ensures.value ∙ c.in_ok-words.ensures in
+    init_read c.args.options.now c.in-Some.found
+    (some_found (app_of c.in_ok-command.command) app (texts c.as_slice.result.now) c.args.options.now c.in_ok-found.field-0 c.in-Some.found c.in_ok-command.ensures words_are
+    c.in_ok-found.ensures c.in-Some.is)
+    c.password_and_limit.result c.password_and_limit.ensures
+
+pub returns : goal.returns
+returns c =
+    let words_are : texts c.as_slice.result.now ≡ c.args.options.now = ap texts c.as_slice.ensures.value ∙ c.in_ok-words.ensures in
+    no_init c.args.options.now
+    (none_found (app_of c.in_ok-command.command) app (texts c.as_slice.result.now) c.args.options.now c.in_ok-found.field-0 c.in_ok-command.ensures words_are
+    c.in_ok-found.ensures c.in-None.is)

@@ -1,19 +1,21 @@
-use Rattle.au_words.proofs.SampleLaws.{no_both, no_rows, no_seed}
+use Rattle.std.proofs.Common.{◌≡◌, ◌∙◌, ap}
+use Rattle.clap.specs.Walk.{texts}
+use Rattle.clap.specs.Words.{app_of}
+use Rattle.au_words.proofs.SampleLaws.{app, sample_read, no_sample}
+use Rattle.au_words.proofs.TwoLaws.{none_found, some_found}
 use Rattle.au_words.proofs.sample.sample_of.Goals as goal
 
-pub returns-in_err-seed : goal.returns-in_err-seed
-returns-in_err-seed c =
-    rw c.from_residual-in_err-seed.ensures
-    (no_both c.args.words.now c.in_ok-first.options.now c.in_ok-first.first.now c.in_ok-first.ensures.cases.0 c.in_err-seed.ensures)
+pub returns-in-Some : goal.returns-in-Some
+returns-in-Some c =
+    let words_are : texts c.as_slice.result.now ≡ c.args.options.now = ap texts c.as_slice.ensures.value ∙ c.in_ok-words.ensures in
+    sample_read c.args.options.now c.in-Some.found
+    (some_found (app_of c.in_ok-command.command) app (texts c.as_slice.result.now) c.args.options.now c.in_ok-found.field-0 c.in-Some.found c.in_ok-command.ensures words_are
+    c.in_ok-found.ensures c.in-Some.is)
+    c.seed_and_rows.result c.seed_and_rows.ensures
 
-pub returns-in_err-seed-2 : goal.returns-in_err-seed-2
-returns-in_err-seed-2 c =
-    rw c.from_residual-in_err-seed-2.ensures
-    (no_seed c.args.words.now c.in_ok-first.options.now c.in_ok-first.first.now c.in_ok-first.ensures.cases.0
-    c.in_ok-seed.seed.now c.in_ok-seed.rows.now c.in_ok-seed.ensures c.in_err-seed-2.ensures)
-
-pub returns-in_err-rows : goal.returns-in_err-rows
-returns-in_err-rows c =
-    rw c.from_residual-in_err-rows.ensures
-    (no_rows c.args.words.now c.in_ok-first.options.now c.in_ok-first.first.now c.in_ok-first.ensures.cases.0
-    c.in_ok-seed.seed.now c.in_ok-seed.rows.now c.in_ok-seed.ensures c.in_err-rows.ensures)
+pub returns : goal.returns
+returns c =
+    let words_are : texts c.as_slice.result.now ≡ c.args.options.now = ap texts c.as_slice.ensures.value ∙ c.in_ok-words.ensures in
+    no_sample c.args.options.now
+    (none_found (app_of c.in_ok-command.command) app (texts c.as_slice.result.now) c.args.options.now c.in_ok-found.field-0 c.in_ok-command.ensures words_are
+    c.in_ok-found.ensures c.in-None.is)
