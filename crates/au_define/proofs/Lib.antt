@@ -6,6 +6,7 @@ pub mod Granted
 pub mod GrantsGo
 pub mod Halving
 pub mod Members
+pub mod Named
 pub mod NewTable
 pub mod Places
 pub mod ReadTables
