@@ -5,6 +5,7 @@ pub mod BusyTables
 pub mod Changing
 pub mod Concluded
 pub mod Counting
+pub mod Counts
 pub mod Events
 pub mod Left
 pub mod Mapped

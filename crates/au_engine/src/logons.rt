@@ -1,5 +1,5 @@
 //! Steps of logons and logoffs.
-ghost use Rattle.std.specs.Prelude.{◌≡◌, ◌≤◌, ◌<◌, ◌==◌, ◌∷◌, ◌++◌, [], IfOk, MatchOption, ⊥, length, false, if◌then◌else◌};
+ghost use Rattle.std.specs.Prelude.{◌≡◌, ◌≤◌, ◌<◌, ◌==◌, ◌∷◌, ◌++◌, [], IfOk, MatchOption, length, false, if◌then◌else◌};
 ghost use Rattle.au_base.specs.Codes.{DONE};
 ghost use Rattle.au_base.specs.Limits.{INSTANCE_SESSIONS};
 ghost use Rattle.au_logon.specs.Admitting.{Admits, IsLocal};

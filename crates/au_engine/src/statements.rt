@@ -1,5 +1,5 @@
 //! Steps of statements.
-ghost use Rattle.std.specs.Prelude.{◌≡◌, Ok, IfOk, MatchOption, ⊥, false};
+ghost use Rattle.std.specs.Prelude.{◌≡◌, Ok, IfOk, MatchOption, false};
 ghost use Rattle.au_audit.specs.Statements.{IsPlaced, statement_facts};
 ghost use Rattle.au_engine.specs.Counting.{AreStatementFacts, AreTextFacts, CountsUp};
 ghost use Rattle.au_ruling.specs.Kinds.{is_on_rows};

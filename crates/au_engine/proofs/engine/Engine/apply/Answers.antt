@@ -70,11 +70,11 @@ kept_now : (p : Prepared) (m : State) (records : List Record) (new : Kept) → n
 kept_now p m records new is same leaves = is ∙ (ap (λ (rs : List Record). after_parts conditions.tree p.last p.purge p.changes rs m.kept) same ∙ sym leaves)
 
 -- the index then, where there is one
-index_after : (gone : Bool) (old new : Option Index) (kept : Kept) → new ≡ (if gone then None else old) → {before : Kept} → ((index : Index) → gone ≡ false → IsIndexOf (catalog_of before) index → IsIndexOf (catalog_of kept) index)
+index_after : (gone : Bool) (old new : Option Index) (kept before : Kept) → new ≡ (if gone then None else old) → ((index : Index) → gone ≡ false → IsIndexOf (catalog_of before) index → IsIndexOf (catalog_of kept) index)
     → IfSome old (IsIndexOf (catalog_of before)) → IfSome new (IsIndexOf (catalog_of kept))
-index_after true old new kept is stays was = subst (λ (o : Option Index). IfSome o (IsIndexOf (catalog_of kept))) (sym is) tt
-index_after false None new kept is stays was = subst (λ (o : Option Index). IfSome o (IsIndexOf (catalog_of kept))) (sym is) tt
-index_after false (Some index) new kept is stays was = subst (λ (o : Option Index). IfSome o (IsIndexOf (catalog_of kept))) (sym is) (stays index refl was)
+index_after true old new kept before is stays was = subst (λ (o : Option Index). IfSome o (IsIndexOf (catalog_of kept))) (sym is) tt
+index_after false None new kept before is stays was = subst (λ (o : Option Index). IfSome o (IsIndexOf (catalog_of kept))) (sym is) tt
+index_after false (Some index) new kept before is stays was = subst (λ (o : Option Index). IfSome o (IsIndexOf (catalog_of kept))) (sym is) (stays index refl was)
 
 pub invariant_of-self : goal.invariant_of-self
 invariant_of-self c =
@@ -94,9 +94,9 @@ invariant_of-self c =
       subst IsLawfulState (sym is) (subst (λ (e : Reserved). IsLawfulState (after p e.state)) back c.requires.lawful),
       subst (λ (s : State). HaveOneEach s.sessions) (sym is) apart,
       (λ q none. quiet_after p.sessions e.keeping.logs c.settle.new.keeping.logs m.sessions c.settle.ensures.lists was.3 stands q (subst (λ (s : State). session_of s.sessions q ≡ None) is none)),
-      index_after (list_any changes_policies p.changes) e.index c.drop_index.new.index _ (subst (λ (changes : List Change). c.drop_index.new.index ≡ (if list_any changes_policies changes then None else e.index)) c.as_slice.ensures c.drop_index.ensures)
+      index_after (list_any changes_policies p.changes) e.index c.drop_index.new.index c.settle.new.keeping.kept e.keeping.kept (subst (λ (changes : List Change). c.drop_index.new.index ≡ (if list_any changes_policies changes then None else e.index)) c.as_slice.ensures c.drop_index.ensures)
           (λ index none is. subst (λ (k : Kept). IsIndexOf (catalog_of k) index) (sym (c.settle.ensures.kept (logged_of p).changes p.changes c.requires.staged logged))
-          (c.indexes_stay.ensures.same (changed_all conditions.tree p.changes e.keeping.kept) _ index refl refl (c.indexes_stay.ensures.changed conditions.tree p.changes e.keeping.kept index none is)))
+          (c.indexes_stay.ensures.same (changed_all conditions.tree p.changes e.keeping.kept) (after_parts conditions.tree p.last p.purge p.changes c.into_vec.result.items e.keeping.kept) index refl refl (c.indexes_stay.ensures.changed conditions.tree p.changes e.keeping.kept index none is)))
           was.4,
     )
 

@@ -6,7 +6,7 @@ use Rattle.au_engine.proofs.Left.{event_made}
 use Rattle.au_engine.proofs.engine.Engine.left_with.Goals as goal
 
 pub returns-clause-left : goal.returns-clause-left
-returns-clause-left c =
+returns-clause-left g c =
     let a = c.args in
     event_made a.self.now.state a.event.results.now a.event.facts.now a.event.at.now a.event.fired.now a.event.forgets.now _ _ _ _ _
     (c.catalog.ensures ∙ ap (λ (e : Reserved). catalog_of e.state.kept) c.self.view_is)

@@ -8,14 +8,14 @@ use Rattle.au_engine.proofs.Matched.{none_given, seat_given}
 use Rattle.au_engine.proofs.engine.Engine.logoff.Goals as goal
 
 pub ended-requires : goal.ended-requires
-ended-requires c = record { own = (c.own_session.ensures.own c.in-Some.session.now (ap option_copied c.in-Some.is)).lawful }
+ended-requires g c = record { own = (c.own_session.ensures.own c.in-Some.session.now (ap option_copied c.in-Some.is)).lawful }
 
 pub returns-in-None-clause-step : goal.returns-in-None-clause-step
-returns-in-None-clause-step c =
+returns-in-None-clause-step g c =
     none_given (session_of c.args.self.now.state.sessions c.args.client) _ _ _ c.own_session.ensures.found (ap option_copied c.in-None.is) c.unchanged.ensures.step
 
 pub returns-in_ok-outcome-in-Some-clause-step : goal.returns-in_ok-outcome-in-Some-clause-step
-returns-in_ok-outcome-in-Some-clause-step c =
+returns-in_ok-outcome-in-Some-clause-step g c =
     let a = c.args in
     let m = a.self.now.state in
     let o = c.in_ok-outcome-in-Some.outcome in

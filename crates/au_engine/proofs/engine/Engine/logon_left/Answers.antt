@@ -5,7 +5,7 @@ use Rattle.au_engine.proofs.Left.{left_at}
 use Rattle.au_engine.proofs.engine.Engine.logon_left.Goals as goal
 
 pub returns-clause-left : goal.returns-clause-left
-returns-clause-left c =
+returns-clause-left g c =
     let m = c.args.self.now.state in
     let facts = c.in_ok-facts.facts in
     let place = c.logon_place-place.result in

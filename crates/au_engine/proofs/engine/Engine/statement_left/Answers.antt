@@ -6,7 +6,7 @@ use Rattle.au_engine.proofs.Rulings.{left_decided}
 use Rattle.au_engine.proofs.engine.Engine.statement_left.Goals as goal
 
 pub returns-clause-left : goal.returns-clause-left
-returns-clause-left c =
+returns-clause-left g c =
     left_at c.args.self.now.state c.args.session.now.results c.in_ok-facts.facts _ c.in_ok-place.place _ c.as_slice.result.now _ c.as_slice-2.result.now _ c.in_ok-left.left
     c.in_ok-facts.ensures c.in_ok-place.ensures c.as_slice.ensures c.as_slice-2.ensures c.in_ok-left.ensures.left
     ∙ left_decided c.args.self.now.state c.args.session.now.client c.args.statement.now c.args.session.now.results
