@@ -38,7 +38,7 @@ marked_all f g [] (suc n) end = refl
 marked_all f g (x ∷ xs) zero end = absurd (omega arith)
 marked_all f g (x ∷ xs) (suc n) end = ap (λ (rest : List Bool). g x ∷ rest) (marked_all f g xs n (omega arith))
 
-pub none_marked : {X : Type 0} (xs : List X) (n : ℕ) → n ≡ length xs → replicate n false ≡ map (λ (x : X). false) xs
+none_marked : {X : Type 0} (xs : List X) (n : ℕ) → n ≡ length xs → replicate n false ≡ map (λ (x : X). false) xs
 none_marked [] zero is = refl
 none_marked [] (suc n) is = absurd (omega arith)
 none_marked (x ∷ xs) zero is = absurd (omega arith)
