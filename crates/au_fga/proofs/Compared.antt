@@ -67,7 +67,7 @@ number_given table n session cells =
     ap (value_at (cells ∷ []) session) (placed_form (range_of table ∷ []) (part.Number n) (expr.Number n) (expr.rolls-Number n))
     ∙ value_form (cells ∷ []) session (placed_part.Number n) (tree.Number n) (tree.rolls-Number n)
 
-pub text_given : (table : Table) (byte : ℕ) (bytes : List ℕ) (session : Session) (cells : List Cell)
+text_given : (table : Table) (byte : ℕ) (bytes : List ℕ) (session : Session) (cells : List Cell)
     → value_at (cells ∷ []) session (placed (range_of table ∷ []) (expr.Literal (byte ∷ bytes))) ≡ Is (cell.Text (byte ∷ bytes))
 text_given table byte bytes session cells =
     ap (value_at (cells ∷ []) session) (placed_form (range_of table ∷ []) (part.Literal (byte ∷ bytes)) (expr.Literal (byte ∷ bytes)) (expr.rolls-Literal (byte ∷ bytes)))
@@ -93,7 +93,7 @@ module _ (name : List ℕ) (rows : List (List Cell)) (session : Session) where
   abbrev later_on : ℕ → List Column → List (ℕ × Column)
   later_on from columns = filter (λ (p : ℕ × Column). bytes_eq p.1.name name) (enumerate_from (from + 1) columns)
 
-  pub first_gives : (from place : ℕ) (columns : List Column) → code_of (from_on from columns) ≡ None → position_from has_name from columns ≡ Some place → gives (from_on from columns) place
+  first_gives : (from place : ℕ) (columns : List Column) → code_of (from_on from columns) ≡ None → position_from has_name from columns ≡ Some place → gives (from_on from columns) place
   first_gives from place [] one at = absurd (cc)
   first_gives from place (column ∷ columns) one at = by_case (first_gives (from + 1) place columns) (has_name column) one at
     where
@@ -107,7 +107,7 @@ module _ (name : List ℕ) (rows : List (List Cell)) (session : Session) where
 one_range : (written : Option (List ℕ)) (name : List ℕ) (range : Range) → places (range ∷ []) written name ≡ places_of written name (0, range)
 one_range written name range = flat_map-cons (places_of written name) (0, range) [] ∙ append-nil (places_of written name (0, range))
 
-pub column_given : (table : Table) (written : Option (List ℕ)) (name : List ℕ) (place : ℕ) → position (λ (column : Column). bytes_eq column.name name) table.columns ≡ Some place
+column_given : (table : Table) (written : Option (List ℕ)) (name : List ℕ) (place : ℕ) → position (λ (column : Column). bytes_eq column.name name) table.columns ≡ Some place
     → IsColumnAt table (expr.Column written name) place
 column_given table written name place at named session cells =
     ap (value_at (cells ∷ []) session) (placed_form (range_of table ∷ []) (part.Column written name) (expr.Column written name) (expr.rolls-Column written name))

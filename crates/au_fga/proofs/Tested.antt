@@ -72,9 +72,3 @@ where_meant true true true d is = refl
 where_meant true true false d is = absurd (let e : false ≡ true = is in cc)
 where_meant true false c d is = absurd (let e : false ≡ true = is in cc)
 where_meant false b c d is = absurd (let e : false ≡ true = is in cc)
-
-pub unless_meant : (a b c d : Bool) → (a && (b && c)) ≡ false → (a && (b && (c && d))) ≡ false
-unless_meant true true true d is = absurd (let e : true ≡ false = is in cc)
-unless_meant true true false d is = refl
-unless_meant true false c d is = refl
-unless_meant false b c d is = refl

@@ -1,10 +1,12 @@
 //! Fine-grained auditing: which policies demand a record of what a statement did to rows.
 #![tactic(auto)]
 
+mod candidates;
 mod comparing;
 mod facts;
 mod finding;
 mod laws;
+mod marking;
 mod naming;
 mod ordering;
 mod policies;

@@ -7,6 +7,7 @@ ghost use Rattle.au_fga.specs.descent.Comparing.{Decides, passes};
 ghost use Rattle.au_fga.specs.descent.Rows.{is_met_at, some_lent};
 
 use crate::comparing::{Comparison, comparison_of, one_compares};
+use crate::touching::is_some_row;
 use au_base::{Cell, Memory, Truth};
 use au_entries::Table;
 use au_expr::{Resolved, Row, SessionFacts, names_or_places, resolve_condition, truth};
@@ -16,6 +17,8 @@ use std::alloc::Global;
 /// How the rows of a table are tested.
 #[derive(Drop)]
 pub enum Test<'a> {
+    /// Each passes.
+    Every,
     /// By one comparison, in a loop that calls nothing.
     Compared(Comparison<'a>),
     /// By any other condition.
@@ -53,6 +56,7 @@ pub fn one_passes(test: &Test<'_>, rows: &[&[Cell]], session: &SessionFacts) -> 
     ensures { result ≡ some_lent (passes session.now test.now) rows.now }
 {
     match test {
+        Test::Every => is_some_row(rows),
         Test::Compared(comparison) => one_compares(*comparison, rows),
         Test::Resolved(resolved) => one_meets(resolved, rows, session),
     }

@@ -1,5 +1,5 @@
 -- Comparisons of a column with a number or a text, and other tests of a row.
-use Rattle.std.specs.Prelude.{◌≡◌, ℕ, Bool, List, [], ◌∷◌, Some, None}
+use Rattle.std.specs.Prelude.{◌≡◌, ℕ, Bool, true, List, [], ◌∷◌, Some, None}
 use Rattle.std.specs.List.{slice_get}
 use Rattle.au_base.specs.declared.cell.Cell.{Cell}
 use Rattle.au_base.specs.declared.cell.Cell.TheVariants as cell
@@ -62,6 +62,7 @@ pub record Compares (table : Table) (asked : Relation) (side other : Expr) (comp
 
 -- a row passes the test
 abbrev pub passes : Session → Test → List Cell → Bool
+passes session test.Every cells = true
 passes session (test.Compared comparison) cells = compares comparison cells
 passes session (test.Resolved tree) cells = is_met_at session tree cells
 
