@@ -4,7 +4,7 @@ ghost use Rattle.au_define.specs.Deciding.{Decides, is_definition};
 ghost use Rattle.au_define.specs.Settings.{IsSorted, lent};
 
 use crate::case::Case;
-use crate::granting::grant_in_order;
+use crate::granting::grant;
 use crate::roles::{create_role, drop_role};
 use crate::tables::{create_table, drop_table};
 use crate::users::{alter_user, create_user, drop_user};
@@ -35,7 +35,7 @@ pub fn decide(
         Statement::DropUser { user } => Ok(Some(drop_user(alloc, case, user)?)),
         Statement::CreateRole { role } => Ok(Some(create_role(alloc, case, role)?)),
         Statement::DropRole { role } => Ok(Some(drop_role(alloc, case, role)?)),
-        Statement::Grant(statement) => Ok(Some(grant_in_order(alloc, case, statement)?)),
+        Statement::Grant(statement) => Ok(Some(grant(alloc, case, statement)?)),
         _ => Ok(None),
     }
 }

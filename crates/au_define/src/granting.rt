@@ -2,7 +2,7 @@
 ghost use Rattle.std.specs.Prelude.{◌≡◌, ◌∷◌, ◌++◌, [], IfOk, map};
 ghost use Rattle.std.specs.List.{filter, flat_map};
 ghost use Rattle.au_base.specs.BuiltIn.{resolved_table};
-ghost use Rattle.au_define.specs.Granting.{DecidesGrant, change_of, known_of, of_decided};
+ghost use Rattle.au_define.specs.Granting.{DecidesGrant, change_of, of_decided};
 ghost use Rattle.au_define.specs.Settings.{IsSorted, has_role, has_table, has_user, lent};
 ghost use Rattle.au_define.specs.descent.Named.{known_named, known_of_rights, known_on_table, roles_in};
 
@@ -11,27 +11,14 @@ use crate::looking::{has_role, has_table, has_user};
 use au_base::{
     GrantStatement, List, Memory, Name, Right, TableName, TableReference, same_is_equal,
 };
-use au_entries::{Change, Decision, Table};
+use au_entries::{Change, Decision};
 use au_grants::GrantChange;
 use au_priv::{Decided, Known, decide};
 use std::alloc::Global;
 
-/// What is decided of GRANT or REVOKE.
+/// What is decided of GRANT or REVOKE. The lists of what is there stand in order: the names that the
+/// statement names are looked up, and no other is copied.
 pub fn grant(alloc: Global, case: &Case<'_>, statement: &GrantStatement) -> Result<Decision, Memory>
-    ensures { IfOk result (DecidesGrant (lent case.now) statement.now) }
-{
-    let known = known_of(alloc, case)?;
-    let decided = decide(alloc, case.grants, case.user, statement, &known)?;
-    of_decided(alloc, decided)
-}
-
-/// The same, where each list of what is there stands in order: the names that the statement names
-/// are looked up, and no other is copied.
-pub fn grant_in_order(
-    alloc: Global,
-    case: &Case<'_>,
-    statement: &GrantStatement,
-) -> Result<Decision, Memory>
     requires order { IsSorted case.now }
     ensures { IfOk result (DecidesGrant (lent case.now) statement.now) }
 {
@@ -93,43 +80,12 @@ fn change_of(grant: &GrantChange) -> Result<Change, Memory>
     }
 }
 
-// The users, roles and tables that are there.
-fn known_of(alloc: Global, case: &Case<'_>) -> Result<Known, Memory>
-    ensures { IfOk result (λ known. known ≡ known_of (lent case.now)) }
-{
-    Ok(Known {
-        users: user_names(alloc, case.users)?,
-        roles: names(alloc, case.roles)?,
-        tables: table_names(alloc, case.tables)?,
-    })
-}
-
-fn user_names(alloc: Global, users: &[(Name, [u8; 32])]) -> Result<List<Name>, Memory>
-    ensures { IfOk result (λ names. names ≡ map (λ user. user.0) users.now) }
-{
-    let mut names = List::new(alloc);
-    for user in users {
-        names.push(user.0.clone()?)?;
-    }
-    Ok(names)
-}
-
 fn names(alloc: Global, roles: &[Name]) -> Result<List<Name>, Memory>
     ensures { IfOk result (λ names. names ≡ roles.now) }
 {
     let mut names = List::new(alloc);
     for role in roles {
         names.push(role.clone()?)?;
-    }
-    Ok(names)
-}
-
-fn table_names(alloc: Global, tables: &[Table]) -> Result<List<TableName>, Memory>
-    ensures { IfOk result (λ names. names ≡ map (λ table. table.name) tables.now) }
-{
-    let mut names = List::new(alloc);
-    for table in tables {
-        names.push(table.name.clone()?)?;
     }
     Ok(names)
 }

@@ -17,7 +17,6 @@ mod users;
 
 pub use case::Case;
 pub use deciding::decide;
-pub use granting::grant;
 pub use laws::{definitions_hold, read_statements_are_well_formed};
 pub use looking::{has_role, has_table, has_user, is_full};
 pub use names::names_are_names;

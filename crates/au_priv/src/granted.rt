@@ -1,93 +1,129 @@
-//! The grants of a kind to one grantee, found by halving.
+//! The grant of a right to a grantee, found by halving.
 ghost use Rattle.std.specs.Prelude.{◌≡◌, ◌≤◌, ◌∷◌, [], IsTrue, false, length, true};
+ghost use Rattle.std.specs.Cmp.Lexicographic.{slice_cmp};
 ghost use Rattle.std.specs.List.{filter};
 ghost use Rattle.std.specs.List.Sorted.{IsPartitionPoint};
-ghost use Rattle.std.specs.Str.{bytes_eq};
+ghost use Rattle.std.specs.Ordering.{nat_cmp};
 ghost use Rattle.au_base.specs.Actions as actions;
-ghost use Rattle.au_base.specs.Order.{is_in_order, name_before};
+ghost use Rattle.au_base.specs.Order.{fields_before, is_in_order};
 ghost use Rattle.au_base.specs.Privileges as privileges;
-ghost use Rattle.au_priv.specs.descent.Granted.{granted_before, is_upto};
+ghost use Rattle.au_grants.specs.Order.{object_fields, role_fields, system_fields};
+ghost use Rattle.au_priv.specs.descent.Granted.{are_upto, same_fields};
 
 use au_base::{Action, Name, Privilege, TableName};
+use std::cmp::Ordering;
 
-/// A grant. Those of a kind stand in the byte order of their grantees, and those to one grantee in
-/// that of what is granted.
-pub trait Granted {
+/// What a grant of a kind is looked for by: its grantee, and what is granted. The grants of a kind
+/// stand in the byte order of both, so that one at most has a key.
+pub trait Key<T> {
     ghost use Rattle.std.specs.Prelude.{List as Sequence, ℕ};
 
-    ghost grantee_of: { Self → Sequence ℕ };
+    ghost fields: { T → Sequence (Sequence ℕ) };
 
-    ghost granted: { Self → Sequence (Sequence ℕ) };
+    ghost key: { Self → Sequence (Sequence ℕ) };
 
-    /// To whom it is.
-    fn grantee(&self) -> &Name
-        ensures { result.now ≡ grantee_of self.now };
+    /// How the grant stands to what is looked for.
+    fn compare(&self, grant: &T) -> Ordering
+        ensures { result ≡ slice_cmp (slice_cmp nat_cmp) (fields grant.now) (key self.now) };
 }
 
-impl Granted for (Name, Privilege, bool) {
-    ghost grantee_of = { λ grant. grant.0 };
+/// A system privilege, granted to the grantee.
+#[derive(Clone, Copy)]
+pub struct PrivilegeTo<'a> {
+    pub grantee: &'a Name,
+    pub privilege: Privilege,
+}
 
-    ghost granted = { λ grant. (privileges.code_of grant.1 ∷ []) ∷ [] };
+impl Key<(Name, Privilege, bool)> for PrivilegeTo<'_> {
+    ghost fields = { system_fields };
 
-    fn grantee(&self) -> &Name {
-        &self.0
+    ghost key = { λ sought. sought.grantee.now ∷ (privileges.code_of sought.privilege ∷ []) ∷ [] };
+
+    fn compare(&self, grant: &(Name, Privilege, bool)) -> Ordering {
+        grant
+            .0
+            .cmp(self.grantee)
+            .then(grant.1.code().cmp(&self.privilege.code()))
     }
 }
 
-impl Granted for (Name, Name, bool) {
-    ghost grantee_of = { λ grant. grant.0 };
+/// A role, granted to the grantee.
+#[derive(Clone, Copy)]
+pub struct RoleTo<'a> {
+    pub grantee: &'a Name,
+    pub role: &'a str,
+}
 
-    ghost granted = { λ grant. grant.1 ∷ [] };
+impl Key<(Name, Name, bool)> for RoleTo<'_> {
+    ghost fields = { role_fields };
 
-    fn grantee(&self) -> &Name {
-        &self.0
+    ghost key = { λ sought. sought.grantee.now ∷ sought.role.now ∷ [] };
+
+    fn compare(&self, grant: &(Name, Name, bool)) -> Ordering {
+        grant
+            .0
+            .cmp(self.grantee)
+            .then(grant.1.as_str().cmp(self.role))
     }
 }
 
-impl Granted for (Name, TableName, Action) {
-    ghost grantee_of = { λ grant. grant.0 };
+/// An object privilege, granted to the grantee.
+#[derive(Clone, Copy)]
+pub struct ObjectTo<'a> {
+    pub grantee: &'a Name,
+    pub table: &'a TableName,
+    pub action: Action,
+}
 
-    ghost granted = { λ grant. grant.1.owner ∷ grant.1.name ∷ (actions.code_of grant.2 ∷ []) ∷ [] };
+impl Key<(Name, TableName, Action)> for ObjectTo<'_> {
+    ghost fields = { object_fields };
 
-    fn grantee(&self) -> &Name {
-        &self.0
+    ghost key = { λ sought. sought.grantee.now ∷ sought.table.now.owner ∷ sought.table.now.name ∷ (actions.code_of sought.action ∷ []) ∷ [] };
+
+    fn compare(&self, grant: &(Name, TableName, Action)) -> Ordering {
+        grant
+            .0
+            .cmp(self.grantee)
+            .then(grant.1.owner.cmp(&self.table.owner))
+            .then(grant.1.name.cmp(&self.table.name))
+            .then(grant.2.code().cmp(&self.action.code()))
     }
 }
 
-/// The grants to the grantee, which stand together.
-pub fn granted_to<'a, T: Granted>(grants: &'a [T], grantee: &Name) -> &'a [T]
-    requires order { IsTrue (is_in_order (granted_before T.grantee_of T.granted) grants.now) }
-    ensures { result.now ≡ filter (λ grant. bytes_eq (T.grantee_of grant) grantee.now) grants.now }
+/// The grants with the key: one, or none.
+pub fn with_key<'a, T, K: Key<T>>(grants: &'a [T], key: &K) -> &'a [T]
+    requires order { IsTrue (is_in_order (λ a b. fields_before (K.fields a) (K.fields b)) grants.now) }
+    ensures { result.now ≡ filter (λ grant. same_fields (K.fields grant) (K.key key.now)) grants.now }
 {
-    let (start, end) = places_of(grants, grantee);
+    let (start, end) = places_of(grants, key);
     &grants[start..end]
 }
 
-// The places between which the grants to the grantee stand.
-fn places_of<T: Granted>(grants: &[T], grantee: &Name) -> (usize, usize)
-    requires order { IsTrue (is_in_order (granted_before T.grantee_of T.granted) grants.now) }
+// The places between which the grants with the key stand.
+fn places_of<T, K: Key<T>>(grants: &[T], key: &K) -> (usize, usize)
+    requires order { IsTrue (is_in_order (λ a b. fields_before (K.fields a) (K.fields b)) grants.now) }
     ensures rise { result.0 ≤ result.1 }
     ensures bound { result.1 ≤ length grants.now }
-    ensures start { IsPartitionPoint (λ grant. name_before (T.grantee_of grant) grantee.now ≡ true) (λ grant. name_before (T.grantee_of grant) grantee.now ≡ false) grants.now result.0 }
-    ensures end { IsPartitionPoint (λ grant. is_upto (T.grantee_of grant) grantee.now ≡ true) (λ grant. is_upto (T.grantee_of grant) grantee.now ≡ false) grants.now result.1 }
+    ensures start { IsPartitionPoint (λ grant. fields_before (K.fields grant) (K.key key.now) ≡ true) (λ grant. fields_before (K.fields grant) (K.key key.now) ≡ false) grants.now result.0 }
+    ensures end { IsPartitionPoint (λ grant. are_upto (K.fields grant) (K.key key.now) ≡ true) (λ grant. are_upto (K.fields grant) (K.key key.now) ≡ false) grants.now result.1 }
 {
-    (start_of(grants, grantee), end_of(grants, grantee))
+    (start_of(grants, key), end_of(grants, key))
 }
 
-// The place of the first grant that is to the grantee or to a later name.
-fn start_of<T: Granted>(grants: &[T], grantee: &Name) -> usize
-    requires order { IsTrue (is_in_order (granted_before T.grantee_of T.granted) grants.now) }
+// The place behind all grants that come before the key.
+fn start_of<T, K: Key<T>>(grants: &[T], key: &K) -> usize
+    requires order { IsTrue (is_in_order (λ a b. fields_before (K.fields a) (K.fields b)) grants.now) }
     ensures bound { result ≤ length grants.now }
-    ensures place { IsPartitionPoint (λ grant. name_before (T.grantee_of grant) grantee.now ≡ true) (λ grant. name_before (T.grantee_of grant) grantee.now ≡ false) grants.now result }
+    ensures place { IsPartitionPoint (λ grant. fields_before (K.fields grant) (K.key key.now) ≡ true) (λ grant. fields_before (K.fields grant) (K.key key.now) ≡ false) grants.now result }
 {
-    grants.partition_point(|grant| *grant.grantee() < *grantee)
+    grants.partition_point(|grant| key.compare(grant).is_lt())
 }
 
-// The place of the first grant that is to a later name.
-fn end_of<T: Granted>(grants: &[T], grantee: &Name) -> usize
-    requires order { IsTrue (is_in_order (granted_before T.grantee_of T.granted) grants.now) }
+// The place behind all grants that have the key or come before it.
+fn end_of<T, K: Key<T>>(grants: &[T], key: &K) -> usize
+    requires order { IsTrue (is_in_order (λ a b. fields_before (K.fields a) (K.fields b)) grants.now) }
     ensures bound { result ≤ length grants.now }
-    ensures place { IsPartitionPoint (λ grant. is_upto (T.grantee_of grant) grantee.now ≡ true) (λ grant. is_upto (T.grantee_of grant) grantee.now ≡ false) grants.now result }
+    ensures place { IsPartitionPoint (λ grant. are_upto (K.fields grant) (K.key key.now) ≡ true) (λ grant. are_upto (K.fields grant) (K.key key.now) ≡ false) grants.now result }
 {
-    grants.partition_point(|grant| *grant.grantee() <= *grantee)
+    grants.partition_point(|grant| key.compare(grant).is_le())
 }

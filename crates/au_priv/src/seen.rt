@@ -1,14 +1,11 @@
 //! Grants as pairs see them: those of a course, or lent ones.
-ghost use Rattle.std.specs.Prelude.{◌≡◌, ◌↔◌, ◌&&◌, ◌||◌, IfOk, IsTrue, length, not};
+ghost use Rattle.std.specs.Prelude.{◌≡◌, ◌↔◌, IfOk, IsTrue, length};
 ghost use Rattle.std.specs.List.{list_any};
-ghost use Rattle.std.specs.Str.{bytes_eq};
-ghost use Rattle.au_grants.specs.Holding.{grants_object, grants_privilege, grants_privilege_as, grants_role, grants_role_as, same_action, same_privilege, same_table};
+ghost use Rattle.au_grants.specs.Holding.{grants_object, grants_privilege, grants_privilege_as, grants_role, grants_role_as};
 ghost use Rattle.au_grants.specs.Rights.{IsHolder};
 
-use crate::granted::granted_to;
-use au_base::{
-    Action, Memory, Name, Privilege, TableName, is_same_action, is_same_privilege, is_same_table,
-};
+use crate::granted::{ObjectTo, PrivilegeTo, RoleTo, with_key};
+use au_base::{Action, Memory, Name, Privilege, TableName};
 use au_grants::{Course, Grants};
 use std::alloc::Global;
 
@@ -86,8 +83,8 @@ impl GrantsSeen for Course {
     }
 }
 
-/// Grants that are lent. No question takes memory, and each looks at the grants to one grantee
-/// alone; a circle is looked for among the roles that the granted role holds.
+/// Grants that are lent. No question takes memory: a grant is found by halving, and a circle is
+/// looked for among the roles that the granted role holds.
 #[derive(Clone, Copy)]
 pub struct Lent<'a> {
     pub grants: &'a Grants,
@@ -105,33 +102,34 @@ impl GrantsSeen for Lent<'_> {
     }
 
     fn has_privilege(&self, grantee: &Name, privilege: Privilege) -> bool {
-        granted_to(self.grants.system_grants(), grantee)
-            .iter()
-            .any(|grant| is_same_privilege(grant.1, privilege))
+        self.has_privilege_as(grantee, privilege, false)
     }
 
     fn has_privilege_as(&self, grantee: &Name, privilege: Privilege, admin: bool) -> bool {
-        granted_to(self.grants.system_grants(), grantee)
+        let key = PrivilegeTo { grantee, privilege };
+        with_key(self.grants.system_grants(), &key)
             .iter()
-            .any(|grant| is_privilege_as(grant, privilege, admin))
+            .any(|grant| grant.2 || !admin)
     }
 
     fn has_role(&self, grantee: &Name, role: &str) -> bool {
-        granted_to(self.grants.role_grants(), grantee)
-            .iter()
-            .any(|grant| grant.1.as_str() == role)
+        self.has_role_as(grantee, role, false)
     }
 
     fn has_role_as(&self, grantee: &Name, role: &str, admin: bool) -> bool {
-        granted_to(self.grants.role_grants(), grantee)
+        let key = RoleTo { grantee, role };
+        with_key(self.grants.role_grants(), &key)
             .iter()
-            .any(|grant| is_role_as(grant, role, admin))
+            .any(|grant| grant.2 || !admin)
     }
 
     fn has_object(&self, grantee: &Name, table: &TableName, action: Action) -> bool {
-        granted_to(self.grants.object_grants(), grantee)
-            .iter()
-            .any(|grant| is_object(grant, table, action))
+        let key = ObjectTo {
+            grantee,
+            table,
+            action,
+        };
+        !with_key(self.grants.object_grants(), &key).is_empty()
     }
 
     fn closes_circle(
@@ -142,22 +140,4 @@ impl GrantsSeen for Lent<'_> {
     ) -> Result<bool, Memory> {
         Ok(self.grants.closes_circle(grantee, role))
     }
-}
-
-fn is_privilege_as(grant: &(Name, Privilege, bool), privilege: Privilege, admin: bool) -> bool
-    ensures { result ≡ (same_privilege grant.now.1 privilege && (grant.now.2 || not admin)) }
-{
-    is_same_privilege(grant.1, privilege) && (grant.2 || !admin)
-}
-
-fn is_role_as(grant: &(Name, Name, bool), role: &str, admin: bool) -> bool
-    ensures { result ≡ (bytes_eq grant.now.1 role.now && (grant.now.2 || not admin)) }
-{
-    grant.1.as_str() == role && (grant.2 || !admin)
-}
-
-fn is_object(grant: &(Name, TableName, Action), table: &TableName, action: Action) -> bool
-    ensures { result ≡ (same_table grant.now.1 table.now && same_action grant.now.2 action) }
-{
-    is_same_table(&grant.1, table) && is_same_action(grant.2, action)
 }

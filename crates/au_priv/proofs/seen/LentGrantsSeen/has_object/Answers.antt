@@ -1,14 +1,13 @@
-use Rattle.std.proofs.Common.{◌∙◌, ◌&&◌, ap, rules, tests}
-use Rattle.std.specs.List.{filter, list_any}
-use Rattle.std.specs.Str.{bytes_eq}
-use Rattle.std.proofs.lemmas.Iterator.{YieldsList-from_slice}
-use Rattle.std.proofs.lemmas.Iterator.Search.{any_from_yields_List}
-use Rattle.au_grants.specs.Holding.{same_action, same_table}
+use Rattle.std.proofs.Common.{◌∙◌, ◌∷◌, [], ◌==◌, length, not, ap}
+use Rattle.std.specs.List.{filter}
+use Rattle.au_base.specs.Actions as actions
+use Rattle.au_grants.specs.Order.{object_fields}
+use Rattle.au_priv.specs.descent.Granted.{same_fields}
 use Rattle.au_priv.proofs.Together.{object_kept}
 use Rattle.au_priv.proofs.seen.LentGrantsSeen.has_object.Goals as goal
 
 pub returns : goal.returns
 returns c =
-    any_from_yields_List (λ grant. same_table grant.1 c.args.table.now && same_action grant.2 c.args.action) _ _ _ c.any.ensures.ran (YieldsList-from_slice c.granted_to.result.now cc) (λ x b q k. search (rules, tests))
-    ∙ ap (list_any (λ grant. same_table grant.1 c.args.table.now && same_action grant.2 c.args.action)) (c.granted_to.ensures ∙ ap (filter (λ grant. bytes_eq grant.0 c.args.grantee.now)) c.object_grants.ensures.value)
+    let key = c.args.grantee.now ∷ c.args.table.now.owner ∷ c.args.table.now.name ∷ (actions.code_of c.args.action ∷ []) ∷ [] in
+    ap not c.is_empty.ensures ∙ ap (λ grants. not (length grants == 0)) (c.with_key.ensures ∙ ap (filter (λ grant. same_fields (object_fields grant) key)) c.object_grants.ensures.value)
     ∙ object_kept c.args.grantee.now c.args.table.now c.args.action _

@@ -1,14 +1,6 @@
-use Rattle.std.proofs.Common.{◌∙◌, ap, rules, tests}
-use Rattle.std.specs.List.{filter, list_any}
-use Rattle.std.specs.Str.{bytes_eq}
-use Rattle.std.proofs.lemmas.Iterator.{YieldsList-from_slice}
-use Rattle.std.proofs.lemmas.Iterator.Search.{any_from_yields_List}
-use Rattle.au_grants.specs.Holding.{same_privilege}
-use Rattle.au_priv.proofs.Together.{privilege_kept}
+use Rattle.std.proofs.Common.{◌∙◌}
+use Rattle.au_priv.proofs.Together.{any_privilege}
 use Rattle.au_priv.proofs.seen.LentGrantsSeen.has_privilege.Goals as goal
 
 pub returns : goal.returns
-returns c =
-    any_from_yields_List (λ grant. same_privilege grant.1 c.args.privilege) _ _ _ c.any.ensures.ran (YieldsList-from_slice c.granted_to.result.now cc) (λ x b q k. search (rules, tests))
-    ∙ ap (list_any (λ grant. same_privilege grant.1 c.args.privilege)) (c.granted_to.ensures ∙ ap (filter (λ grant. bytes_eq grant.0 c.args.grantee.now)) c.system_grants.ensures.value)
-    ∙ privilege_kept c.args.grantee.now c.args.privilege _
+returns c = c.has_privilege_as.ensures ∙ any_privilege c.args.grantee.now c.args.privilege _

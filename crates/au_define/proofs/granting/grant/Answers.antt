@@ -11,7 +11,7 @@ use Rattle.au_entries.specs.declared.decision.Decision.{Decision}
 use Rattle.au_priv.specs.declared.decided.Decided.{Decided}
 use Rattle.au_priv.specs.declared.decided.Known.{Known}
 use Rattle.au_priv.specs.Deciding.{Decides}
-use Rattle.au_define.proofs.granting.grant_in_order.Goals as goal
+use Rattle.au_define.proofs.granting.grant.Goals as goal
 
 by_names : {E : Type 0} (table_is : (a b : TableName) → (same_table a b ≡ true) ↔ (a ≡ b)) (setting : Setting) (statement : GrantStatement) (known : Known) (decided : Decided) (result : Result Decision E)
     → known ≡ known_named setting statement → Decides setting.grants known setting.user statement decided → IfOk result (λ decision. decision ≡ of_decided decided) → IfOk result (DecidesGrant setting statement)
