@@ -1,0 +1,215 @@
+//! Catalogues of many policies.
+
+use crate::drawing::Draw;
+use au_base::{Action, Code, List, Name, Privilege, TableName, Text};
+use au_catalog::Catalog;
+use au_entries::{AuditPolicy, Condition, Enabled, Evaluate, Outcomes};
+use au_grants::{GrantChange, GrantDraft, Grants};
+use sql_parse::condition;
+use std::alloc::Global;
+use trials_lines::{Fault, name};
+
+/// The letter with the number, of five digits.
+pub fn numbered(alloc: Global, letter: &str, number: u64) -> Result<Name, Fault> {
+    let number = number.saturating_add(10_000);
+    let text = format!(in alloc; "{letter}{number}")?;
+    name(alloc, text.as_str())
+}
+
+/// A table of the user A.
+pub fn table(alloc: Global, number: u64) -> Result<TableName, Fault> {
+    Ok(TableName {
+        owner: name(alloc, "A")?,
+        name: numbered(alloc, "T", number)?,
+    })
+}
+
+/// So many policies, of which about three in four are enabled.
+pub fn drawn_catalog(alloc: Global, count: u64, draw: &mut Draw) -> Result<Catalog, Fault> {
+    let mut catalog = Catalog::new(alloc);
+    for number in 0..count {
+        let policy = drawn_policy(alloc, number, draw)?;
+        if !draw.is_one_of(4) {
+            let enabled = drawn_enablement(alloc, draw)?;
+            catalog.enabled.push((policy.name.clone()?, enabled))?;
+        }
+        catalog.policies.push(policy)?;
+    }
+    Ok(catalog)
+}
+
+/// So many policies of UPDATE, and behind them one of SELECT, all enabled for everybody.
+pub fn updates_catalog(alloc: Global, count: u64) -> Result<Catalog, Fault> {
+    let mut catalog = Catalog::new(alloc);
+    for number in 0..count {
+        add_enabled(
+            alloc,
+            &mut catalog,
+            numbered(alloc, "P", number)?,
+            Action::Update,
+        )?;
+    }
+    add_enabled(alloc, &mut catalog, name(alloc, "Q")?, Action::Select)?;
+    Ok(catalog)
+}
+
+fn add_enabled(
+    alloc: Global,
+    catalog: &mut Catalog,
+    policy: Name,
+    action: Action,
+) -> Result<(), Fault> {
+    let everybody = Enabled::Except(
+        List::new(alloc),
+        Outcomes {
+            success: true,
+            failure: true,
+        },
+    );
+    catalog.enabled.push((policy.clone()?, everybody))?;
+    let mut actions = List::new(alloc);
+    actions.push((action, None))?;
+    catalog.policies.push(AuditPolicy {
+        name: policy,
+        privileges: List::new(alloc),
+        actions,
+        roles: List::new(alloc),
+        when: None,
+    })?;
+    Ok(())
+}
+
+fn drawn_policy(alloc: Global, number: u64, draw: &mut Draw) -> Result<AuditPolicy, Fault> {
+    Ok(AuditPolicy {
+        name: numbered(alloc, "P", number)?,
+        privileges: drawn_privileges(alloc, draw)?,
+        actions: drawn_actions(alloc, draw)?,
+        roles: drawn_roles(alloc, draw)?,
+        when: drawn_condition(alloc, draw)?,
+    })
+}
+
+fn drawn_privileges(alloc: Global, draw: &mut Draw) -> Result<List<Privilege>, Fault> {
+    let mut listed = List::new(alloc);
+    for privilege in &Privilege::EACH {
+        if draw.is_one_of(40) {
+            listed.push(*privilege)?;
+        }
+    }
+    Ok(listed)
+}
+
+fn drawn_actions(
+    alloc: Global,
+    draw: &mut Draw,
+) -> Result<List<(Action, Option<TableName>)>, Fault> {
+    let mut listed = List::new(alloc);
+    for _part in 0..draw.below(3) {
+        let action = drawn_action(draw);
+        let on = if draw.is_one_of(4) {
+            None
+        } else {
+            Some(table(alloc, draw.below(200))?)
+        };
+        listed.push((action, on))?;
+    }
+    Ok(listed)
+}
+
+/// An action, ALL among them.
+pub fn drawn_action(draw: &mut Draw) -> Action {
+    Action::from_code(draw.below(23) as u8).unwrap_or(Action::All)
+}
+
+fn drawn_roles(alloc: Global, draw: &mut Draw) -> Result<List<Name>, Fault> {
+    let mut listed = List::new(alloc);
+    if draw.is_one_of(5) {
+        for _part in 0..draw.below(3) {
+            listed.push(numbered(alloc, "R", draw.below(100))?)?;
+        }
+    }
+    Ok(listed)
+}
+
+fn drawn_condition(alloc: Global, draw: &mut Draw) -> Result<Option<(Evaluate, Condition)>, Fault> {
+    let text = match draw.below(6) {
+        0 => "SYS_CONTEXT('USERENV', 'SESSION_USER') = 'U10001'",
+        1 => "SYS_CONTEXT('USERENV', 'SESSION_USER') LIKE 'U1000_'",
+        2 => "NULL = NULL OR 999999999999999999 + 1 > 0",
+        _ => return Ok(None),
+    };
+    let evaluate = match draw.below(3) {
+        0 => Evaluate::Statement,
+        1 => Evaluate::Session,
+        _ => Evaluate::Instance,
+    };
+    match condition(alloc, text.as_bytes())? {
+        Some(tree) => Ok(Some((
+            evaluate,
+            Condition {
+                text: Text::from_str(alloc, text)?,
+                tree,
+            },
+        ))),
+        None => Err(Fault::NoCase),
+    }
+}
+
+fn drawn_outcomes(draw: &mut Draw) -> Outcomes {
+    Outcomes {
+        success: !draw.is_one_of(3),
+        failure: !draw.is_one_of(3),
+    }
+}
+
+fn drawn_enablement(alloc: Global, draw: &mut Draw) -> Result<Enabled, Fault> {
+    if draw.is_one_of(2) {
+        let mut users = List::new(alloc);
+        for _user in 0..draw.below(4) {
+            users.push((drawn_user(alloc, draw)?, drawn_outcomes(draw)))?;
+        }
+        return Ok(Enabled::By(users));
+    }
+    let mut others = List::new(alloc);
+    for _user in 0..draw.below(3) {
+        others.push(drawn_user(alloc, draw)?)?;
+    }
+    Ok(Enabled::Except(others, drawn_outcomes(draw)))
+}
+
+/// One of twenty users.
+pub fn drawn_user(alloc: Global, draw: &mut Draw) -> Result<Name, Fault> {
+    numbered(alloc, "U", draw.below(20))
+}
+
+/// A code: that of a statement that was done, of some refusals, or of those that leave no record.
+pub fn drawn_code(draw: &mut Draw) -> Code {
+    match draw.below(20) {
+        0 => Code::SESSION_PRESENT,
+        1 => Code::NOT_LOGGED_ON,
+        2 | 3 | 4 | 5 => Code(942),
+        _ => Code(0),
+    }
+}
+
+/// Grants of one privilege to each role.
+pub fn drawn_grants(alloc: Global, draw: &mut Draw) -> Result<Grants, Fault> {
+    let mut changes = List::new(alloc);
+    for number in 0..100 {
+        if let Some(privilege) = drawn_privilege(draw) {
+            let role = numbered(alloc, "R", number)?;
+            changes.push(GrantChange::SystemGrant(role, privilege, false))?;
+        }
+    }
+    granted(alloc, changes.as_slice())
+}
+
+/// A system privilege; none at times.
+pub fn drawn_privilege(draw: &mut Draw) -> Option<Privilege> {
+    Privilege::from_code(draw.below(18) as u8)
+}
+
+fn granted(alloc: Global, changes: &[GrantChange]) -> Result<Grants, Fault> {
+    let draft = GrantDraft::of(Grants::new(alloc)).after(changes)?;
+    draft.finish().map_err(|_| Fault::NoCase)
+}
