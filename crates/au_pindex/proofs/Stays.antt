@@ -20,17 +20,17 @@ stays_with kept other index policies enabled is = record {
   conditions = is.conditions ∙ ap (map condition_of) policies;
 }
 
-policies_stay : (tree : List ℕ → Expr) (one : Change) (policies : List AuditPolicy) → changes_policies one ≡ false → policies_after tree one policies ≡ policies
+pub policies_stay : (tree : List ℕ → Expr) (one : Change) (policies : List AuditPolicy) → changes_policies one ≡ false → policies_after tree one policies ≡ policies
 policies_stay tree (change.Policy name privileges actions roles when) policies is = absurd (let e : true ≡ false = is in cc)
 policies_stay tree (change.PolicyGone name) policies is = absurd (let e : true ≡ false = is in cc)
 policies_stay tree _ policies is = refl
 
-enabled_stay : (one : Change) (entries : List (List ℕ × Enabled)) → changes_policies one ≡ false → enabled_after one entries ≡ entries
+pub enabled_stay : (one : Change) (entries : List (List ℕ × Enabled)) → changes_policies one ≡ false → enabled_after one entries ≡ entries
 enabled_stay (change.Enable policy enabled) entries is = absurd (let e : true ≡ false = is in cc)
 enabled_stay (change.UserGone user) entries is = absurd (let e : true ≡ false = is in cc)
 enabled_stay _ entries is = refl
 
-neither : (a b : Bool) → (a || b) ≡ false → (a ≡ false) × (b ≡ false)
+pub neither : (a b : Bool) → (a || b) ≡ false → (a ≡ false) × (b ≡ false)
 neither true b is = absurd (let e : true ≡ false = is in cc)
 neither false b is = (refl, is)
 
