@@ -18,15 +18,16 @@ use Rattle.au_entries.specs.declared.policy.Enabled.{Enabled}
 use Rattle.au_entries.specs.declared.policy.Evaluate.{Evaluate}
 use Rattle.au_entries.specs.Changing.{by_name, enabled_after, policies_after, with_tree}
 use Rattle.au_policy.specs.Asking.{CanBeAsked, IsTruthOverNone}
-use Rattle.au_pindex.specs.Anew.{HasPolicies, policies_alone}
-use Rattle.au_pindex.specs.Changing.{changes_policies}
+use Rattle.au_pindex.specs.descent.Anew.{HasPolicies, policies_alone}
+use Rattle.au_pindex.specs.descent.Changing.{changes_policies}
 use Rattle.au_pindex.specs.declared.index.Index.{Index}
 use Rattle.au_pindex.specs.declared.staged.IndexEdit.{IndexEdit}
-use Rattle.au_pindex.specs.Finding.{with_policy}
+use Rattle.au_pindex.specs.descent.Finding.{with_policy}
 use Rattle.au_pindex.specs.Indexing.{AreBucketsOf, IsIndexOf, condition_of}
-use Rattle.au_pindex.specs.Staging.{Keeps, Leads, no_edit}
+use Rattle.au_pindex.specs.descent.Edits.{Keeps, no_edit}
+use Rattle.au_pindex.specs.Staging.{Leads}
 use Rattle.au_pindex.proofs.Leading.{leads_alone}
-use Rattle.au_pindex.proofs.Stays.{enabled_stay, neither, policies_stay}
+use Rattle.au_pindex.proofs.Stays.{enabled_stay, neither, policies_stay, stays_with}
 use Rattle.sql_ast.specs.declared.expression.Expr.{Expr}
 
 abbrev Entries : Type 0
@@ -107,10 +108,7 @@ can_be_asked one other has can = record {
 }
 
 pub index_of_same : (one other : Catalog) (index : Index) → HasPolicies one other → IsIndexOf other index → IsIndexOf one index
-index_of_same one other index has is = record {
-  buckets = subst (λ (entries : Entries). AreBucketsOf entries one.policies index.buckets) has.enabled (subst (λ ps. AreBucketsOf other.enabled ps index.buckets) has.policies is.buckets);
-  conditions = is.conditions ∙ ap (map condition_of) has.policies;
-}
+index_of_same one other index has is = stays_with other one index (sym has.policies) (sym has.enabled) is
 
 -- the lists of policies and enablements alone stand in order
 pub alone_ordered : (catalog : Catalog) → CanBeAsked catalog → IsOrdered (policies_alone catalog)

@@ -18,9 +18,9 @@ use Rattle.au_pindex.specs.declared.staged.Joining.{Joining}
 use Rattle.au_pindex.specs.Indexing.{AreBucketsOf, is_listed, table_cmp}
 use Rattle.au_pindex.specs.Naming.{names_action, names_privilege, names_role, names_table}
 use Rattle.au_pindex.specs.Places.{passes, passes_at}
-use Rattle.au_pindex.specs.Rooms.{HasRoomFor, KeepsRoom}
-use Rattle.au_pindex.specs.Settling.{AreEdited, AreJoinedBy, AreShiftedBy}
-use Rattle.au_pindex.specs.Shifting.{came_from}
+use Rattle.au_pindex.specs.descent.Rooms.{HasRoomFor, KeepsRoom}
+use Rattle.au_pindex.specs.descent.Settling.{AreEdited, AreJoinedBy, AreShiftedBy}
+use Rattle.au_pindex.specs.descent.Shifting.{came_from}
 use Rattle.au_pindex.specs.Staging.{FitsJoining, Leads, is_joined, shifted_from}
 
 same_passes : (one other : ℕ → Bool) → ((s : ℕ) → one s ≡ other s) → (from : Option ℕ) → passes one from ≡ passes other from

@@ -18,7 +18,7 @@ use Rattle.au_entries.specs.declared.policy.Outcomes.{Outcomes}
 use Rattle.au_entries.specs.Changing.{by_name, enabled_after, for_users, is_on, put_in_order, with_enablement, without_user}
 use Rattle.au_entries.specs.Demand.{enablement_found, enablement_of}
 use Rattle.au_grants.specs.Changing.{without}
-use Rattle.au_pindex.specs.Staging.{is_left_by}
+use Rattle.au_pindex.specs.descent.Edits.{is_left_by}
 use Rattle.au_pindex.proofs.Found.{behind_other}
 
 abbrev Entry : Type 0

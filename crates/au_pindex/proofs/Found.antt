@@ -17,7 +17,7 @@ use Rattle.au_base.specs.OrderLaws.{names_irreflexive, names_transitive}
 use Rattle.au_entries.specs.declared.policy.AuditPolicy.{AuditPolicy}
 use Rattle.au_entries.specs.Changing.{by_name, put_in_order}
 use Rattle.au_grants.specs.Changing.{without}
-use Rattle.au_pindex.specs.Finding.{BelongsAt, StandsAt, is_named, with_policy}
+use Rattle.au_pindex.specs.descent.Finding.{BelongsAt, StandsAt, is_named, with_policy}
 use Rattle.au_pindex.specs.Places.{passes, passes_at}
 use Rattle.au_pindex.proofs.Placing.{is_itself, is_other}
 

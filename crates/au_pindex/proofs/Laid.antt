@@ -9,7 +9,7 @@ use Rattle.std.specs.Prelude.{◌==◌, Option, Some, None, slice_set}
 use Rattle.au_pindex.specs.declared.shift.Shift.{Shift}
 use Rattle.au_pindex.specs.declared.shift.Shift.TheVariants.{Opens, Closes, Leaves}
 use Rattle.au_pindex.specs.Places.{passes, passes_at}
-use Rattle.au_pindex.specs.Shifting.{came_from}
+use Rattle.au_pindex.specs.descent.Shifting.{came_from}
 use Rattle.au_pindex.proofs.Placing.{and_none, is_itself, is_other}
 
 pub length_mapped : {X Y : Type 0} (f : X → Y) (xs : List X) → length (map f xs) ≡ length xs

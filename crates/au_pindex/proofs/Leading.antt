@@ -17,12 +17,13 @@ use Rattle.au_pindex.specs.declared.shift.Shift.TheVariants.{Opens, Closes, Leav
 use Rattle.au_pindex.specs.declared.staged.ConditionEdit.TheVariants as condition
 use Rattle.au_pindex.specs.declared.staged.IndexEdit.{IndexEdit}
 use Rattle.au_grants.specs.Changing.{without}
-use Rattle.au_pindex.specs.Finding.{BelongsAt, StandsAt, is_named, with_policy}
+use Rattle.au_pindex.specs.descent.Finding.{BelongsAt, StandsAt, is_named, with_policy}
 use Rattle.au_pindex.specs.Indexing.{condition_of, is_listed}
 use Rattle.au_pindex.specs.Naming.{is_enabled, names_action, names_privilege, names_role, names_table}
 use Rattle.au_pindex.specs.Places.{passes, passes_at}
-use Rattle.au_pindex.specs.Shifting.{came_from}
-use Rattle.au_pindex.specs.Staging.{IsLeaving, IsReplacing, Leads, adds, closes, conditions_after, is_joined, joins, no_edit, shifted_from, without_condition}
+use Rattle.au_pindex.specs.descent.Shifting.{came_from}
+use Rattle.au_pindex.specs.descent.Edits.{IsLeaving, IsReplacing, adds, closes, joins, no_edit, without_condition}
+use Rattle.au_pindex.specs.Staging.{Leads, conditions_after, is_joined, shifted_from}
 use Rattle.au_pindex.proofs.EnabledBy.{on_after, same_turned}
 use Rattle.au_pindex.proofs.Laid.{closed, dropped_mapped, joined_mapped, opened, replaced, taken_mapped}
 use Rattle.au_pindex.proofs.Placing.{is_itself, is_other}

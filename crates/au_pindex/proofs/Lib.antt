@@ -1,4 +1,3 @@
-pub mod Added
 pub mod Afterwards
 pub mod Edited
 pub mod EnabledBy

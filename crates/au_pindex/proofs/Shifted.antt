@@ -6,7 +6,8 @@ use Rattle.std.specs.List.Retain.{RetainsInTurn}
 use Rattle.std.specs.Map.{lookup}
 use Rattle.std.specs.Map.Calls.{RetainsPairs}
 use Rattle.std.specs.Prelude.{◌==◌, Option, Some, None}
-use Rattle.au_pindex.specs.Buckets.{places_of, room_of}
+use Rattle.au_pindex.specs.Buckets.{places_of}
+use Rattle.au_pindex.specs.descent.Rooms.{room_of}
 use Rattle.au_pindex.specs.Places.{passes}
 
 or_kept : (b : Bool) (y at : ℕ) (ys : List ℕ) → list_any (λ place. place == at) (cond b (y ∷ ys) ys) ≡ ((b && (y == at)) || list_any (λ place. place == at) ys)

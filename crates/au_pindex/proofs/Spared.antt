@@ -1,11 +1,18 @@
 -- Buckets that get room, and places that use it up, one key after another.
-use Rattle.std.proofs.Common.{◌≡◌, ◌∙◌, ◌≤◌, ◌<◌, ◌+◌, inl, inr, refl, sym, ap, subst, ℕ, zero, suc, Bool, true, false, ◌||◌, List, [], ◌∷◌, ◌++◌, Vec, Global, BTreeMap, length, get_or, take, drop, arith, add-one, drop-cons}
+use Rattle.std.proofs.Common.{◌≡◌, ◌∙◌, ◌≤◌, ◌<◌, ◌+◌, inl, inr, refl, sym, ap, subst, ℕ, zero, suc, Bool, true, false, ◌||◌, ◌&&◌, List, [], ◌∷◌, ◌++◌, Vec, Global, BTreeMap, length, get_or, take, drop, arith, add-one, drop-cons}
 use Rattle.std.proofs.lemmas.Bool.{or_cases, or_left, or_right}
 use Rattle.std.proofs.lemmas.List.{take_more}
 use Rattle.std.proofs.lemmas.List.Folds.{list_any-append}
 use Rattle.std.specs.List.{list_any}
+use Rattle.std.specs.Prelude.{◌==◌}
 use Rattle.std.specs.declared.cmp.Ordering.{Ordering}
-use Rattle.au_pindex.specs.Rooms.{KeepPlaces}
+use Rattle.au_base.specs.Actions as actions
+use Rattle.au_base.specs.Privileges as privileges
+use Rattle.au_entries.specs.declared.policy.AuditPolicy.{AuditPolicy}
+use Rattle.au_pindex.specs.declared.bucketed.Bucketed.{Bucketed}
+use Rattle.au_pindex.specs.descent.Adding.{AddsPolicy}
+use Rattle.au_pindex.specs.descent.Rooms.{KeepAllPlaces, KeepPlaces}
+use Rattle.au_pindex.specs.Naming.{names_action, names_privilege, names_role, names_table}
 
 pub keep_on : {K : Type 0} (cmp : K → K → Ordering) (a b c : BTreeMap K (Vec ℕ Global)) → KeepPlaces cmp a b → KeepPlaces cmp b c → KeepPlaces cmp a c
 keep_on cmp a b c one two = record { places = λ key at. two.places key at ∙ one.places key at; rooms = λ key. omega (arith, one.rooms key, two.rooms key) }
@@ -45,3 +52,13 @@ module _ {X : Type 0} (test : X → Bool) (xs : List X) (i : ℕ) (x : X) (withi
   pub left_room : (old new : ℕ) → (list_any test (drop i xs) ≡ true → length (drop i xs) ≤ old) → old ≤ new + 1 → list_any test (drop (i + 1) xs) ≡ true → length (drop (i + 1) xs) ≤ new
   left_room old new spared used passes =
       let enough = spared (ap (list_any test) front ∙ or_right (test x) (list_any test (drop (i + 1) xs)) passes) in omega (arith, one_less, enough, used)
+
+-- ---- a policy whose place joins buckets once they have room for it
+
+pub adds_from : (policy : AuditPolicy) (place : ℕ) (old between new : Bucketed) → KeepAllPlaces old between → AddsPolicy true policy place between new → AddsPolicy true policy place old new
+adds_from policy place old between new keeps adds = record {
+  actions = λ action at. adds.actions action at ∙ ap (λ was. (names_action action policy && (place == at)) || was) (keeps.actions.places (actions.code_of action) at);
+  tables = λ table at. adds.tables table at ∙ ap (λ was. (names_table table policy && (place == at)) || was) (keeps.tables.places table at);
+  privileges = λ privilege at. adds.privileges privilege at ∙ ap (λ was. (names_privilege privilege policy && (place == at)) || was) (keeps.privileges.places (privileges.code_of privilege) at);
+  roles = λ role at. adds.roles role at ∙ ap (λ was. (names_role role policy && (place == at)) || was) (keeps.roles.places role at);
+}

@@ -1,5 +1,5 @@
 -- Buckets: for each key a list of places.
-use Rattle.std.specs.Prelude.{ℕ, ◌-◌, Bool, List, [], ◌==◌, Option, Some, None, Vec, vec_capacity, vec_len}
+use Rattle.std.specs.Prelude.{ℕ, Bool, List, [], ◌==◌, Option, Some, None, Vec}
 use Rattle.std.specs.Global.{Global}
 use Rattle.std.specs.BTreeMap.{BTreeMap, get}
 use Rattle.std.specs.List.{list_any}
@@ -13,12 +13,3 @@ places_of (Some bucket) = bucket.items
 -- the place stands in the bucket of the key, by the order of keys
 abbrev pub is_in_bucket : {K : Type 0} → (K → K → Ordering) → BTreeMap K (Vec ℕ Global) → K → ℕ → Bool
 is_in_bucket {K} cmp buckets key place = list_any (λ other. other == place) (places_of (get cmp buckets key))
-
--- how many more places a bucket takes in the room that it has: none where there is no bucket
-abbrev pub room_of : Option (Vec ℕ Global) → ℕ
-room_of None = 0
-room_of (Some bucket) = vec_capacity bucket - vec_len bucket
-
--- how many more places the bucket of the key takes in the room that it has
-abbrev pub room_in : {K : Type 0} → (K → K → Ordering) → BTreeMap K (Vec ℕ Global) → K → ℕ
-room_in {K} cmp buckets key = room_of (get cmp buckets key)

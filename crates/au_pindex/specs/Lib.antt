@@ -1,12 +1,6 @@
-pub mod Anew
 pub mod Buckets
-pub mod Changing
-pub mod Finding
 pub mod Indexing
 pub mod Naming
 pub mod Places
-pub mod Rooms
-pub mod Settling
-pub mod Shifting
 pub mod Staging
-pub mod Taking
+pub mod descent

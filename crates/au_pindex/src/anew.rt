@@ -1,7 +1,7 @@
 //! An index made anew, of what changes make of a catalogue.
 ghost use Rattle.std.specs.Prelude.{◌≡◌, ℕ, List as Sequence, [], IfOk, OnOk, None, map};
 ghost use Rattle.au_catalog.specs.Settling.{catalog_after_all, condition_texts};
-ghost use Rattle.au_pindex.specs.Anew.{HasPolicies, policies_alone};
+ghost use Rattle.au_pindex.specs.descent.Anew.{HasPolicies, policies_alone};
 ghost use Rattle.au_pindex.specs.Indexing.{IsIndexOf};
 ghost use Rattle.au_policy.specs.Asking.{CanBeAsked};
 ghost use Rattle.sql_ast.specs.declared.expression.Expr.{Expr as Tree};

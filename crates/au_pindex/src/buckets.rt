@@ -4,30 +4,15 @@ ghost use Rattle.std.specs.BTreeMap.{get};
 ghost use Rattle.std.specs.BTreeSet.{contains};
 ghost use Rattle.std.specs.List.{list_any};
 ghost use Rattle.std.specs.Ordering.{is_eq, nat_cmp};
-ghost use Rattle.au_pindex.specs.Buckets.{is_in_bucket, room_in, room_of};
+ghost use Rattle.au_pindex.specs.Buckets.{is_in_bucket};
+ghost use Rattle.au_pindex.specs.descent.Rooms.{KeepPlaces, room_in, room_of};
 ghost use Rattle.au_pindex.specs.Places.{passes};
-ghost use Rattle.au_pindex.specs.Rooms.{KeepPlaces};
-ghost use Rattle.au_pindex.specs.Shifting.{came_from};
+ghost use Rattle.au_pindex.specs.descent.Shifting.{came_from};
 
 use crate::shift::{Shift, shift_bucket};
 use au_base::Memory;
 use std::alloc::Global;
 use std::collections::{BTreeMap, BTreeSet};
-
-/// Adds the place to the bucket of the key.
-pub(crate) fn add<K: Ord + Drop>(
-    alloc: Global,
-    buckets: &mut BTreeMap<K, Vec<usize>>,
-    key: K,
-    place: usize,
-) -> Result<(), Memory>
-    ensures { OnOk result ((other : K) (at : ℕ) → is_in_bucket K.cmp buckets.new other at ≡ ((is_eq (K.cmp key other) && (place == at)) || is_in_bucket K.cmp buckets.old other at)) }
-{
-    let mut bucket = buckets.remove(&key).unwrap_or(Vec::new(alloc));
-    bucket.push(place)?;
-    buckets.insert(key, bucket)?;
-    Ok(())
-}
 
 /// Makes room for so many more places in the bucket of the key, which is made where there is none.
 pub(crate) fn spare<K: Ord + Drop>(

@@ -9,10 +9,11 @@ ghost use Rattle.au_entries.specs.declared.change.Change.TheVariants as change;
 ghost use Rattle.au_entries.specs.Changing.{enabled_after, is_on, with_enablement};
 ghost use Rattle.au_entries.specs.Demand.{enablement_of};
 ghost use Rattle.au_pindex.specs.declared.index.Index.{Index as AnyIndex};
-ghost use Rattle.au_pindex.specs.Finding.{StandsAt, is_named};
+ghost use Rattle.au_pindex.specs.descent.Finding.{StandsAt, is_named};
 ghost use Rattle.au_pindex.specs.Places.{passes_at};
-ghost use Rattle.au_pindex.specs.Staging as edits;
-ghost use Rattle.au_pindex.specs.Staging.{FitsEdit, IsLeaving, Keeps, Leads, is_left_by, is_off_without};
+ghost use Rattle.au_pindex.specs.descent.Edits as edits;
+ghost use Rattle.au_pindex.specs.Staging.{FitsEdit, Leads};
+ghost use Rattle.au_pindex.specs.descent.Edits.{IsLeaving, Keeps, is_left_by, is_off_without};
 ghost use Rattle.au_policy.specs.Asking.{CanBeAsked};
 
 use crate::buckets::take;

@@ -2,7 +2,7 @@
 ghost use Rattle.std.specs.Prelude.{◌≡◌, ◌≤◌, true, false, IfErr, IfOk, IsTrue, length, map};
 ghost use Rattle.std.specs.List.Sorted.{IsPartitionPoint};
 ghost use Rattle.au_base.specs.Order.{is_in_order, name_before};
-ghost use Rattle.au_pindex.specs.Finding.{BelongsAt, StandsAt};
+ghost use Rattle.au_pindex.specs.descent.Finding.{BelongsAt, StandsAt};
 
 use au_base::Name;
 use au_entries::AuditPolicy;

@@ -1,5 +1,5 @@
 //! The index of a catalogue's audit policies.
-ghost use Rattle.std.specs.Prelude.{◌≡◌, ◌≤◌, ◌+◌, ℕ, List as Sequence, IfOk, IsTrue, map};
+ghost use Rattle.std.specs.Prelude.{◌≡◌, ◌≤◌, ◌+◌, [], ℕ, List as Sequence, IfOk, map};
 ghost use Rattle.au_catalog.specs.declared.catalog.Catalog.{Catalog as AnyCatalog};
 ghost use Rattle.au_catalog.specs.Settling.{catalog_after_all, condition_texts};
 ghost use Rattle.au_pindex.specs.Indexing.{IsIndexOf};
@@ -34,7 +34,18 @@ pub struct Index {
 }
 
 impl Index {
-    /// The index of the catalogue. It goes over all policies once, and resolves each condition.
+    /// The index of every catalogue that has no policies. It takes no memory.
+    pub fn new(alloc: Global) -> Index
+        ensures { (catalog : AnyCatalog) → catalog.policies ≡ [] → IsIndexOf catalog result }
+    {
+        Index {
+            buckets: Bucketed::new(alloc),
+            conditions: Vec::new(alloc),
+        }
+    }
+
+    /// The index of the catalogue. It goes over all policies twice: for what their parts name, and to
+    /// resolve their conditions.
     pub fn of(alloc: Global, catalog: &Catalog) -> Result<Index, Memory>
         requires catalog { CanBeAsked catalog.now }
         ensures { IfOk result (IsIndexOf catalog.now) }
@@ -53,8 +64,8 @@ impl Index {
     /// read as; the catalogue after the changes can be asked too. The index stays that of the
     /// catalogue, whatever is answered.
     ///
-    /// One change takes memory for what it names alone; more than one, where some are of policies, are
-    /// made ready as an index made anew.
+    /// One change takes memory for what it names alone. More than one, where some are of policies, are
+    /// made ready as an index made anew, in the time of `of`.
     pub fn stage(
         &mut self,
         alloc: Global,
@@ -87,7 +98,7 @@ impl Index {
 
     /// What the policies of the catalogue demand of a statement: what `au_policy::demanded` answers.
     /// It tests only the enabled policies that name the statement, each once, and counts one step for
-    /// each. No condition is resolved.
+    /// each that it tests: fewer, where memory is short before the last. No condition is resolved.
     pub fn demanded<L: Ledger>(
         &self,
         alloc: Global,

@@ -10,10 +10,11 @@ ghost use Rattle.au_base.specs.declared.table.TableName.{TableName as Table};
 ghost use Rattle.au_base.specs.Actions as numbers;
 ghost use Rattle.au_base.specs.Privileges as ranks;
 ghost use Rattle.au_base.specs.Sameness.{same_action, same_privilege, same_table};
-ghost use Rattle.au_pindex.specs.Buckets.{is_in_bucket, room_in};
-ghost use Rattle.au_pindex.specs.Indexing.{AddsPolicy, table_cmp};
+ghost use Rattle.au_pindex.specs.Buckets.{is_in_bucket};
+ghost use Rattle.au_pindex.specs.descent.Rooms.{HasRoomFor, room_in};
+ghost use Rattle.au_pindex.specs.descent.Adding.{AddsPolicy};
+ghost use Rattle.au_pindex.specs.Indexing.{table_cmp};
 ghost use Rattle.au_pindex.specs.Naming.{is_of_action, is_on_table};
-ghost use Rattle.au_pindex.specs.Rooms.{HasRoomFor};
 
 use crate::bucketed::Bucketed;
 use crate::buckets::join;

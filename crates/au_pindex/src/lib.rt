@@ -4,6 +4,7 @@
 mod anew;
 mod bucketed;
 mod buckets;
+mod changing;
 mod enabling;
 mod finding;
 mod index;
@@ -21,5 +22,5 @@ mod staging;
 mod testing;
 
 pub use index::Index;
-pub use laws::{change_policies, indexes_stay};
+pub use laws::indexes_stay;
 pub use staged::StagedIndex;

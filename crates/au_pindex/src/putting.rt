@@ -2,11 +2,12 @@
 ghost use Rattle.std.specs.Prelude.{◌≡◌, ◌≤◌, ◌<◌, ◌+◌, IfOk, None, Some, if◌then◌else◌, length, vec_capacity, vec_len};
 ghost use Rattle.au_entries.specs.declared.policy.AuditPolicy.{AuditPolicy as AnyPolicy};
 ghost use Rattle.au_grants.specs.Changing.{without};
-ghost use Rattle.au_pindex.specs.Finding.{is_named, with_policy};
+ghost use Rattle.au_pindex.specs.descent.Finding.{is_named, with_policy};
 ghost use Rattle.au_pindex.specs.Indexing.{condition_of};
-ghost use Rattle.au_pindex.specs.Rooms.{KeepAllPlaces};
-ghost use Rattle.au_pindex.specs.Staging as edits;
-ghost use Rattle.au_pindex.specs.Staging.{FitsEdit, FitsJoining, IsLeavingWhere, IsReplacing, Keeps, Leads, without_condition};
+ghost use Rattle.au_pindex.specs.descent.Rooms.{KeepAllPlaces};
+ghost use Rattle.au_pindex.specs.descent.Edits as edits;
+ghost use Rattle.au_pindex.specs.Staging.{FitsEdit, FitsJoining, Leads};
+ghost use Rattle.au_pindex.specs.descent.Edits.{IsLeavingWhere, IsReplacing, Keeps, without_condition};
 ghost use Rattle.au_policy.specs.Asking.{CanBeAsked};
 
 use crate::bucketed::Bucketed;

@@ -3,9 +3,9 @@ ghost use Rattle.std.specs.Prelude.{◌≡◌, ◌≤◌, ◌<◌, ◌+◌, ◌+
 ghost use Rattle.au_entries.specs.declared.policy.AuditPolicy.{AuditPolicy};
 ghost use Rattle.au_entries.specs.declared.policy.Enabled.{Enabled};
 ghost use Rattle.au_pindex.specs.Indexing.{AreBucketsOf, condition_of};
-ghost use Rattle.au_pindex.specs.Rooms.{KeepsRoom};
-ghost use Rattle.au_pindex.specs.Settling.{AreEdited, AreJoinedBy, AreShiftedBy};
-ghost use Rattle.au_pindex.specs.Shifting.{AreShifted};
+ghost use Rattle.au_pindex.specs.descent.Rooms.{KeepsRoom};
+ghost use Rattle.au_pindex.specs.descent.Settling.{AreEdited, AreJoinedBy, AreShiftedBy};
+ghost use Rattle.au_pindex.specs.descent.Shifting.{AreShifted};
 ghost use Rattle.au_pindex.specs.Staging.{FitsConditions, FitsEdit, FitsJoining, Leads, conditions_after};
 
 use crate::bucketed::Bucketed;

@@ -2,7 +2,7 @@
 ghost use Rattle.std.specs.Prelude.{◌≡◌, ◌==◌, ◌&&◌, ◌^◌, ◌-◌, ◌≤◌, ℕ, nat_lt, vec_capacity, vec_len};
 ghost use Rattle.std.specs.List.{list_any};
 ghost use Rattle.au_pindex.specs.Places.{passes};
-ghost use Rattle.au_pindex.specs.Shifting.{came_from};
+ghost use Rattle.au_pindex.specs.descent.Shifting.{came_from};
 
 use std::collections::BTreeSet;
 

@@ -10,10 +10,9 @@ ghost use Rattle.au_base.specs.declared.table.TableName.{TableName as Table};
 ghost use Rattle.au_base.specs.Actions as numbers;
 ghost use Rattle.au_base.specs.Privileges as ranks;
 ghost use Rattle.au_base.specs.Sameness.{same_action, same_privilege, same_table};
-ghost use Rattle.au_pindex.specs.Buckets.{room_in};
+ghost use Rattle.au_pindex.specs.descent.Rooms.{HasRoomFor, KeepAllPlaces, KeepPlaces, room_in};
 ghost use Rattle.au_pindex.specs.Indexing.{table_cmp};
 ghost use Rattle.au_pindex.specs.Naming.{is_of_action, is_on_table};
-ghost use Rattle.au_pindex.specs.Rooms.{HasRoomFor, KeepPlaces, KeepAllPlaces};
 
 use crate::bucketed::Bucketed;
 use crate::buckets::spare;

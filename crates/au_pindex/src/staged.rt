@@ -1,10 +1,10 @@
 //! Changes of an index that are ready to be made.
-ghost use Rattle.std.specs.Prelude.{◌≡◌, IfOk};
-ghost use Rattle.au_pindex.specs.Staging as edits;
+ghost use Rattle.std.specs.Prelude.{◌≡◌, IfOk, None};
+ghost use Rattle.au_pindex.specs.descent.Edits as edits;
 
 use crate::index::Index;
 use crate::shift::Shift;
-use au_base::Memory;
+use au_base::{Action, List, Memory, Name, Privilege, TableName};
 use au_entries::AuditPolicy;
 use au_expr::Resolved;
 
@@ -66,11 +66,28 @@ pub(crate) fn no_edit() -> IndexEdit
 pub(crate) fn parts_of(policy: &AuditPolicy) -> Result<AuditPolicy, Memory>
     ensures { IfOk result (λ copy. copy ≡ edits.without_condition policy.now) }
 {
+    policy_of(
+        &policy.name,
+        &policy.privileges,
+        &policy.actions,
+        &policy.roles,
+    )
+}
+
+/// The policy of these parts, without a condition.
+pub(crate) fn policy_of(
+    name: &Name,
+    privileges: &List<Privilege>,
+    actions: &List<(Action, Option<TableName>)>,
+    roles: &List<Name>,
+) -> Result<AuditPolicy, Memory>
+    ensures { IfOk result (λ policy. policy ≡ record { name = name.now; privileges = privileges.now; actions = actions.now; roles = roles.now; when = None }) }
+{
     Ok(AuditPolicy {
-        name: policy.name.clone()?,
-        privileges: policy.privileges.clone()?,
-        actions: policy.actions.clone()?,
-        roles: policy.roles.clone()?,
+        name: name.clone()?,
+        privileges: privileges.clone()?,
+        actions: actions.clone()?,
+        roles: roles.clone()?,
         when: None,
     })
 }

@@ -5,22 +5,23 @@ ghost use Rattle.au_entries.specs.declared.policy.AuditPolicy.{AuditPolicy as An
 ghost use Rattle.au_entries.specs.declared.policy.Enabled.{Enabled};
 ghost use Rattle.au_entries.specs.Changing.{enabled_after, policies_after, with_tree};
 ghost use Rattle.au_expr.specs.Resolving.{IsCondition, placed};
-ghost use Rattle.au_pindex.specs.Changing.{changes_policies};
+ghost use Rattle.au_pindex.specs.descent.Changing.{changes_policies};
 ghost use Rattle.au_pindex.specs.declared.index.Index.{Index as AnyIndex};
 ghost use Rattle.au_pindex.specs.Indexing.{IsIndexOf};
-ghost use Rattle.au_pindex.specs.Staging.{Fits, FitsEdit, FitsMade, IsStaged, Keeps, Leads, LeadsBy};
+ghost use Rattle.au_pindex.specs.Staging.{Fits, FitsEdit, FitsMade, IsStaged, Leads, LeadsBy};
+ghost use Rattle.au_pindex.specs.descent.Edits.{Keeps};
 ghost use Rattle.au_policy.specs.Asking.{CanBeAsked, IsTruthOverNone};
 ghost use Rattle.sql_ast.specs.declared.expression.Expr.{Expr as Tree};
 
 use crate::anew::index_after;
+use crate::changing::change_policies;
 use crate::enabling::{drop_user, enable};
 use crate::index::Index;
-use crate::laws::change_policies;
 use crate::putting::{drop_policy, put_policy};
-use crate::staged::{IndexEdit, Made, StagedIndex, no_edit};
-use au_base::{Action, List, Memory, Name, Privilege, TableName, Text};
+use crate::staged::{IndexEdit, Made, StagedIndex, no_edit, policy_of};
+use au_base::{Memory, Text};
 use au_catalog::Catalog;
-use au_entries::{AuditPolicy, Change, Evaluate};
+use au_entries::{Change, Evaluate};
 use au_expr::{Resolved, resolve_condition};
 use sql_ast::Expr;
 use std::alloc::Global;
@@ -79,27 +80,15 @@ fn staged_all(
     ensures staged { IfOk result (λ staged. (tree : Sequence ℕ → Tree) → map tree (condition_texts changes.now) ≡ trees.now → IsStaged catalog.now (catalog_after_all tree changes.now catalog.now) staged) }
     ensures fits { IfOk result (λ staged. Fits staged index.now) }
 {
-    let made = made_by(alloc, catalog, changes, trees)?;
-    Ok(StagedIndex { made })
-}
-
-// What the changes make of an index of the catalogue.
-fn made_by(
-    alloc: Global,
-    catalog: &Catalog,
-    changes: &[Change],
-    trees: &[Expr],
-) -> Result<Made, Memory>
-    requires catalog { CanBeAsked catalog.now }
-    requires after { (tree : Sequence ℕ → Tree) × (map tree (condition_texts changes.now) ≡ trees.now) × CanBeAsked (catalog_after_all tree changes.now catalog.now) }
-    ensures leads { IfOk result (λ made. (tree : Sequence ℕ → Tree) → map tree (condition_texts changes.now) ≡ trees.now → LeadsBy catalog.now (catalog_after_all tree changes.now catalog.now) made) }
-    ensures fits { IfOk result (λ made. (index : AnyIndex) → FitsMade made index) }
-{
     if change_policies(changes) {
         let other = index_after(alloc, catalog, changes, trees)?;
-        return Ok(Made::Anew(other));
+        return Ok(StagedIndex {
+            made: Made::Anew(other),
+        });
     }
-    Ok(Made::Edited(no_edit()))
+    Ok(StagedIndex {
+        made: Made::Edited(no_edit()),
+    })
 }
 
 // The edit of an index of the catalogue where one change is made.
@@ -136,31 +125,13 @@ fn edit_for(
     }
 }
 
-// No edit, where the change leaves policies and enablements.
+// No edit, where the change leaves policies and enablements as they are.
 fn unaffected(_change: &Change) -> IndexEdit
     requires { changes_policies _change.now ≡ false }
     ensures leads { (tree : Sequence ℕ → Tree) (enabled : Sequence (Sequence ℕ × Enabled)) (policies : Sequence AnyPolicy) → Leads enabled policies (enabled_after _change.now enabled) (policies_after tree _change.now policies) result }
     ensures fits { (index : AnyIndex) → FitsEdit result index }
 {
     no_edit()
-}
-
-// The policy without its condition.
-fn policy_of(
-    name: &Name,
-    privileges: &List<Privilege>,
-    actions: &List<(Action, Option<TableName>)>,
-    roles: &List<Name>,
-) -> Result<AuditPolicy, Memory>
-    ensures { IfOk result (λ policy. policy ≡ record { name = name.now; privileges = privileges.now; actions = actions.now; roles = roles.now; when = None }) }
-{
-    Ok(AuditPolicy {
-        name: name.clone()?,
-        privileges: privileges.clone()?,
-        actions: actions.clone()?,
-        roles: roles.clone()?,
-        when: None,
-    })
 }
 
 // The condition of a policy, where it has one, resolved. Its tree is the only one.

@@ -1,5 +1,5 @@
 use Rattle.std.proofs.Common.{rules, ℕ}
-use Rattle.au_pindex.specs.Shifting.{came_from}
+use Rattle.au_pindex.specs.descent.Shifting.{came_from}
 use Rattle.au_pindex.proofs.Shifted.{IsShifted, become, shifted_as, shifted_places, shifted_room}
 use Rattle.au_pindex.proofs.buckets.shift_all.Goals as goal
 

@@ -2,7 +2,7 @@ use Rattle.std.proofs.Common.{◌∙◌}
 use Rattle.au_entries.specs.declared.change.Change.TheVariants as change
 use Rattle.au_entries.specs.Changing.{enabled_after}
 use Rattle.au_entries.specs.Demand.{enablement_of}
-use Rattle.au_pindex.specs.Staging.{is_off_without}
+use Rattle.au_pindex.specs.descent.Edits.{is_off_without}
 use Rattle.au_pindex.proofs.EnabledBy.{on_without, still_on}
 use Rattle.au_pindex.proofs.Leading.{leaving_leads}
 use Rattle.au_pindex.proofs.enabling.drop_user.Goals as goal

@@ -1,5 +1,5 @@
 use Rattle.std.proofs.Common.{subst}
-use Rattle.au_pindex.specs.Finding.{BelongsAt}
+use Rattle.au_pindex.specs.descent.Finding.{BelongsAt}
 use Rattle.au_pindex.proofs.Leading.{none_leads}
 use Rattle.au_pindex.proofs.enabling.enable.Goals as goal
 

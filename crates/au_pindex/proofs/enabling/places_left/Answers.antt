@@ -5,7 +5,7 @@ use Rattle.std.specs.Str.{bytes_eq}
 use Rattle.au_entries.specs.declared.policy.AuditPolicy.{AuditPolicy}
 use Rattle.au_entries.specs.declared.policy.Enabled.{Enabled}
 use Rattle.au_pindex.specs.Places.{passes_at}
-use Rattle.au_pindex.specs.Staging.{is_left_by, is_off_without}
+use Rattle.au_pindex.specs.descent.Edits.{is_left_by, is_off_without}
 use Rattle.au_pindex.proofs.EnabledBy.{some_passes}
 use Rattle.au_pindex.proofs.Leading.{same_tests}
 use Rattle.au_pindex.proofs.enabling.places_left.Goals as goal

@@ -6,7 +6,7 @@ use Rattle.std.specs.Str.{bytes_eq}
 use Rattle.au_entries.specs.declared.policy.AuditPolicy.{AuditPolicy}
 use Rattle.au_entries.specs.declared.policy.Enabled.{Enabled}
 use Rattle.au_pindex.specs.Places.{passes_at}
-use Rattle.au_pindex.specs.Staging.{is_left_by}
+use Rattle.au_pindex.specs.descent.Edits.{is_left_by}
 use Rattle.au_pindex.proofs.enabling.places_left.Given as goal
 
 -- the places are those of the policies of the enablements so far

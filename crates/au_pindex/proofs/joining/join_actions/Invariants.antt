@@ -5,7 +5,8 @@ use Rattle.std.specs.Ordering.{nat_cmp}
 use Rattle.au_base.specs.declared.action.Action.{Action}
 use Rattle.au_base.specs.declared.table.TableName.{TableName}
 use Rattle.au_base.specs.Actions.{code_of}
-use Rattle.au_pindex.specs.Buckets.{is_in_bucket, room_in}
+use Rattle.au_pindex.specs.Buckets.{is_in_bucket}
+use Rattle.au_pindex.specs.descent.Rooms.{room_in}
 use Rattle.au_pindex.specs.Indexing.{table_cmp}
 use Rattle.au_pindex.specs.Naming.{is_of_action, is_on_table}
 use Rattle.au_pindex.proofs.joining.join_actions.Given as goal

@@ -5,7 +5,8 @@ use Rattle.std.specs.Ordering.{nat_cmp}
 use Rattle.au_base.specs.declared.privilege.Privilege.{Privilege}
 use Rattle.au_base.specs.Privileges.{code_of}
 use Rattle.au_base.specs.Sameness.{same_privilege}
-use Rattle.au_pindex.specs.Buckets.{is_in_bucket, room_in}
+use Rattle.au_pindex.specs.Buckets.{is_in_bucket}
+use Rattle.au_pindex.specs.descent.Rooms.{room_in}
 use Rattle.au_pindex.proofs.joining.join_privileges.Given as goal
 
 abbrev pub invariant-loop-privilege : goal.invariant-loop-privilege

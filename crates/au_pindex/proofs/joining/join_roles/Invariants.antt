@@ -4,7 +4,8 @@ use Rattle.std.specs.Cmp.Lexicographic.{slice_cmp}
 use Rattle.std.specs.List.{list_any}
 use Rattle.std.specs.Ordering.{nat_cmp}
 use Rattle.std.specs.Str.{bytes_eq}
-use Rattle.au_pindex.specs.Buckets.{is_in_bucket, room_in}
+use Rattle.au_pindex.specs.Buckets.{is_in_bucket}
+use Rattle.au_pindex.specs.descent.Rooms.{room_in}
 use Rattle.au_pindex.proofs.joining.join_roles.Given as goal
 
 abbrev pub invariant-loop-role : goal.invariant-loop-role

@@ -1,6 +1,6 @@
 use Rattle.std.proofs.Common.{◌∙◌, arith, length, subst, sym}
 use Rattle.std.proofs.lemmas.Result.{IfOk-weaker}
-use Rattle.au_pindex.specs.Finding.{BelongsAt, StandsAt}
+use Rattle.au_pindex.specs.descent.Finding.{BelongsAt, StandsAt}
 use Rattle.au_pindex.proofs.Leading.{put_adds, put_replaces}
 use Rattle.au_pindex.proofs.putting.put_policy.Goals as goal
 

@@ -1,7 +1,7 @@
 use Rattle.std.proofs.Common.{◌∙◌, ◌^◌, ℕ, rules, nat_lt, ◌&&◌, sym, ap}
 use Rattle.std.specs.Prelude.{◌==◌}
 use Rattle.au_pindex.specs.Places.{passes}
-use Rattle.au_pindex.specs.Shifting.{came_from}
+use Rattle.au_pindex.specs.descent.Shifting.{came_from}
 use Rattle.au_pindex.proofs.Shifted.{any_from, kept_any}
 use Rattle.au_pindex.proofs.shift.shift_bucket.Goals as goal
 

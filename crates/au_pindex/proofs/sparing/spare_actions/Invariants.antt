@@ -4,10 +4,9 @@ use Rattle.std.specs.Ordering.{nat_cmp}
 use Rattle.au_base.specs.declared.action.Action.{Action}
 use Rattle.au_base.specs.declared.table.TableName.{TableName}
 use Rattle.au_base.specs.Actions.{code_of}
-use Rattle.au_pindex.specs.Buckets.{room_in}
+use Rattle.au_pindex.specs.descent.Rooms.{KeepPlaces, room_in}
 use Rattle.au_pindex.specs.Indexing.{table_cmp}
 use Rattle.au_pindex.specs.Naming.{is_of_action, is_on_table}
-use Rattle.au_pindex.specs.Rooms.{KeepPlaces}
 use Rattle.au_pindex.proofs.sparing.spare_actions.Given as goal
 
 -- the buckets have the places that they had, and those of the parts so far have room

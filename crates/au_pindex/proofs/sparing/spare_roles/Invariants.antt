@@ -3,8 +3,7 @@ use Rattle.std.specs.Cmp.Lexicographic.{slice_cmp}
 use Rattle.std.specs.List.{list_any}
 use Rattle.std.specs.Ordering.{nat_cmp}
 use Rattle.std.specs.Str.{bytes_eq}
-use Rattle.au_pindex.specs.Buckets.{room_in}
-use Rattle.au_pindex.specs.Rooms.{KeepPlaces}
+use Rattle.au_pindex.specs.descent.Rooms.{KeepPlaces, room_in}
 use Rattle.au_pindex.proofs.sparing.spare_roles.Given as goal
 
 -- the buckets have the places that they had, and those of the roles so far have room

@@ -6,3 +6,6 @@ use Rattle.au_pindex.specs.Staging.{IsStaged}
 use Rattle.au_pindex.proofs.Afterwards.{only_one}
 use Rattle.au_pindex.proofs.staging.staged.Goals as goal
 use Rattle.sql_ast.specs.declared.expression.Expr.{Expr}
+
+pub staged_one-requires : goal.staged_one-requires
+staged_one-requires c = ?

@@ -3,9 +3,9 @@ use Rattle.std.specs.Prelude.{◌≡◌, true, Option, Some, None}
 use Rattle.au_pindex.specs.declared.bucketed.Bucketed.{Bucketed}
 use Rattle.au_pindex.specs.declared.shift.Shift.{Shift}
 use Rattle.au_pindex.specs.declared.staged.Joining.{Joining}
-use Rattle.au_pindex.specs.Indexing.{AddsPolicy}
-use Rattle.au_pindex.specs.Rooms.{KeepsRoom}
-use Rattle.au_pindex.specs.Shifting.{AreShifted}
+use Rattle.au_pindex.specs.descent.Adding.{AddsPolicy}
+use Rattle.au_pindex.specs.descent.Rooms.{KeepsRoom}
+use Rattle.au_pindex.specs.descent.Shifting.{AreShifted}
 
 -- the places of buckets shift, where they do, and no bucket has less room
 abbrev pub AreShiftedBy : Option Shift → Bucketed → Bucketed → Type 0

@@ -1,6 +1,6 @@
 -- Room for places in the buckets of what a policy names.
-use Rattle.std.specs.Prelude.{◌≡◌, ◌≤◌, ℕ, true, List, Vec, length}
-use Rattle.std.specs.BTreeMap.{BTreeMap}
+use Rattle.std.specs.Prelude.{◌≡◌, ◌≤◌, ℕ, ◌-◌, true, List, Option, Some, None, Vec, length, vec_capacity, vec_len}
+use Rattle.std.specs.BTreeMap.{BTreeMap, get}
 use Rattle.std.specs.Cmp.Lexicographic.{slice_cmp}
 use Rattle.std.specs.Global.{Global}
 use Rattle.std.specs.Ordering.{nat_cmp}
@@ -11,10 +11,19 @@ use Rattle.au_base.specs.declared.table.TableName.{TableName}
 use Rattle.au_base.specs.Actions as actions
 use Rattle.au_base.specs.Privileges as privileges
 use Rattle.au_entries.specs.declared.policy.AuditPolicy.{AuditPolicy}
-use Rattle.au_pindex.specs.Buckets.{is_in_bucket, room_in}
+use Rattle.au_pindex.specs.Buckets.{is_in_bucket}
 use Rattle.au_pindex.specs.declared.bucketed.Bucketed.{Bucketed}
 use Rattle.au_pindex.specs.Indexing.{table_cmp}
 use Rattle.au_pindex.specs.Naming.{names_action, names_privilege, names_role, names_table}
+
+-- how many more places a bucket takes in the room that it has: none where there is no bucket
+abbrev pub room_of : Option (Vec ℕ Global) → ℕ
+room_of None = 0
+room_of (Some bucket) = vec_capacity bucket - vec_len bucket
+
+-- how many more places the bucket of the key takes in the room that it has
+abbrev pub room_in : {K : Type 0} → (K → K → Ordering) → BTreeMap K (Vec ℕ Global) → K → ℕ
+room_in {K} cmp buckets key = room_of (get cmp buckets key)
 
 -- the bucket of each key that the policy names has room for as many places as the policy has parts of that kind
 pub record HasRoomFor (policy : AuditPolicy) (buckets : Bucketed) : Type 0 where

@@ -2,10 +2,10 @@ use Rattle.std.proofs.Common.{◌∙◌, subst, sym}
 use Rattle.au_catalog.specs.Settling.{catalog_after_all}
 use Rattle.au_pindex.specs.Staging.{Leads}
 use Rattle.au_pindex.proofs.Afterwards.{enabled_all_stay, no_edit_to, policies_all_stay}
-use Rattle.au_pindex.proofs.staging.made_by.Goals as goal
+use Rattle.au_pindex.proofs.staging.staged_all.Goals as goal
 
-pub returns-clause-leads : goal.returns-clause-leads
-returns-clause-leads c = λ tree read.
+pub returns-clause-staged : goal.returns-clause-staged
+returns-clause-staged c = λ tree read.
     let catalog = c.args.catalog.now in
     let changes = c.args.changes.now in
     let after = catalog_after_all tree changes catalog in
