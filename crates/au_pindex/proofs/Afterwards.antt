@@ -1,5 +1,5 @@
 -- Which catalogue changes lead to.
-use Rattle.std.proofs.Common.{◌≡◌, ◌∙◌, refl, sym, ap, subst, ℕ, Bool, true, false, ◌||◌, List, [], ◌∷◌, ◌++◌, length, get_or, map, arith}
+use Rattle.std.proofs.Common.{◌≡◌, ◌∙◌, refl, sym, ap, subst, ℕ, false, List, [], ◌∷◌, ◌++◌, length, get_or, map, arith}
 use Rattle.std.proofs.lemmas.List.{append-nil}
 use Rattle.std.specs.List.{AllByRecursion, filter, list_any}
 use Rattle.std.specs.Ordering.{is_gt, is_lt}
@@ -23,10 +23,11 @@ use Rattle.au_pindex.specs.descent.Changing.{changes_policies}
 use Rattle.au_pindex.specs.declared.index.Index.{Index}
 use Rattle.au_pindex.specs.declared.staged.IndexEdit.{IndexEdit}
 use Rattle.au_pindex.specs.descent.Finding.{with_policy}
-use Rattle.au_pindex.specs.Indexing.{AreBucketsOf, IsIndexOf, condition_of}
+use Rattle.au_pindex.specs.Indexing.{IsIndexOf}
 use Rattle.au_pindex.specs.descent.Edits.{Keeps, no_edit}
 use Rattle.au_pindex.specs.Staging.{Leads}
 use Rattle.au_pindex.proofs.Leading.{leads_alone}
+use Rattle.au_pindex.proofs.Spared.{all_kept}
 use Rattle.au_pindex.proofs.Stays.{enabled_stay, neither, policies_stay, stays_with}
 use Rattle.sql_ast.specs.declared.expression.Expr.{Expr}
 
@@ -121,6 +122,9 @@ has_changed tree changes catalog after is = record {
 }
 
 -- ---- an index that keeps what it has
+
+pub keeps_itself : (index : Index) → Keeps index index
+keeps_itself index = record { buckets = all_kept index.buckets; conditions = refl }
 
 pub keeps_index : (catalog : Catalog) (old new : Index) → Keeps old new → IsIndexOf catalog old → IsIndexOf catalog new
 keeps_index catalog old new keeps is = record {

@@ -1,5 +1,5 @@
 -- What an edit makes of the buckets of an index.
-use Rattle.std.proofs.Common.{◌≡◌, ◌∙◌, ◌≤◌, ◌<◌, ◌+◌, ◌-◌, ◌^◌, refl, sym, ap, ℕ, suc, Bool, true, false, cond, ◌||◌, ◌&&◌, nat_lt, List, [], length, subst, arith, ltb-false}
+use Rattle.std.proofs.Common.{◌≡◌, ◌∙◌, ◌≤◌, ◌<◌, ◌+◌, ◌-◌, ◌^◌, refl, sym, ap, ℕ, suc, Bool, true, false, cond, ◌||◌, ◌&&◌, nat_lt, List, length, subst, arith, ltb-false}
 use Rattle.std.proofs.lemmas.Option.{slice_get_past}
 use Rattle.std.specs.BTreeSet.{contains}
 use Rattle.std.specs.Cmp.Lexicographic.{slice_cmp}

@@ -1,25 +1,24 @@
 -- The place of a policy among those that stand in the order of their names.
-use Rattle.std.proofs.Common.{◌≡◌, ◌∙◌, ◌≤◌, ◌<◌, ◌+◌, refl, sym, ap, subst, inl, inr, ◌⊎◌, ℕ, zero, suc, Bool, true, false, not, cond, ◌||◌, ◌&&◌, List, [], ◌∷◌, ◌++◌, length, get_or, map, take, drop, arith}
-use Rattle.std.proofs.lemmas.Bool.{and_parts, cases_Bool, cases_lt}
+use Rattle.std.proofs.Common.{◌≡◌, ◌∙◌, ◌≤◌, ◌<◌, ◌+◌, refl, sym, ap, subst, inl, inr, ◌⊎◌, ℕ, zero, suc, Bool, true, false, not, cond, List, [], ◌∷◌, ◌++◌, length, get_or, map, take, drop, arith}
+use Rattle.std.proofs.lemmas.Bool.{and_parts, cases_lt}
 use Rattle.std.proofs.lemmas.Bool.Decides.{eqb_tells}
 use Rattle.std.proofs.lemmas.Map.Text.{is_eq-slice_cmp}
 use Rattle.std.proofs.lemmas.Option.{slice_get-get_or, slice_get_past}
-use Rattle.std.specs.Cmp.Lexicographic.{bytes_decides, slice_cmp}
-use Rattle.std.specs.List.{filter, list_all, slice_get}
+use Rattle.std.specs.Cmp.Lexicographic.{bytes_decides}
+use Rattle.std.specs.List.{filter, list_all}
 use Rattle.std.specs.List.Sorted.{IsPartitionedBy, IsPartitionPoint}
-use Rattle.std.specs.Ordering.{is_eq, is_gt, is_lt, nat_cmp}
-use Rattle.std.specs.Prelude.{◌==◌, Option, Some, None}
+use Rattle.std.specs.Ordering.{is_eq, is_gt, is_lt}
+use Rattle.std.specs.Prelude.{◌==◌}
 use Rattle.std.specs.Str.{bytes_eq}
 use Rattle.std.specs.declared.cmp.Ordering.{Ordering}
 use Rattle.std.specs.declared.cmp.Ordering.TheVariants.{Less, Equal, Greater}
 use Rattle.au_base.specs.Order.{is_in_order, name_before}
 use Rattle.au_base.specs.OrderLaws.{names_irreflexive, names_transitive}
 use Rattle.au_entries.specs.declared.policy.AuditPolicy.{AuditPolicy}
-use Rattle.au_entries.specs.Changing.{by_name, put_in_order}
+use Rattle.au_entries.specs.Changing.{by_name}
 use Rattle.au_grants.specs.Changing.{without}
-use Rattle.au_pindex.specs.descent.Finding.{BelongsAt, StandsAt, is_named, with_policy}
+use Rattle.au_pindex.specs.descent.Finding.{BelongsAt, StandsAt, is_named}
 use Rattle.au_pindex.specs.Places.{passes, passes_at}
-use Rattle.au_pindex.proofs.Placing.{is_itself, is_other}
 
 abbrev name_of : AuditPolicy → List ℕ
 name_of policy = policy.name

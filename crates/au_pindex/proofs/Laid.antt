@@ -1,13 +1,10 @@
 -- What stands at the places of a list that is parted at a place.
-use Rattle.std.proofs.Common.{◌≡◌, ◌∙◌, ◌≤◌, ◌<◌, ◌+◌, ◌-◌, refl, sym, ap, subst, inl, inr, ◌⊎◌, ℕ, zero, suc, Bool, true, false, cond, ◌||◌, ◌&&◌, nat_lt, List, [], ◌∷◌, ◌++◌, length, map, take, drop, arith, ltb-true, ltb-false}
+use Rattle.std.proofs.Common.{◌≡◌, ◌∙◌, ◌≤◌, ◌<◌, ◌+◌, ◌-◌, refl, sym, ap, inl, inr, ◌⊎◌, ℕ, zero, suc, Bool, true, false, cond, ◌||◌, ◌&&◌, nat_lt, List, [], ◌∷◌, ◌++◌, length, map, take, drop, arith, ltb-true, ltb-false}
 use Rattle.std.proofs.lemmas.Bool.Decides.{eqb_tells}
 use Rattle.std.proofs.lemmas.Bool.{cases_Bool}
-use Rattle.std.specs.BTreeSet.{contains}
 use Rattle.std.specs.List.{slice_get}
-use Rattle.std.specs.Ordering.{nat_cmp}
 use Rattle.std.specs.Prelude.{◌==◌, Option, Some, None, slice_set}
-use Rattle.au_pindex.specs.declared.shift.Shift.{Shift}
-use Rattle.au_pindex.specs.declared.shift.Shift.TheVariants.{Opens, Closes, Leaves}
+use Rattle.au_pindex.specs.declared.shift.Shift.TheVariants.{Opens, Closes}
 use Rattle.au_pindex.specs.Places.{passes, passes_at}
 use Rattle.au_pindex.specs.descent.Shifting.{came_from}
 use Rattle.au_pindex.proofs.Placing.{and_none, is_itself, is_other}

@@ -1,24 +1,22 @@
 -- To which policies and enablements edits of an index lead.
-use Rattle.std.proofs.Common.{◌≡◌, ◌∙◌, ◌≤◌, ◌<◌, ◌+◌, arith, refl, sym, ap, subst, inl, inr, ℕ, Bool, true, false, not, cond, ◌||◌, ◌&&◌, List, [], ◌∷◌, ◌++◌, length, map, take, drop, BTreeSet}
-use Rattle.std.proofs.lemmas.Bool.{cases_Bool}
+use Rattle.std.proofs.Common.{◌≡◌, ◌∙◌, ◌+◌, arith, refl, sym, ap, subst, inl, inr, ℕ, Bool, true, false, not, cond, ◌||◌, ◌&&◌, List, ◌∷◌, ◌++◌, map, take, drop, BTreeSet}
 use Rattle.std.proofs.lemmas.Bool.Decides.{eqb_tells}
 use Rattle.std.specs.BTreeSet.{contains}
 use Rattle.std.specs.Cmp.Lexicographic.{bytes_decides}
 use Rattle.std.specs.List.{slice_get}
 use Rattle.std.specs.Ordering.{nat_cmp}
 use Rattle.std.specs.Prelude.{◌==◌, Option, Some, None}
-use Rattle.std.specs.Str.{bytes_eq}
 use Rattle.au_entries.specs.declared.policy.AuditPolicy.{AuditPolicy}
 use Rattle.au_entries.specs.declared.policy.Enabled.{Enabled}
 use Rattle.au_entries.specs.Changing.{is_on, with_enablement}
 use Rattle.au_entries.specs.Demand.{enablement_of}
 use Rattle.au_expr.specs.declared.placed.Placed.{Placed}
-use Rattle.au_pindex.specs.declared.shift.Shift.TheVariants.{Opens, Closes, Leaves}
+use Rattle.au_pindex.specs.declared.shift.Shift.TheVariants.{Opens, Leaves}
 use Rattle.au_pindex.specs.declared.staged.ConditionEdit.TheVariants as condition
 use Rattle.au_pindex.specs.declared.staged.IndexEdit.{IndexEdit}
 use Rattle.au_grants.specs.Changing.{without}
 use Rattle.au_pindex.specs.descent.Finding.{BelongsAt, StandsAt, is_named, with_policy}
-use Rattle.au_pindex.specs.Indexing.{condition_of, is_listed}
+use Rattle.au_pindex.specs.Indexing.{condition_of}
 use Rattle.au_pindex.specs.Naming.{is_enabled, names_action, names_privilege, names_role, names_table}
 use Rattle.au_pindex.specs.Places.{passes, passes_at}
 use Rattle.au_pindex.specs.descent.Shifting.{came_from}

@@ -1,6 +1,5 @@
 -- What is left of buckets whose places are shifted.
 use Rattle.std.proofs.Common.{◌≡◌, ◌∙◌, ◌≤◌, ◌^◌, refl, sym, ap, subst, ℕ, Bool, true, false, cond, ◌||◌, ◌&&◌, nat_lt, List, [], ◌∷◌, Vec, Global, arith}
-use Rattle.std.specs.BTreeMap.{BTreeMap, get}
 use Rattle.std.specs.List.{list_any}
 use Rattle.std.specs.List.Retain.{RetainsInTurn}
 use Rattle.std.specs.Map.{lookup}

@@ -1,9 +1,11 @@
 -- Buckets that get room, and places that use it up, one key after another.
-use Rattle.std.proofs.Common.{◌≡◌, ◌∙◌, ◌≤◌, ◌<◌, ◌+◌, inl, inr, refl, sym, ap, subst, ℕ, zero, suc, Bool, true, false, ◌||◌, ◌&&◌, List, [], ◌∷◌, ◌++◌, Vec, Global, BTreeMap, length, get_or, take, drop, arith, add-one, drop-cons}
+use Rattle.std.proofs.Common.{◌≡◌, ◌∙◌, ◌≤◌, ◌<◌, ◌+◌, inl, inr, refl, sym, ap, ℕ, zero, suc, Bool, true, false, ◌||◌, ◌&&◌, List, [], ◌∷◌, ◌++◌, Vec, Global, BTreeMap, length, get_or, take, drop, arith, add-one, drop-cons}
 use Rattle.std.proofs.lemmas.Bool.{or_cases, or_left, or_right}
 use Rattle.std.proofs.lemmas.List.{take_more}
 use Rattle.std.proofs.lemmas.List.Folds.{list_any-append}
+use Rattle.std.specs.Cmp.Lexicographic.{slice_cmp}
 use Rattle.std.specs.List.{list_any}
+use Rattle.std.specs.Ordering.{nat_cmp}
 use Rattle.std.specs.Prelude.{◌==◌}
 use Rattle.std.specs.declared.cmp.Ordering.{Ordering}
 use Rattle.au_base.specs.Actions as actions
@@ -12,10 +14,22 @@ use Rattle.au_entries.specs.declared.policy.AuditPolicy.{AuditPolicy}
 use Rattle.au_pindex.specs.declared.bucketed.Bucketed.{Bucketed}
 use Rattle.au_pindex.specs.descent.Adding.{AddsPolicy}
 use Rattle.au_pindex.specs.descent.Rooms.{KeepAllPlaces, KeepPlaces}
+use Rattle.au_pindex.specs.Indexing.{table_cmp}
 use Rattle.au_pindex.specs.Naming.{names_action, names_privilege, names_role, names_table}
 
 pub keep_on : {K : Type 0} (cmp : K → K → Ordering) (a b c : BTreeMap K (Vec ℕ Global)) → KeepPlaces cmp a b → KeepPlaces cmp b c → KeepPlaces cmp a c
 keep_on cmp a b c one two = record { places = λ key at. two.places key at ∙ one.places key at; rooms = λ key. omega (arith, one.rooms key, two.rooms key) }
+
+pub keep_same : {K : Type 0} (cmp : K → K → Ordering) (buckets : BTreeMap K (Vec ℕ Global)) → KeepPlaces cmp buckets buckets
+keep_same cmp buckets = record { places = λ key at. refl; rooms = λ key. omega arith }
+
+pub all_kept : (buckets : Bucketed) → KeepAllPlaces buckets buckets
+all_kept buckets = record {
+  actions = keep_same nat_cmp buckets.actions;
+  tables = keep_same table_cmp buckets.tables;
+  privileges = keep_same nat_cmp buckets.privileges;
+  roles = keep_same (slice_cmp nat_cmp) buckets.roles;
+}
 
 -- what stands at a place, whatever stands for what isn't there
 pub reread : {X : Type 0} (xs : List X) (i : ℕ) (d e : X) → i < length xs → get_or xs i d ≡ get_or xs i e

@@ -1,5 +1,5 @@
 //! An index made anew, of what changes make of a catalogue.
-ghost use Rattle.std.specs.Prelude.{◌≡◌, ℕ, List as Sequence, [], IfOk, OnOk, None, map};
+ghost use Rattle.std.specs.Prelude.{◌≡◌, ℕ, List as Sequence, IfOk, None, map};
 ghost use Rattle.au_catalog.specs.Settling.{catalog_after_all, condition_texts};
 ghost use Rattle.au_pindex.specs.descent.Anew.{HasPolicies, policies_alone};
 ghost use Rattle.au_pindex.specs.Indexing.{IsIndexOf};
@@ -7,9 +7,9 @@ ghost use Rattle.au_policy.specs.Asking.{CanBeAsked};
 ghost use Rattle.sql_ast.specs.declared.expression.Expr.{Expr as Tree};
 
 use crate::index::Index;
-use au_base::{List, Memory, Name};
+use au_base::{List, Memory};
 use au_catalog::Catalog;
-use au_entries::{AuditPolicy, Change, Condition, Enabled, Evaluate};
+use au_entries::{AuditPolicy, Change, Condition, Evaluate};
 use sql_ast::Expr;
 use std::alloc::Global;
 

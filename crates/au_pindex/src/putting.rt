@@ -1,5 +1,5 @@
 //! Edits of an index where policies come, stand anew and go.
-ghost use Rattle.std.specs.Prelude.{◌≡◌, ◌≤◌, ◌<◌, ◌+◌, IfOk, None, Some, if◌then◌else◌, length, vec_capacity, vec_len};
+ghost use Rattle.std.specs.Prelude.{◌≡◌, ◌≤◌, ◌<◌, IfOk, None, Some, if◌then◌else◌, length};
 ghost use Rattle.au_entries.specs.declared.policy.AuditPolicy.{AuditPolicy as AnyPolicy};
 ghost use Rattle.au_grants.specs.Changing.{without};
 ghost use Rattle.au_pindex.specs.descent.Finding.{is_named, with_policy};

@@ -1,6 +1,6 @@
 //! Changes of a catalogue, staged on its index.
 ghost use Rattle.std.specs.Prelude.{◌≡◌, ℕ, List as Sequence, [], ◌∷◌, IfOk, None, Some, false, map, option_map};
-ghost use Rattle.au_catalog.specs.Settling.{catalog_after_all, condition_texts, texts_in, when_texts};
+ghost use Rattle.au_catalog.specs.Settling.{catalog_after_all, condition_texts, when_texts};
 ghost use Rattle.au_entries.specs.declared.policy.AuditPolicy.{AuditPolicy as AnyPolicy};
 ghost use Rattle.au_entries.specs.declared.policy.Enabled.{Enabled};
 ghost use Rattle.au_entries.specs.Changing.{enabled_after, policies_after, with_tree};
@@ -8,7 +8,7 @@ ghost use Rattle.au_expr.specs.Resolving.{IsCondition, placed};
 ghost use Rattle.au_pindex.specs.descent.Changing.{changes_policies};
 ghost use Rattle.au_pindex.specs.declared.index.Index.{Index as AnyIndex};
 ghost use Rattle.au_pindex.specs.Indexing.{IsIndexOf};
-ghost use Rattle.au_pindex.specs.Staging.{Fits, FitsEdit, FitsMade, IsStaged, Leads, LeadsBy};
+ghost use Rattle.au_pindex.specs.Staging.{Fits, FitsEdit, IsStaged, Leads};
 ghost use Rattle.au_pindex.specs.descent.Edits.{Keeps};
 ghost use Rattle.au_policy.specs.Asking.{CanBeAsked, IsTruthOverNone};
 ghost use Rattle.sql_ast.specs.declared.expression.Expr.{Expr as Tree};

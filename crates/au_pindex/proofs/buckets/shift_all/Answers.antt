@@ -1,4 +1,4 @@
-use Rattle.std.proofs.Common.{rules, ℕ}
+use Rattle.std.proofs.Common.{rules}
 use Rattle.au_pindex.specs.descent.Shifting.{came_from}
 use Rattle.au_pindex.proofs.Shifted.{IsShifted, become, shifted_as, shifted_places, shifted_room}
 use Rattle.au_pindex.proofs.buckets.shift_all.Goals as goal

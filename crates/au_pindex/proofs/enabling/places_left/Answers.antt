@@ -1,4 +1,4 @@
-use Rattle.std.proofs.Common.{◌≡◌, ◌∙◌, ◌&&◌, ℕ, List, ap, refl}
+use Rattle.std.proofs.Common.{◌∙◌, ◌&&◌, ℕ, List, ap, refl}
 use Rattle.std.proofs.lemmas.List.{take_all}
 use Rattle.std.specs.List.{list_any, slice_get}
 use Rattle.std.specs.Str.{bytes_eq}

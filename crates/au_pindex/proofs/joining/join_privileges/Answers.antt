@@ -1,4 +1,4 @@
-use Rattle.std.proofs.Common.{get_or, ℕ}
+use Rattle.std.proofs.Common.{get_or}
 use Rattle.std.specs.Prelude.{◌==◌}
 use Rattle.au_base.specs.declared.privilege.Privilege.TheVariants.{AlterUser}
 use Rattle.au_base.specs.Privileges.{code_of}

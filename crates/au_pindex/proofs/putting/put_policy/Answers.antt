@@ -1,4 +1,4 @@
-use Rattle.std.proofs.Common.{◌∙◌, arith, length, subst, sym}
+use Rattle.std.proofs.Common.{subst}
 use Rattle.std.proofs.lemmas.Result.{IfOk-weaker}
 use Rattle.au_pindex.specs.descent.Finding.{BelongsAt, StandsAt}
 use Rattle.au_pindex.proofs.Leading.{put_adds, put_replaces}

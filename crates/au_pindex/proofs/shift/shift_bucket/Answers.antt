@@ -1,4 +1,4 @@
-use Rattle.std.proofs.Common.{◌∙◌, ◌^◌, ℕ, rules, nat_lt, ◌&&◌, sym, ap}
+use Rattle.std.proofs.Common.{◌∙◌, ◌^◌, rules, nat_lt, ◌&&◌, sym, ap}
 use Rattle.std.specs.Prelude.{◌==◌}
 use Rattle.au_pindex.specs.Places.{passes}
 use Rattle.au_pindex.specs.descent.Shifting.{came_from}

@@ -1,4 +1,4 @@
-use Rattle.std.proofs.Common.{◌∙◌, ap, length, refl}
+use Rattle.std.proofs.Common.{◌∙◌, ap, length}
 use Rattle.std.proofs.lemmas.Result.{IfOk-weaker}
 use Rattle.au_pindex.specs.Indexing.{condition_of}
 use Rattle.au_pindex.proofs.Afterwards.{policy_leads, policy_texts, policy_truth, whole}

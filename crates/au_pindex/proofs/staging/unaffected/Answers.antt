@@ -1,4 +1,4 @@
-use Rattle.std.proofs.Common.{List, ℕ, subst, sym}
+use Rattle.std.proofs.Common.{subst, sym}
 use Rattle.au_entries.specs.Changing.{enabled_after, policies_after}
 use Rattle.au_pindex.specs.Staging.{Leads}
 use Rattle.au_pindex.proofs.Afterwards.{unaffected}
