@@ -80,14 +80,14 @@ fn change_of(grant: &GrantChange) -> Result<Change, Memory>
     }
 }
 
-fn names(alloc: Global, roles: &[Name]) -> Result<List<Name>, Memory>
-    ensures { IfOk result (λ names. names ≡ roles.now) }
+fn copied(alloc: Global, names: &[Name]) -> Result<List<Name>, Memory>
+    ensures { IfOk result (λ copy. copy ≡ names.now) }
 {
-    let mut names = List::new(alloc);
-    for role in roles {
-        names.push(role.clone()?)?;
+    let mut copy = List::new(alloc);
+    for name in names {
+        copy.push(name.clone()?)?;
     }
-    Ok(names)
+    Ok(copy)
 }
 
 // What is there of the names that the statement names.
@@ -126,7 +126,7 @@ fn known_of_rights(
     requires order { IsSorted case.now }
     ensures { IfOk result (λ known. known ≡ known_of_rights (lent case.now) rights.now grantees.now) }
 {
-    let named = with_roles(names(alloc, grantees)?, rights)?;
+    let named = with_roles(copied(alloc, grantees)?, rights)?;
     Ok(Known {
         users: users_among(alloc, case, grantees)?,
         roles: roles_among(alloc, case, named.as_slice())?,

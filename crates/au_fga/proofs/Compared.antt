@@ -196,7 +196,7 @@ column_first law table x asked a b comparison is condition sides session cells f
     let named = sides_named (range_of table ∷ []) asked a b (subst (IsCondition (range_of table ∷ [])) is condition) in
     let one = cell_or_null (slice_get cells comparison.place) in
     ap (λ (r : Relation). cell_compares r one (bound_cell comparison.bound)) sides.relation
-    ∙ compared_is law table asked a b session cells one (bound_cell comparison.bound) (sides.column named.0 session cells) (sides.bound session cells) fits
+    ∙ compared_is law table asked a b session cells one (bound_cell comparison.bound) (sides.column named.0 session cells) (sides.bound table session cells) fits
     ∙ ap (λ (e : Expr). is_yes (truth_in_table session (Some table) e cells)) (sym is)
 
 pub column_second : NamesOrPlaces → (table : Table) (x : Expr) (asked back : Relation) (a b : Expr) (comparison : Comparison) → x ≡ expr.Compare asked a b → IsCondition (range_of table ∷ []) x
@@ -206,7 +206,7 @@ column_second law table x asked back a b comparison is condition way sides sessi
     let one = cell_or_null (slice_get cells comparison.place) in
     ap (λ (r : Relation). cell_compares r one (bound_cell comparison.bound)) (sides.relation ∙ way)
     ∙ turned_compares asked one (bound_cell comparison.bound)
-    ∙ compared_is law table asked a b session cells (bound_cell comparison.bound) one (sides.bound session cells) (sides.column named.1 session cells) fits
+    ∙ compared_is law table asked a b session cells (bound_cell comparison.bound) one (sides.bound table session cells) (sides.column named.1 session cells) fits
     ∙ ap (λ (e : Expr). is_yes (truth_in_table session (Some table) e cells)) (sym is)
 
 -- ---- as the code finds them

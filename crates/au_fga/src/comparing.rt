@@ -63,7 +63,7 @@ fn column_with<'a>(
 ) -> Option<Comparison<'a>>
     ensures { IfSome result (Compares table.now relation column.now other.now) }
 {
-    match (place_of(column, table), bound_of(other, table)) {
+    match (place_of(column, table), bound_of(other)) {
         (Some(place), Some(bound)) => Some(Comparison {
             place,
             relation,
@@ -90,8 +90,8 @@ fn first_of(columns: &[Column], name: &Name) -> Option<usize>
     columns.iter().position(|column| column.name == *name)
 }
 
-fn bound_of<'a>(side: &'a Expr, table: &Table) -> Option<Bound<'a>>
-    ensures { IfSome result (IsBound table.now side.now) }
+fn bound_of<'a>(side: &'a Expr) -> Option<Bound<'a>>
+    ensures { IfSome result (IsBound side.now) }
 {
     match side {
         Expr::Number(number) => Some(Bound::Number(*number)),

@@ -9,8 +9,8 @@ use au_base::{Cell, List, Memory, TableName, is_same_table};
 use au_expr::SessionFacts;
 use std::alloc::Global;
 
-// So many rows are tested by all candidates before the next ones are: few enough that their cells
-// are still in the processor's cache when the next candidate reads them.
+// So many rows are tested by all candidates before the next ones are: few enough that, of most
+// tables, their cells are still in the processor's cache when the next candidate reads them.
 const PIECE: usize = 1_000;
 
 /// Of each candidate, whether a touched row of its table passes its test. Nothing is allocated for a

@@ -19,7 +19,7 @@ use std::alloc::Global;
 pub enum Test<'a> {
     /// Each passes.
     Every,
-    /// By one comparison, in a loop that calls nothing.
+    /// By one comparison of a cell, without the condition's tree.
     Compared(Comparison<'a>),
     /// By any other condition.
     Resolved(Resolved),

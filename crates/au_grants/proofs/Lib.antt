@@ -9,6 +9,7 @@ pub mod Halving
 pub mod Holders
 pub mod Inserted
 pub mod Limits
+pub mod LoneReach
 pub mod Members
 pub mod Merging
 pub mod Moving

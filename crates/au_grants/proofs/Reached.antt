@@ -237,12 +237,16 @@ get_back [] k d within = absurd (omega (arith, within))
 get_back (x ∷ xs) zero d within = refl
 get_back (x ∷ xs) (suc k) d within = get_back xs k d (omega (arith, within))
 
+-- the role of a grant is granted to its grantee
+pub granted_at : (roles : List RoleEntry) (i : ℕ) → i < length roles → IsRoleGranted roles (grantee_at roles i) (role_at roles i)
+granted_at roles i within = ((get_or roles i nothing).2, (i, within, get_back roles i nothing within))
+
 -- the role of a grant between is granted to the grantee
 pub between_granted : (roles : List RoleEntry) (place end i : ℕ) → EndAt roles place end → place ≤ i → i < end → IsRoleGranted roles (grantee_at roles place) (role_at roles i)
 between_granted roles place end i ends from to =
     let within : i < length roles = (let le = ends.within in omega (arith, to, le)) in
     let grantee : grantee_at roles i ≡ grantee_at roles place = ends.same i from to in
-    subst (λ name. IsRoleGranted roles name (role_at roles i)) grantee ((get_or roles i nothing).2, (i, within, get_back roles i nothing within))
+    subst (λ name. IsRoleGranted roles name (role_at roles i)) grantee (granted_at roles i within)
 
 step_queued : (roles : List RoleEntry) (queue : List ℕ) (count : ℕ) → ((k : ℕ) (role : Name) → k < count → IsRoleGranted roles (grantee_at roles (queued_at queue k)) role → IsQueued roles queue count role)
     → (from role : Name) → IsQueued roles queue count from → IsRoleGranted roles from role → IsQueued roles queue count role

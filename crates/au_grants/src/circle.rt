@@ -5,6 +5,7 @@ ghost use Rattle.au_grants.specs.Rights.{HoldsRole, IsHolder, IsRoleGranted};
 ghost use Rattle.au_grants.specs.descent.Search.{IsFirstGrant, IsReach, grantee_at, role_at};
 
 use crate::direct::is_grantee;
+use crate::lone::lone_place;
 use crate::searching::{end_of_grants, reach, role_of};
 use au_base::{Memory, Name};
 use std::alloc::Global;
@@ -36,6 +37,9 @@ fn is_held(
 {
     if !is_grantee(roles, user) {
         return Ok(false);
+    }
+    if let Some(place) = lone_place(roles, user) {
+        return Ok(is_granted_to_some(roles, user, &[place], 1, role.as_str()));
     }
     let mut marks = Vec::new(alloc);
     marks.resize(roles.len(), false)?;

@@ -8,6 +8,7 @@ ghost use Rattle.au_grants.specs.descent.Search.{IsFirstGrant, IsFirstOf, IsGive
 
 use crate::direct::{is_granted, is_grantee};
 use crate::grants::Grants;
+use crate::lone::lone_place;
 use crate::right::Sought;
 use crate::searching::{FEW_ROLES, end_of_grants, has_admin, reach, role_of};
 use au_base::Name;
@@ -35,8 +36,8 @@ fn first_granted(grants: &Grants, holder: &Name, rights: &[Sought<'_>]) -> usize
     rights.len()
 }
 
-// Most users hold no role, and most stores have few grants of roles: the search takes places for
-// as many grants as there can be only where it has to.
+// Most users hold no role, or roles that hold none, and most stores have few grants of roles: the
+// search takes places for as many grants as there can be only where it has to.
 fn first_by_role(grants: &Grants, user: &Name, rights: &[Sought<'_>], limit: usize) -> usize
     requires { limit ≤ length rights.now }
     ensures { IsFirstOf (λ j. IsGivenByRole grants.now user.now (right_at rights.now j)) limit result }
@@ -47,6 +48,9 @@ fn first_by_role(grants: &Grants, user: &Name, rights: &[Sought<'_>], limit: usi
     let roles = grants.role_grants();
     if !is_grantee(roles, user) {
         return limit;
+    }
+    if let Some(place) = lone_place(roles, user) {
+        return first_found(grants, user, &[place], 1, rights, limit);
     }
     if roles.len() <= FEW_ROLES {
         first_by_search::<FEW_ROLES>(grants, user, rights, limit)

@@ -15,6 +15,7 @@ mod holding;
 mod kind;
 mod laws;
 mod lists;
+mod lone;
 mod places;
 mod right;
 mod room;
@@ -23,6 +24,7 @@ mod staged;
 
 pub use change::GrantChange;
 pub use course::Course;
+pub use direct::{has_object, has_privilege, has_privilege_as, has_role, has_role_as};
 pub use draft::GrantDraft;
 pub use grants::Grants;
 pub use laws::{

@@ -5,5 +5,4 @@ pub mod Limits
 pub mod Needing
 pub mod Refusals
 pub mod Tables
-pub mod Together
 pub mod Walks

@@ -1,4 +1,3 @@
 pub mod Asking
-pub mod Granted
 pub mod Judging
 pub mod Progressing

@@ -3,7 +3,8 @@
 use au_base::{Code, List, Name, Privilege, TableName};
 use au_grants::GrantChange;
 
-/// The users, roles and tables that are there. The built-in tables aren't listed.
+/// The users, roles and tables that are there, or those of them that the statement names. The
+/// built-in tables aren't listed.
 #[derive(Debug, Drop, PartialEq, Eq)]
 pub struct Known {
     pub users: List<Name>,

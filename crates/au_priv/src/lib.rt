@@ -6,7 +6,6 @@ mod allowed;
 mod allowing;
 mod decided;
 mod deciding;
-mod granted;
 mod judging;
 mod laws;
 mod pair;

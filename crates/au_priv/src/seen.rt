@@ -4,9 +4,10 @@ ghost use Rattle.std.specs.List.{list_any};
 ghost use Rattle.au_grants.specs.Holding.{grants_object, grants_privilege, grants_privilege_as, grants_role, grants_role_as};
 ghost use Rattle.au_grants.specs.Rights.{IsHolder};
 
-use crate::granted::{ObjectTo, PrivilegeTo, RoleTo, with_key};
 use au_base::{Action, Memory, Name, Privilege, TableName};
-use au_grants::{Course, Grants};
+use au_grants::{
+    Course, Grants, has_object, has_privilege, has_privilege_as, has_role, has_role_as,
+};
 use std::alloc::Global;
 
 /// Grants as a pair sees them.
@@ -85,7 +86,7 @@ impl GrantsSeen for Course {
 
 /// Grants that are lent. No question takes memory: a grant is found by halving, and a circle is
 /// looked for among the roles that the granted role holds.
-#[derive(Clone, Copy)]
+#[derive(Drop)]
 pub struct Lent<'a> {
     pub grants: &'a Grants,
 }
@@ -102,34 +103,23 @@ impl GrantsSeen for Lent<'_> {
     }
 
     fn has_privilege(&self, grantee: &Name, privilege: Privilege) -> bool {
-        self.has_privilege_as(grantee, privilege, false)
+        has_privilege(self.grants.system_grants(), grantee, privilege)
     }
 
     fn has_privilege_as(&self, grantee: &Name, privilege: Privilege, admin: bool) -> bool {
-        let key = PrivilegeTo { grantee, privilege };
-        with_key(self.grants.system_grants(), &key)
-            .iter()
-            .any(|grant| grant.2 || !admin)
+        has_privilege_as(self.grants.system_grants(), grantee, privilege, admin)
     }
 
     fn has_role(&self, grantee: &Name, role: &str) -> bool {
-        self.has_role_as(grantee, role, false)
+        has_role(self.grants.role_grants(), grantee, role)
     }
 
     fn has_role_as(&self, grantee: &Name, role: &str, admin: bool) -> bool {
-        let key = RoleTo { grantee, role };
-        with_key(self.grants.role_grants(), &key)
-            .iter()
-            .any(|grant| grant.2 || !admin)
+        has_role_as(self.grants.role_grants(), grantee, role, admin)
     }
 
     fn has_object(&self, grantee: &Name, table: &TableName, action: Action) -> bool {
-        let key = ObjectTo {
-            grantee,
-            table,
-            action,
-        };
-        !with_key(self.grants.object_grants(), &key).is_empty()
+        has_object(self.grants.object_grants(), grantee, table, action)
     }
 
     fn closes_circle(

@@ -1,24 +1,18 @@
 -- What stands at the place of what is sought says whether it is there.
-use Rattle.std.proofs.Common.{◌≡◌, ◌≤◌, ◌<◌, ℕ, true, false, ◌==◌, List, [], ◌∷◌, length, get_or, map, sym, ap, arith}
+use Rattle.std.proofs.Common.{◌≡◌, ◌≤◌, ◌<◌, ℕ, true, false, List, [], ◌∷◌, length, get_or, map, sym, arith}
 use Rattle.std.specs.Prelude.{nat_lt}
 use Rattle.std.specs.List.{list_any}
 use Rattle.std.specs.Str.{bytes_eq}
 use Rattle.std.proofs.lemmas.Bool.{and_parts, and_from}
 use Rattle.std.proofs.lemmas.Bool.Decides.{nat_tests}
 use Rattle.std.proofs.lemmas.Slice.Eq.{bytes_eq-Decides}
-use Rattle.au_base.specs.declared.action.Action.{Action}
-use Rattle.au_base.specs.declared.privilege.Privilege.{Privilege}
 use Rattle.au_base.specs.declared.table.TableName.{TableName}
-use Rattle.au_base.specs.Actions as actions
 use Rattle.au_base.specs.Order.{fields_before, name_before}
-use Rattle.au_base.specs.Privileges as privileges
-use Rattle.au_base.specs.Sameness.{same_privilege, same_table}
+use Rattle.au_base.specs.Sameness.{same_table}
 use Rattle.au_entries.specs.declared.fine_grained.FgaPolicy.{FgaPolicy}
 use Rattle.au_entries.specs.declared.table.Table.{Table}
 use Rattle.au_entries.specs.Changing.{fga_fields, is_fga, table_fields}
-use Rattle.au_grants.specs.Holding.{grants_object, grants_privilege, grants_role}
-use Rattle.au_grants.specs.Order.{is_in_order, object_before, object_fields, role_before, role_fields, system_before, system_fields}
-use Rattle.au_grants.specs.Rights.{ObjectEntry, RoleEntry, SystemEntry}
+use Rattle.au_grants.specs.Order.{is_in_order}
 use Rattle.au_replay.specs.descent.Places.{IsPlaceOf}
 use Rattle.au_replay.proofs.Halving.{IsFront, any_at, by_fields, by_names, none_at}
 
@@ -27,12 +21,6 @@ same_name-is a b is = (bytes_eq-Decides a b).0 is
 
 pub same_name-to : (a b : List ℕ) → a ≡ b → bytes_eq a b ≡ true
 same_name-to a b same = (bytes_eq-Decides a b).1 same
-
-nat_is : (m n : ℕ) → (m == n) ≡ true → m ∷ [] ≡ n ∷ []
-nat_is m n is = let same : m ≡ n = grind (arith, nat_tests) in ap (λ k. k ∷ []) same
-
-nat_to : (m n : ℕ) → m ∷ [] ≡ n ∷ [] → (m == n) ≡ true
-nat_to m n same = let e : m ≡ n = ap (λ xs. get_or xs 0 0) same in grind (arith, nat_tests)
 
 -- what isn't within fails the test
 pub past : (k n : ℕ) → n ≤ k → nat_lt k n ≡ false
@@ -111,61 +99,3 @@ fga_at table policy xs k d ordered place within =
 
 pub no_fga : (table : TableName) (policy : List ℕ) (xs : List FgaPolicy) (k : ℕ) → IsPlaceOf fields_of_fga (fga_fields table policy) xs k → length xs ≤ k → false ≡ list_any (is_fga table policy) xs
 no_fga table policy xs k place end = sym (none_at fields_of_fga (fga_fields table policy) (is_fga table policy) xs k (fga_front table policy) place end)
-
--- ---- grants
-
-abbrev pub system_key : List ℕ → Privilege → List (List ℕ)
-system_key grantee privilege = grantee ∷ (privileges.code_of privilege ∷ []) ∷ []
-
-system_front : (grantee : List ℕ) (privilege : Privilege) (x : SystemEntry) → grants_privilege grantee privilege x ≡ true → IsFront (system_key grantee privilege) (system_fields x)
-system_front grantee privilege x is =
-    let parts = and_parts (bytes_eq x.0 grantee) (same_privilege x.1 privilege) is in
-    (same_name-is _ _ parts.0, (nat_is _ _ parts.1, tt))
-
-system_from : (grantee : List ℕ) (privilege : Privilege) (x : SystemEntry) → IsFront (system_key grantee privilege) (system_fields x) → grants_privilege grantee privilege x ≡ true
-system_from grantee privilege x front = and_from _ _ (same_name-to _ _ front.0) (nat_to _ _ front.1.0)
-
-pub system_at : (grantee : List ℕ) (privilege : Privilege) (xs : List SystemEntry) (k : ℕ) (d : SystemEntry) → is_in_order system_before xs ≡ true
-    → IsPlaceOf system_fields (system_key grantee privilege) xs k → k < length xs → grants_privilege grantee privilege (get_or xs k d) ≡ list_any (grants_privilege grantee privilege) xs
-system_at grantee privilege xs k d ordered place within =
-    sym (any_at system_fields (system_key grantee privilege) (grants_privilege grantee privilege) xs k d (system_front grantee privilege) (system_from grantee privilege) ordered place within)
-
-pub no_system : (grantee : List ℕ) (privilege : Privilege) (xs : List SystemEntry) (k : ℕ) → IsPlaceOf system_fields (system_key grantee privilege) xs k → length xs ≤ k
-    → false ≡ list_any (grants_privilege grantee privilege) xs
-no_system grantee privilege xs k place end = sym (none_at system_fields (system_key grantee privilege) (grants_privilege grantee privilege) xs k (system_front grantee privilege) place end)
-
-role_front : (grantee role : List ℕ) (x : RoleEntry) → grants_role grantee role x ≡ true → IsFront (grantee ∷ role ∷ []) (role_fields x)
-role_front grantee role x is = let parts = and_parts (bytes_eq x.0 grantee) (bytes_eq x.1 role) is in (same_name-is _ _ parts.0, (same_name-is _ _ parts.1, tt))
-
-role_from : (grantee role : List ℕ) (x : RoleEntry) → IsFront (grantee ∷ role ∷ []) (role_fields x) → grants_role grantee role x ≡ true
-role_from grantee role x front = and_from _ _ (same_name-to _ _ front.0) (same_name-to _ _ front.1.0)
-
-pub role_at : (grantee role : List ℕ) (xs : List RoleEntry) (k : ℕ) (d : RoleEntry) → is_in_order role_before xs ≡ true → IsPlaceOf role_fields (grantee ∷ role ∷ []) xs k → k < length xs
-    → grants_role grantee role (get_or xs k d) ≡ list_any (grants_role grantee role) xs
-role_at grantee role xs k d ordered place within = sym (any_at role_fields (grantee ∷ role ∷ []) (grants_role grantee role) xs k d (role_front grantee role) (role_from grantee role) ordered place within)
-
-pub no_role : (grantee role : List ℕ) (xs : List RoleEntry) (k : ℕ) → IsPlaceOf role_fields (grantee ∷ role ∷ []) xs k → length xs ≤ k → false ≡ list_any (grants_role grantee role) xs
-no_role grantee role xs k place end = sym (none_at role_fields (grantee ∷ role ∷ []) (grants_role grantee role) xs k (role_front grantee role) place end)
-
-abbrev pub object_key : List ℕ → TableName → Action → List (List ℕ)
-object_key grantee table action = grantee ∷ table.owner ∷ table.name ∷ (actions.code_of action ∷ []) ∷ []
-
-object_front : (grantee : List ℕ) (table : TableName) (action : Action) (x : ObjectEntry) → grants_object grantee table action x ≡ true → IsFront (object_key grantee table action) (object_fields x)
-object_front grantee table action x is =
-    let parts = and_parts _ (actions.code_of x.2 == actions.code_of action) is in
-    let front = and_parts (bytes_eq x.0 grantee) _ parts.0 in
-    let on = and_parts (bytes_eq x.1.owner table.owner) (bytes_eq x.1.name table.name) front.1 in
-    (same_name-is _ _ front.0, (same_name-is _ _ on.0, (same_name-is _ _ on.1, (nat_is _ _ parts.1, tt))))
-
-object_from : (grantee : List ℕ) (table : TableName) (action : Action) (x : ObjectEntry) → IsFront (object_key grantee table action) (object_fields x) → grants_object grantee table action x ≡ true
-object_from grantee table action x front =
-    and_from _ _ (and_from _ _ (same_name-to _ _ front.0) (and_from _ _ (same_name-to _ _ front.1.0) (same_name-to _ _ front.1.1.0))) (nat_to _ _ front.1.1.1.0)
-
-pub object_at : (grantee : List ℕ) (table : TableName) (action : Action) (xs : List ObjectEntry) (k : ℕ) (d : ObjectEntry) → is_in_order object_before xs ≡ true
-    → IsPlaceOf object_fields (object_key grantee table action) xs k → k < length xs → grants_object grantee table action (get_or xs k d) ≡ list_any (grants_object grantee table action) xs
-object_at grantee table action xs k d ordered place within =
-    sym (any_at object_fields (object_key grantee table action) (grants_object grantee table action) xs k d (object_front grantee table action) (object_from grantee table action) ordered place within)
-
-pub no_object : (grantee : List ℕ) (table : TableName) (action : Action) (xs : List ObjectEntry) (k : ℕ) → IsPlaceOf object_fields (object_key grantee table action) xs k → length xs ≤ k
-    → false ≡ list_any (grants_object grantee table action) xs
-no_object grantee table action xs k place end = sym (none_at object_fields (object_key grantee table action) (grants_object grantee table action) xs k (object_front grantee table action) place end)

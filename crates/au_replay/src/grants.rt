@@ -8,10 +8,10 @@ ghost use Rattle.au_grants.specs.Rights.{IsHolder};
 ghost use Rattle.au_replay.specs.Sights.{Goes, IsSorted, grants_of, shown};
 
 use crate::finding::has_table;
-use crate::granted::{has_object, has_privilege, has_role as has_role_grant};
 use crate::sight::{GrantsSeen, Sight};
 use crate::users::{has_grantee, has_role};
 use au_base::{Action, Memory, Name, Privilege, TableName};
+use au_grants::{has_object, has_privilege, has_role as is_role_granted};
 use std::alloc::Global;
 
 impl<'a> GrantsSeen<'a> {
@@ -100,7 +100,7 @@ pub fn role_grant_goes_on(
 pub fn role_revoke_goes_on(sight: &Sight<'_>, grantee: &Name, role: &Name) -> bool
     ensures { IsTrue result ↔ Goes sight.now (change.RoleRevoke grantee.now role.now) }
 {
-    has_role_grant(sight.grants.role_grants(), grantee, role)
+    is_role_granted(sight.grants.role_grants(), grantee, role.as_str())
 }
 
 /// Whether an object privilege may be granted: the grantee and the table are there.

@@ -8,7 +8,6 @@ mod finding;
 mod fine_grained;
 mod fitting;
 mod going;
-mod granted;
 mod grants;
 mod instance;
 mod laws;

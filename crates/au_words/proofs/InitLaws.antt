@@ -8,7 +8,7 @@ use Rattle.clap.specs.Simple.{App, matches_of}
 use Rattle.clap.specs.Walk.{Text, first_of, rows_of}
 use Rattle.clap.specs.declared.parser.matches.ArgMatches.{ArgMatches}
 use Rattle.clap.proofs.WalkLemmas.{first_value-rows}
-use Rattle.au_words.specs.Options.{FindsInit, IsFormed, IsLimitOf, two_options}
+use Rattle.au_words.specs.descent.Options.{FindsInit, IsFormed, IsLimitOf, two_options}
 use Rattle.au_words.specs.Words.{AreOptions, IsInit, IsOption, LimitAt, sys_password}
 use Rattle.au_words.proofs.TwoLaws.{AreGiven, AreNames, IsFound, IsGiven, IsTaken, given, taken}
 

@@ -8,7 +8,7 @@ use Rattle.clap.specs.Simple.{App, matches_of}
 use Rattle.clap.specs.Walk.{Text, first_of, rows_of}
 use Rattle.clap.specs.declared.parser.matches.ArgMatches.{ArgMatches}
 use Rattle.clap.proofs.WalkLemmas.{first_value-rows}
-use Rattle.au_words.specs.Options.{FindsSample, IsFormed, two_options}
+use Rattle.au_words.specs.descent.Options.{FindsSample, IsFormed, two_options}
 use Rattle.au_words.specs.Words.{AreBoth, IsNumber, IsRowsText, IsSample, rows_name, seed_name}
 use Rattle.au_words.proofs.TwoLaws.{AreGiven, AreNames, IsFound, IsGiven, IsTaken, given, taken}
 

@@ -20,7 +20,7 @@ use Rattle.clap.specs.declared.parser.matches.ArgMatches.{ArgMatches}
 use Rattle.clap.specs.declared.parser.matches.ValueSource.TheVariants.{CommandLine}
 use Rattle.clap.proofs.CutLemmas.{Lacks}
 use Rattle.clap.proofs.FaultLemmas.{leaf_fault}
-use Rattle.au_words.specs.Options.{Finds, IsFormed, two_options}
+use Rattle.au_words.specs.descent.Options.{Finds, IsFormed, two_options}
 use Rattle.au_words.specs.Words.{AreBoth, InOrder, IsOption}
 use Rattle.au_words.proofs.WalkLaws.{Good, HasOptions, IsNamed, Lacks-cons, Reads, all_fault, at, built_shape, complete, ends, first_none, more_than_none, option_rule, or_else_assoc, rows_behind, second_none, sound, takes, with_option}
 

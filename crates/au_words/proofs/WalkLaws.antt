@@ -17,7 +17,7 @@ use Rattle.clap.specs.declared.error.kind.ErrorKind.{ErrorKind}
 use Rattle.clap.specs.declared.error.kind.ErrorKind.TheVariants.{ArgumentConflict, InvalidValue, UnknownArgument}
 use Rattle.clap.proofs.CutLemmas.{Lacks}
 use Rattle.clap.proofs.LexerLemmas.{name_and_value-at, name_and_value-without}
-use Rattle.au_words.specs.Options.{IsFormed}
+use Rattle.au_words.specs.descent.Options.{IsFormed}
 use Rattle.au_words.specs.Words.{IsOption, IsOwnWord}
 
 -- ---- the command

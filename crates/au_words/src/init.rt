@@ -1,7 +1,7 @@
 //! The options of `init`.
 ghost use Rattle.std.specs.Prelude.{◌≡◌, ◌∷◌, ◌↔◌, ℕ, List, IfOk, IsTrue, MatchOption, codes, false, option_map};
 ghost use Rattle.clap.specs.Words.{app_of};
-ghost use Rattle.au_words.specs.Options.{FindsInit, IsLimitOf, two_options};
+ghost use Rattle.au_words.specs.descent.Options.{FindsInit, IsLimitOf, two_options};
 ghost use Rattle.au_words.specs.Words.{IsInit, IsPassword};
 
 use crate::options::{matches_of, str_words};

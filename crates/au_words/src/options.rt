@@ -3,7 +3,7 @@ ghost use Rattle.std.specs.Prelude.{◌≡◌, ◌↔◌, IfOk, IsTrue, true};
 ghost use Rattle.std.specs.List.{All};
 ghost use Rattle.clap.specs.Walk.{texts};
 ghost use Rattle.clap.specs.Words.{app_of, is_simple_and_free};
-ghost use Rattle.au_words.specs.Options.{Finds, IsFormed};
+ghost use Rattle.au_words.specs.descent.Options.{Finds, IsFormed};
 
 use au_base::{Memory, Text};
 use clap::error::ErrorKind;

@@ -1,7 +1,7 @@
 //! The options of `sample`.
 ghost use Rattle.std.specs.Prelude.{◌≡◌, ◌∷◌, ℕ, List, IfOk, MatchOption, codes, true};
 ghost use Rattle.clap.specs.Words.{app_of};
-ghost use Rattle.au_words.specs.Options.{FindsSample, two_options};
+ghost use Rattle.au_words.specs.descent.Options.{FindsSample, two_options};
 ghost use Rattle.au_words.specs.Words.{IsNumber, IsRowsText, IsSample};
 
 use crate::options::{matches_of, str_words};

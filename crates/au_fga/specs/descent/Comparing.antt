@@ -50,14 +50,14 @@ abbrev pub IsColumnAt : Table → Expr → ℕ → Type 0
 IsColumnAt table side place =
     name_code (range_of table ∷ []) side ≡ None → (session : Session) (cells : List Cell) → value_at (cells ∷ []) session (placed (range_of table ∷ []) side) ≡ Is (cell_or_null (slice_get cells place))
 
--- over each row of the table, the side gives what a column is compared with
-abbrev pub IsBound : Table → Expr → Bound → Type 0
-IsBound table side given = (session : Session) (cells : List Cell) → value_at (cells ∷ []) session (placed (range_of table ∷ []) side) ≡ Is (bound_cell given)
+-- over each row of any table, the side gives what a column is compared with
+abbrev pub IsBound : Expr → Bound → Type 0
+IsBound side given = (table : Table) (session : Session) (cells : List Cell) → value_at (cells ∷ []) session (placed (range_of table ∷ []) side) ≡ Is (bound_cell given)
 
 -- it compares the one side, a column, with the other as is asked
 pub record Compares (table : Table) (asked : Relation) (side other : Expr) (comparison : Comparison) : Type 0 where
   pub column : IsColumnAt table side comparison.place
-  pub bound : IsBound table other comparison.bound
+  pub bound : IsBound other comparison.bound
   pub relation : comparison.relation ≡ asked
 
 -- a row passes the test

@@ -9,12 +9,12 @@ use Rattle.au_fga.proofs.comparing.bound_of.Goals as goal
 use Rattle.sql_ast.specs.declared.expression.Expr.{Expr}
 
 pub returns-in-Number : goal.returns-in-Number
-returns-in-Number c = λ session cells.
-    ap (λ (x : Expr). value_at (cells ∷ []) session (placed (range_of c.args.table.now ∷ []) x)) c.in-Number.is
-    ∙ number_given c.args.table.now c.in-Number.number session cells
+returns-in-Number c = λ table session cells.
+    ap (λ (x : Expr). value_at (cells ∷ []) session (placed (range_of table ∷ []) x)) c.in-Number.is
+    ∙ number_given table c.in-Number.number session cells
     ∙ ap (λ n. Is (cell.Num n)) (let e : c.in-Number.number ≡ to_z w64 (of_z w64 c.in-Number.number) = search rules in e)
 
 pub returns-in-Literal : goal.returns-in-Literal
-returns-in-Literal c =
-    text_found c.args.table.now c.args.side.now c.in-Literal.text c.in-Literal.is
+returns-in-Literal c = λ table.
+    text_found table c.args.side.now c.in-Literal.text c.in-Literal.is
     (some_bytes c.as_bytes.result.now c.in-Literal.text c.is_empty.result c.as_bytes.ensures.value c.is_empty.ensures c.if-not-is_empty.true)
