@@ -1,6 +1,6 @@
 pub mod Buckets
-pub mod Changing
 pub mod Indexing
 pub mod Naming
 pub mod Places
-pub mod Taking
+pub mod Staging
+pub mod descent
