@@ -8,5 +8,5 @@ use Rattle.au_image.proofs.rows.copy_table.Goals as goal
 pub returns : goal.returns
 returns c =
     subst (λ (xs : List KeptRow). OnOk c.push_view.result (c.push_view.new.rows ≡ c.args.rows.now ++ xs))
-    (seen_rows c.args.table.now.name c.args.desk.now.rows _ _ c.requires (ap (map lent) c.as_slice.ensures.value ∙ c.in_ok-view.ensures))
+    (seen_rows c.args.table.now.name c.args.desk.now.rows _ _ (ap (map lent) c.as_slice.ensures.value ∙ c.in_ok-view.ensures))
     c.push_view.ensures

@@ -4,4 +4,4 @@ use Rattle.au_image.proofs.RowPieces.{lent_count}
 use Rattle.au_image.proofs.rows.count_in.Goals as goal
 
 pub returns : goal.returns
-returns c = lent_count c.args.table.now c.args.desk.now.rows _ _ c.requires (ap (map lent) c.as_slice.ensures.value ∙ c.in_ok-view.ensures)
+returns c = lent_count c.args.table.now c.args.desk.now.rows _ _ (ap (map lent) c.as_slice.ensures.value ∙ c.in_ok-view.ensures)

@@ -10,16 +10,16 @@ use Rattle.au_image.proofs.rows.write_table_rows.Goals as goal
 
 pub write_view-requires-clause-left : goal.write_view-requires-clause-left
 write_view-requires-clause-left c =
-    let count = lent_count c.args.table.now c.args.desk.now.rows _ _ c.requires.quiet (ap (map lent) c.as_slice.ensures.value ∙ c.in_ok-view.ensures) in
+    let count = lent_count c.args.table.now c.args.desk.now.rows _ _ (ap (map lent) c.as_slice.ensures.value ∙ c.in_ok-view.ensures) in
     let left = c.requires.left in
     omega (arith, count, left)
 
 pub write_view-requires-clause-spellable : goal.write_view-requires-clause-spellable
 write_view-requires-clause-spellable c =
-    subst (AllByRecursion IsChangeSpellable) (sym (lent_puts c.args.table.now c.args.desk.now.rows _ _ c.requires.quiet (ap (map lent) c.as_slice.ensures.value ∙ c.in_ok-view.ensures))) c.requires.spellable
+    subst (AllByRecursion IsChangeSpellable) (sym (lent_puts c.args.table.now c.args.desk.now.rows _ _ (ap (map lent) c.as_slice.ensures.value ∙ c.in_ok-view.ensures))) c.requires.spellable
 
 pub returns : goal.returns
 returns c =
     subst (λ (cs : List Change). OnOk c.write_view.result (Wrote c.args.writer.now c.write_view.new.writer cs []))
-    (lent_puts c.args.table.now c.args.desk.now.rows _ _ c.requires.quiet (ap (map lent) c.as_slice.ensures.value ∙ c.in_ok-view.ensures))
+    (lent_puts c.args.table.now c.args.desk.now.rows _ _ (ap (map lent) c.as_slice.ensures.value ∙ c.in_ok-view.ensures))
     c.write_view.ensures
