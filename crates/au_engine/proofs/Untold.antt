@@ -169,10 +169,10 @@ quiet_seen forth contents events quiet =
 pub committed_seen : Forth → (engine : Reserved) (commits : Option ClientNo) (events : Told) → open_of (desk_of (contents_of engine)) replayer ≡ []
     → ((client : ClientNo) → open_of (desk_of (contents_of engine)) client ≡ transaction_of engine.state.sessions client)
     → seen_told (sees_as commits) events (contents_of engine) ≡ told (trail_told events) events.last (committed_by commits engine.state).kept
-committed_seen forth engine None events quiet open = quiet_seen forth (contents_of engine) events quiet
-committed_seen forth engine (Some client) events quiet open =
+committed_seen forth engine None events quiet is_open = quiet_seen forth (contents_of engine) events quiet
+committed_seen forth engine (Some client) events quiet is_open =
     let kept = engine.state.kept in
-    ap (λ (changes : List RowChange). kept_of (catalog_of kept) kept.grants (map triple_of (laid_over (map of_triple kept.rows) changes)) (trail_told events) events.last kept.instance) (open client)
+    ap (λ (changes : List RowChange). kept_of (catalog_of kept) kept.grants (map triple_of (laid_over (map of_triple kept.rows) changes)) (trail_told events) events.last kept.instance) (is_open client)
 
 -- a commit leaves the trail
 pub committed_trail : (commits : Option ClientNo) (m : State) → (committed_by commits m).kept.trail ≡ m.kept.trail
@@ -184,10 +184,10 @@ pub committed_after : Forth → (tree : List ℕ → Expr) (engine : Reserved) (
     → open_of (desk_of (contents_of engine)) replayer ≡ [] → ((client : ClientNo) → open_of (desk_of (contents_of engine)) client ≡ transaction_of engine.state.sessions client)
     → finals ≡ length changes → events.last ≡ last → trail_told events ≡ trail_left purge engine.state.kept.trail ++ records
     → seen_told (sees_as commits) events (contents_of engine) ≡ after_parts tree last purge (drop finals changes) records (committed_by commits engine.state).kept
-committed_after forth tree engine commits events last purge changes records finals quiet open all stamped is =
+committed_after forth tree engine commits events last purge changes records finals quiet is_open all stamped is =
     let kept = (committed_by commits engine.state).kept in
     let none = drop_all finals changes (omega (arith, all)) in
-    committed_seen forth engine commits events quiet open
+    committed_seen forth engine commits events quiet is_open
     ∙ (ap (λ (s : Stamp). told (trail_told events) s kept) stamped
     ∙ told_plain tree kept (after_parts tree last purge (drop finals changes) records kept) last purge (drop finals changes) records (trail_told events) none refl
     (is ∙ ap (λ (t : List Record). trail_left purge t ++ records) (sym (committed_trail commits engine.state))))

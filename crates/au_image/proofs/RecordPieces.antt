@@ -29,12 +29,13 @@ behind_it test (t ∷ trail) zero x within is =
     (filter test trail, filter-append test (t ∷ []) trail ∙ ap (λ (y : Record). filter test (y ∷ []) ++ filter test trail) (sym is))
 behind_it test (t ∷ trail) (suc i) x within is =
     let more = behind_it test trail i x (omega arith) is in
-    let behind : List Record = filter test (x ∷ []) ++ more.0 in
-    (more.0,
-    filter-append test (t ∷ []) trail
-    ∙ (ap (λ (rest : List Record). filter test (t ∷ []) ++ rest) more.1
-    ∙ (sym (append_assoc (filter test (t ∷ [])) (filter test (take i trail)) behind)
-    ∙ ap (λ (front : List Record). front ++ behind) (sym (filter-append test (t ∷ []) (take i trail))))))
+    let behind : List Record = filter test (x ∷ []) ++ more.0 in (
+      more.0,
+      filter-append test (t ∷ []) trail
+          ∙ (ap (λ (rest : List Record). filter test (t ∷ []) ++ rest) more.1
+          ∙ (sym (append_assoc (filter test (t ∷ [])) (filter test (take i trail)) behind)
+          ∙ ap (λ (front : List Record). front ++ behind) (sym (filter-append test (t ∷ []) (take i trail))))),
+    )
 
 pub stays_left : (test : Record → Bool) (trail : List Record) (a b : Written) (i : ℕ) (x : Record) → i < length trail → x ≡ get_or trail i x → test x ≡ true
     → length (filter test trail) ≤ a.records → Wrote a b [] (filter test (take i trail)) → 0 < b.records

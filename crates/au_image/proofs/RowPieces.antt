@@ -96,10 +96,10 @@ pub laid_open : Laid → (opened : List OpenTable) (rows : List Row) (changes : 
     → ((row : Row) → Contains rows row → IsTrue (is_open row.table opened))
     → AllByRecursion (λ (change : RowChange). IsTrue (is_open change.table opened)) changes
     → (row : Row) → Contains (laid_over rows changes) row → IsTrue (is_open row.table opened)
-laid_open law opened rows changes open there row has = elim (law rows changes row has) [
-  | inl stood ↦ open row stood
+laid_open law opened rows changes are_open there row has = elim (law rows changes row has) [
+  | inl stood ↦ are_open row stood
   | inr made ↦ (let is_there = λ (change : RowChange). IsTrue (is_open change.table opened) in
-    subst (λ (table : TableName). IsTrue (is_open table opened)) made.2 (All-contains is_there changes made.0 (All-from_recursion is_there changes there) made.1))
+      subst (λ (table : TableName). IsTrue (is_open table opened)) made.2 (All-contains is_there changes made.0 (All-from_recursion is_there changes there) made.1))
 ]
 
 -- ---- one table more

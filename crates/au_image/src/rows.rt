@@ -61,12 +61,7 @@ fn count_by_tables(
     Ok(count)
 }
 
-fn count_in(
-    alloc: Global,
-    desk: &Desk,
-    client: ClientNo,
-    table: &Table,
-) -> Result<usize, Memory>
+fn count_in(alloc: Global, desk: &Desk, client: ClientNo, table: &Table) -> Result<usize, Memory>
     ensures { IfOk result (λ count. count ≡ length (rows_of (seen_by client desk.now) table.now)) }
 {
     let view = desk.view(alloc, client, &table.name)?;

@@ -7,7 +7,7 @@ pub returns : goal.returns
 returns c =
     let desk = c.args.desk.now in
     let changes = open_of desk c.args.client in
-    let open = laid_open c.laid_rows_answer.ensures.laid desk.tables desk.rows changes (λ row has. (c.holds_together.ensures.open row has).0) (c.holds_together.ensures.there c.args.client) in
+    let are_open = laid_open c.laid_rows_answer.ensures.laid desk.tables desk.rows changes (λ row has. (c.holds_together.ensures.open row has).0) (c.holds_together.ensures.there c.args.client) in
     all_rows c.args.tables.now desk.tables (seen_by c.args.client desk) c.requires
     (c.rows_stand_by_tables.ensures.parts desk.tables (seen_by c.args.client desk) c.holds_together.ensures.tables
-    (c.rows_are_what_they_answer.ensures.ordered desk.rows changes c.holds_together.ensures.rows) open)
+    (c.rows_are_what_they_answer.ensures.ordered desk.rows changes c.holds_together.ensures.rows) are_open)

@@ -23,8 +23,8 @@ image_seen-requires c =
     let events : Told = record { trail = c.trail.result; purge = p.purge; records = c.as_slice.result; last = p.last } in
     let is = ap (λ (t : List Record). trail_left p.purge t ++ c.as_slice.result.now) c.trail.ensures ∙ ap (λ (r : List Record). trail_left p.purge e.state.kept.trail ++ r) c.as_slice.ensures.value in
     let same = ap (λ (client : ClientNo). seen_told client events (contents_of e)) c.committing.ensures
-      ∙ committed_after c.rows_are_triples.ensures.forth conditions.tree e (commits_of p.sessions) events p.last p.purge p.changes p.records p.finals
-      c.holds_together.ensures.together.desk_is.quiet c.holds_together.ensures.open_to FINALS refl is in
+    ∙ committed_after c.rows_are_triples.ensures.forth conditions.tree e (commits_of p.sessions) events p.last p.purge p.changes p.records p.finals
+    c.holds_together.ensures.together.desk_is.quiet c.holds_together.ensures.open_to FINALS refl is in
     subst IsWritable (sym same) (kept_writable conditions next c.requires.fits.lawful.kept)
 
 pub returns-then-finals-clause-bytes : goal.returns-then-finals-clause-bytes
@@ -35,8 +35,8 @@ returns-then-finals-clause-bytes c =
     let events : Told = record { trail = c.trail.result; purge = p.purge; records = c.as_slice.result; last = p.last } in
     let is = ap (λ (t : List Record). trail_left p.purge t ++ c.as_slice.result.now) c.trail.ensures ∙ ap (λ (r : List Record). trail_left p.purge e.state.kept.trail ++ r) c.as_slice.ensures.value in
     let same = ap (λ (client : ClientNo). seen_told client events (contents_of e)) c.committing.ensures
-      ∙ committed_after c.rows_are_triples.ensures.forth conditions.tree e (commits_of p.sessions) events p.last p.purge p.changes p.records p.finals
-      c.holds_together.ensures.together.desk_is.quiet c.holds_together.ensures.open_to FINALS refl is in
+    ∙ committed_after c.rows_are_triples.ensures.forth conditions.tree e (commits_of p.sessions) events p.last p.purge p.changes p.records p.finals
+    c.holds_together.ensures.together.desk_is.quiet c.holds_together.ensures.open_to FINALS refl is in
     subst (λ (k : Kept). IfOk c.image_seen.result (λ bytes. bytes.items ≡ framed (image_of k))) same c.image_seen.ensures.bytes
 
 pub returns-then-finals-clause-spellable : goal.returns-then-finals-clause-spellable
@@ -47,8 +47,8 @@ returns-then-finals-clause-spellable c =
     let events : Told = record { trail = c.trail.result; purge = p.purge; records = c.as_slice.result; last = p.last } in
     let is = ap (λ (t : List Record). trail_left p.purge t ++ c.as_slice.result.now) c.trail.ensures ∙ ap (λ (r : List Record). trail_left p.purge e.state.kept.trail ++ r) c.as_slice.ensures.value in
     let same = ap (λ (client : ClientNo). seen_told client events (contents_of e)) c.committing.ensures
-      ∙ committed_after c.rows_are_triples.ensures.forth conditions.tree e (commits_of p.sessions) events p.last p.purge p.changes p.records p.finals
-      c.holds_together.ensures.together.desk_is.quiet c.holds_together.ensures.open_to FINALS refl is in
+    ∙ committed_after c.rows_are_triples.ensures.forth conditions.tree e (commits_of p.sessions) events p.last p.purge p.changes p.records p.finals
+    c.holds_together.ensures.together.desk_is.quiet c.holds_together.ensures.open_to FINALS refl is in
     subst (λ (k : Kept). IfOk c.image_seen.result (λ bytes. IsSpellable (image_of k))) same c.image_seen.ensures.spellable
 
 pub image_told-requires : goal.image_told-requires
