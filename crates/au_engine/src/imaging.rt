@@ -48,10 +48,10 @@ impl Engine {
         if prepared.finals == prepared.changes.len() {
             self.holds_together();
             au_txn::rows_are_triples();
-            self.image_seen(alloc, committing(&prepared.sessions), events)
+            self.image_seen(alloc, committing(&prepared.sessions), &events)
         } else {
             let changed = self.changed_by(alloc, prepared)?;
-            changed.image_told(alloc, events)
+            changed.image_told(alloc, &events)
         }
     }
 
@@ -61,11 +61,11 @@ impl Engine {
         &self,
         alloc: Global,
         client: ClientNo,
-        events: Told<'_>,
+        events: &Told<'_>,
     ) -> Result<Vec<u8>, Memory>
-        requires { IsWritable (seen_told client events (contents_of self.now)) }
-        ensures bytes { IfOk result (λ bytes. bytes.items ≡ framed (image_of (seen_told client events (contents_of self.now)))) }
-        ensures spellable { IfOk result (λ bytes. IsSpellable (image_of (seen_told client events (contents_of self.now)))) }
+        requires { IsWritable (seen_told client events.now (contents_of self.now)) }
+        ensures bytes { IfOk result (λ bytes. bytes.items ≡ framed (image_of (seen_told client events.now (contents_of self.now)))) }
+        ensures spellable { IfOk result (λ bytes. IsSpellable (image_of (seen_told client events.now (contents_of self.now)))) }
     {
         au_image::image(
             alloc,
@@ -79,10 +79,10 @@ impl Engine {
     }
 
     // The framed image of what is kept, with the trail and the last stamp that are told.
-    fn image_told(&self, alloc: Global, events: Told<'_>) -> Result<Vec<u8>, Memory>
-        requires { IsWritable (told (trail_told events) events.last self.now.state.kept) }
-        ensures bytes { IfOk result (λ bytes. bytes.items ≡ framed (image_of (told (trail_told events) events.last self.now.state.kept))) }
-        ensures spellable { IfOk result (λ bytes. IsSpellable (image_of (told (trail_told events) events.last self.now.state.kept))) }
+    fn image_told(&self, alloc: Global, events: &Told<'_>) -> Result<Vec<u8>, Memory>
+        requires { IsWritable (told (trail_told events.now) events.now.last self.now.state.kept) }
+        ensures bytes { IfOk result (λ bytes. bytes.items ≡ framed (image_of (told (trail_told events.now) events.now.last self.now.state.kept))) }
+        ensures spellable { IfOk result (λ bytes. IsSpellable (image_of (told (trail_told events.now) events.now.last self.now.state.kept))) }
     {
         self.holds_together();
         au_txn::rows_are_triples();
@@ -113,7 +113,7 @@ impl Engine {
     {
         self.lawful();
         au_entries::images_come_back();
-        let image = self.image_told(alloc, Told::all(&[], Stamp(0)))?;
+        let image = self.image_told(alloc, &Told::all(&[], Stamp(0)))?;
         let mut copy = Engine::empty(alloc)?;
         copy.take_body(alloc, body_in(image.as_slice()))?;
         Ok(copy)

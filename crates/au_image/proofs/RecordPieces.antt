@@ -1,7 +1,7 @@
 -- Records that stay, counted and written one after another.
-use Rattle.std.proofs.Common.{◌≡◌, ◌∙◌, ℕ, zero, suc, ◌+◌, ◌≤◌, ◌<◌, Bool, true, false, cond, List, [], ◌∷◌, ◌++◌, length, take, get_or, refl, sym, ap, subst, arith, append_assoc}
+use Rattle.std.proofs.Common.{◌≡◌, ◌∙◌, ℕ, zero, suc, ◌+◌, ◌≤◌, ◌<◌, Bool, true, false, cond, List, [], ◌∷◌, ◌++◌, length, take, get_or, sym, ap, subst, arith, append_assoc}
 use Rattle.std.specs.List.{AllByRecursion, filter}
-use Rattle.std.proofs.lemmas.List.{append-nil, length-append, take_all}
+use Rattle.std.proofs.lemmas.List.{length-append, take_all}
 use Rattle.std.proofs.lemmas.List.Elements.{filter-append, filter_more}
 use Rattle.au_entries.specs.declared.trail_record.Record.{Record}
 use Rattle.rec_codec.specs.Images.{WritesJoin, Written, Wrote}
@@ -9,11 +9,14 @@ use Rattle.rec_codec.specs.Records.{trail_record}
 use Rattle.au_image.proofs.Pieces.{all_behind, all_front}
 
 -- what a test says of one record
-one_stays : (test : Record → Bool) (x : Record) → test x ≡ true → filter test (x ∷ []) ≡ x ∷ []
+pub one_stays : (test : Record → Bool) (x : Record) → test x ≡ true → filter test (x ∷ []) ≡ x ∷ []
 one_stays test x is = ap (λ (b : Bool). cond b (x ∷ []) []) is
 
-one_goes : (test : Record → Bool) (x : Record) → test x ≡ false → filter test (x ∷ []) ≡ []
+pub one_goes : (test : Record → Bool) (x : Record) → test x ≡ false → filter test (x ∷ []) ≡ []
 one_goes test x is = ap (λ (b : Bool). cond b (x ∷ []) []) is
+
+pub one_left : (test : Record → Bool) (x : Record) (left : ℕ) → test x ≡ true → length (filter test (x ∷ [])) ≤ left → 0 < left
+one_left test x left is few = let one : length (filter test (x ∷ [])) ≡ 1 = ap length (one_stays test x is) in omega (arith, one, few)
 
 -- one record more
 one_more : (test : Record → Bool) (trail : List Record) (i : ℕ) (x : Record) → i < length trail → x ≡ get_or trail i x
@@ -37,36 +40,28 @@ behind_it test (t ∷ trail) (suc i) x within is =
           ∙ ap (λ (front : List Record). front ++ behind) (sym (filter-append test (t ∷ []) (take i trail))))),
     )
 
-pub stays_left : (test : Record → Bool) (trail : List Record) (a b : Written) (i : ℕ) (x : Record) → i < length trail → x ≡ get_or trail i x → test x ≡ true
-    → length (filter test trail) ≤ a.records → Wrote a b [] (filter test (take i trail)) → 0 < b.records
-stays_left test trail a b i x within is stays few wrote =
+pub next_left : (test : Record → Bool) (trail : List Record) (a b : Written) (i : ℕ) (x : Record) → i < length trail → x ≡ get_or trail i x
+    → length (filter test trail) ≤ a.records → Wrote a b [] (filter test (take i trail)) → length (filter test (x ∷ [])) ≤ b.records
+next_left test trail a b i x within is few wrote =
     let behind = behind_it test trail i x within is in
     let all = ap length behind.1 in
     let one = length-append (filter test (take i trail)) (filter test (x ∷ []) ++ behind.0) in
     let two = length-append (filter test (x ∷ [])) behind.0 in
-    let here = ap length (one_stays test x stays) in
     let left = wrote.records_left in
     omega arith
 
-pub stays_spelled : (test : Record → Bool) (trail : List Record) (i : ℕ) (x : Record) → i < length trail → x ≡ get_or trail i x → test x ≡ true
-    → AllByRecursion trail_record.IsSpellable (filter test trail) → trail_record.IsSpellable x
-stays_spelled test trail i x within is stays all =
+pub next_spelled : (test : Record → Bool) (trail : List Record) (i : ℕ) (x : Record) → i < length trail → x ≡ get_or trail i x
+    → AllByRecursion trail_record.IsSpellable (filter test trail) → AllByRecursion trail_record.IsSpellable (filter test (x ∷ []))
+next_spelled test trail i x within is all =
     let behind = behind_it test trail i x within is in
-    let rest = all_behind trail_record.IsSpellable (filter test (take i trail)) _ (subst (AllByRecursion trail_record.IsSpellable) behind.1 all) in
-    let here = all_front trail_record.IsSpellable (filter test (x ∷ [])) behind.0 rest in
-    (subst (AllByRecursion trail_record.IsSpellable) (one_stays test x stays) here).0
+    let rest = all_behind trail_record.IsSpellable (filter test (take i trail)) (filter test (x ∷ []) ++ behind.0) (subst (AllByRecursion trail_record.IsSpellable) behind.1 all) in
+    all_front trail_record.IsSpellable (filter test (x ∷ [])) behind.0 rest
 
-pub stays_written : (laws : WritesJoin) (test : Record → Bool) (trail : List Record) (a b c : Written) (i : ℕ) (x : Record) → i < length trail → x ≡ get_or trail i x → test x ≡ true
-    → Wrote a b [] (filter test (take i trail)) → Wrote b c [] (x ∷ []) → Wrote a c [] (filter test (take (i + 1) trail))
-stays_written laws test trail a b c i x within is stays before here =
-    let list = one_more test trail i x within is ∙ ap (λ (y : List Record). filter test (take i trail) ++ y) (one_stays test x stays) in
-    subst (λ (rs : List Record). Wrote a c [] rs) (sym list) (laws.both a b c [] [] (filter test (take i trail)) (x ∷ []) before here)
-
-pub goes_unwritten : (test : Record → Bool) (trail : List Record) (a b : Written) (i : ℕ) (x : Record) → i < length trail → x ≡ get_or trail i x → test x ≡ false
-    → Wrote a b [] (filter test (take i trail)) → Wrote a b [] (filter test (take (i + 1) trail))
-goes_unwritten test trail a b i x within is goes before =
-    let list = one_more test trail i x within is ∙ (ap (λ (y : List Record). filter test (take i trail) ++ y) (one_goes test x goes) ∙ append-nil (filter test (take i trail))) in
-    subst (λ (rs : List Record). Wrote a b [] rs) (sym list) before
+pub next_written : (laws : WritesJoin) (test : Record → Bool) (trail : List Record) (a b c : Written) (i : ℕ) (x : Record) → i < length trail → x ≡ get_or trail i x
+    → Wrote a b [] (filter test (take i trail)) → Wrote b c [] (filter test (x ∷ [])) → Wrote a c [] (filter test (take (i + 1) trail))
+next_written laws test trail a b c i x within is before here =
+    subst (λ (rs : List Record). Wrote a c [] rs) (sym (one_more test trail i x within is))
+    (laws.both a b c [] [] (filter test (take i trail)) (filter test (x ∷ [])) before here)
 
 pub all_that_stay : (test : Record → Bool) (trail : List Record) (a b : Written) (i : ℕ) → length trail ≤ i → Wrote a b [] (filter test (take i trail)) → Wrote a b [] (filter test trail)
 all_that_stay test trail a b i past wrote = subst (λ (rs : List Record). Wrote a b [] (filter test rs)) (take_all i trail past) wrote

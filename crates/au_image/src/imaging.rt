@@ -30,13 +30,13 @@ pub fn image(
     grants: &Grants,
     desk: &Desk,
     client: ClientNo,
-    told: Told<'_>,
+    told: &Told<'_>,
     instance: u32,
 ) -> Result<Vec<u8>, Memory>
-    requires writable { IsWritable (kept_as_told catalog.now grants.now desk.now client told instance) }
+    requires writable { IsWritable (kept_as_told catalog.now grants.now desk.now client told.now instance) }
     requires desk { desk.now.tables ≡ map open_table catalog.now.tables }
-    ensures bytes { IfOk result (λ bytes. bytes.items ≡ framed (image_of (kept_as_told catalog.now grants.now desk.now client told instance))) }
-    ensures spellable { IfOk result (λ bytes. IsSpellable (image_of (kept_as_told catalog.now grants.now desk.now client told instance))) }
+    ensures bytes { IfOk result (λ bytes. bytes.items ≡ framed (image_of (kept_as_told catalog.now grants.now desk.now client told.now instance))) }
+    ensures spellable { IfOk result (λ bytes. IsSpellable (image_of (kept_as_told catalog.now grants.now desk.now client told.now instance))) }
 {
     let rows = count_rows(alloc, desk, client, catalog.tables.as_slice())?;
     let changes = count_of(count_changes(catalog, grants, rows))?;

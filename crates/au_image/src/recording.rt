@@ -1,5 +1,5 @@
 //! The records of an image, counted and written where they are lent.
-ghost use Rattle.std.specs.Prelude.{◌≡◌, ◌≤◌, [], length, OnOk};
+ghost use Rattle.std.specs.Prelude.{◌≡◌, ◌≤◌, ◌∷◌, [], length, OnOk};
 ghost use Rattle.std.specs.List.{AllByRecursion, filter};
 ghost use Rattle.au_entries.specs.Frames.{is_from, trail_left};
 ghost use Rattle.au_image.specs.Image.{trail_told};
@@ -27,8 +27,8 @@ impl<'a> Told<'a> {
 }
 
 /// How many records are told.
-pub(crate) fn count_told(told: Told<'_>) -> u128
-    ensures { result ≡ length (trail_told told) }
+pub(crate) fn count_told(told: &Told<'_>) -> u128
+    ensures { result ≡ length (trail_told told.now) }
 {
     count_left(told.purge, told.trail) as u128 + told.records.len() as u128
 }
@@ -58,11 +58,11 @@ fn is_from(moment: Stamp, entry: &Record) -> bool
 }
 
 /// Writes the records that are told.
-pub(crate) fn write_told(writer: &mut ImageWriter, told: Told<'_>) -> Result<(), Memory>
+pub(crate) fn write_told(writer: &mut ImageWriter, told: &Told<'_>) -> Result<(), Memory>
     requires changes { writer.old.changes ≡ 0 }
-    requires left { length (trail_told told) ≤ writer.old.records }
-    requires spellable { AllByRecursion trail_record.IsSpellable (trail_told told) }
-    ensures { OnOk result (Wrote writer.old writer.new [] (trail_told told)) }
+    requires left { length (trail_told told.now) ≤ writer.old.records }
+    requires spellable { AllByRecursion trail_record.IsSpellable (trail_told told.now) }
+    ensures { OnOk result (Wrote writer.old writer.new [] (trail_told told.now)) }
 {
     writes_join();
     write_left(writer, told.purge, told.trail)?;
@@ -97,9 +97,21 @@ fn write_from(writer: &mut ImageWriter, moment: Stamp, trail: &[Record]) -> Resu
 {
     writes_join();
     for entry in trail {
-        if is_from(moment, entry) {
-            writer.push_record(entry)?;
-        }
+        write_one_from(writer, moment, entry)?;
+    }
+    Ok(())
+}
+
+// Writes the record where it is stamped at the moment or later.
+fn write_one_from(writer: &mut ImageWriter, moment: Stamp, entry: &Record) -> Result<(), Memory>
+    requires changes { writer.old.changes ≡ 0 }
+    requires left { length (filter (is_from moment) (entry.now ∷ [])) ≤ writer.old.records }
+    requires spellable { AllByRecursion trail_record.IsSpellable (filter (is_from moment) (entry.now ∷ [])) }
+    ensures { OnOk result (Wrote writer.old writer.new [] (filter (is_from moment) (entry.now ∷ []))) }
+{
+    writes_join();
+    if is_from(moment, entry) {
+        return writer.push_record(entry);
     }
     Ok(())
 }

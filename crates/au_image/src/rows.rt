@@ -43,7 +43,8 @@ fn seen_stand_by_tables(desk: &Desk, client: ClientNo, tables: &[Table])
     au_txn::rows_are_what_they_answer();
     au_txn::laid_rows_answer();
     desk.holds_together();
-    let _seen = (client, tables);
+    let _client = client;
+    let _tables = tables;
 }
 
 fn count_by_tables(

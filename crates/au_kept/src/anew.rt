@@ -208,7 +208,7 @@ impl Keeping {
             &self.grants,
             &self.desk,
             ClientNo(0),
-            Told::all(&[], Stamp(0)),
+            &Told::all(&[], Stamp(0)),
             self.instance,
         )?;
         changes_in(alloc, bytes.as_slice())

@@ -167,7 +167,7 @@ impl Keeping {
             &self.grants,
             &self.desk,
             ClientNo(0),
-            Told::all(self.trail.as_slice(), self.last),
+            &Told::all(self.trail.as_slice(), self.last),
             self.instance,
         )
     }

@@ -1,4 +1,4 @@
-use Rattle.std.proofs.Common.{◌≡◌, ◌∙◌, ◌≤◌, sym, arith}
+use Rattle.std.proofs.Common.{◌∙◌, sym}
 use Rattle.au_image.specs.Image.{rows_seen_by, trail_told}
 use Rattle.au_image.proofs.Pieces.{changes_told, image_held, no_change, records_done, records_wait}
 use Rattle.au_image.proofs.imaging.image.Goals as goal
@@ -18,7 +18,7 @@ write_told-requires-clause-changes c =
 
 pub write_told-requires-clause-left : goal.write_told-requires-clause-left
 write_told-requires-clause-left c =
-    records_wait _ _ _ (trail_told c.args.told) _ c.in_ok-writer.ensures.records (c.in_ok-records.ensures.ok ∙ c.count_told.ensures) c.in_ok-write_changes.ensures
+    records_wait _ _ _ (trail_told c.args.told.now) _ c.in_ok-writer.ensures.records (c.in_ok-records.ensures.ok ∙ c.count_told.ensures) c.in_ok-write_changes.ensures
 
 pub write_told-requires-clause-spellable : goal.write_told-requires-clause-spellable
 write_told-requires-clause-spellable c = c.requires.writable.spelled.records

@@ -11,7 +11,7 @@ use Rattle.rec_codec.specs.Frames.{IsSpellable, framed}
 
 pub image-requires-clause-writable : goal.image-requires-clause-writable
 image-requires-clause-writable c =
-    let same = kept_seen (contents_of c.args.self.now) c.catalog.result.now c.grants.result.now c.desk.result.now c.args.client c.args.events c.instance.result
+    let same = kept_seen (contents_of c.args.self.now) c.catalog.result.now c.grants.result.now c.desk.result.now c.args.client c.args.events.now c.instance.result
     (c.catalog.ensures ∙ ap (λ (e : Reserved). catalog_of e.state.kept) c.self.view_is)
     (c.grants.ensures ∙ ap (λ (e : Reserved). e.state.kept.grants) c.self.view_is)
     (c.desk.ensures ∙ ap (λ (e : Reserved). desk_of (contents_of e)) c.self.view_is)
@@ -26,7 +26,7 @@ image-requires-clause-desk c =
 
 pub returns-clause-bytes : goal.returns-clause-bytes
 returns-clause-bytes c =
-    let same = kept_seen (contents_of c.args.self.now) c.catalog.result.now c.grants.result.now c.desk.result.now c.args.client c.args.events c.instance.result
+    let same = kept_seen (contents_of c.args.self.now) c.catalog.result.now c.grants.result.now c.desk.result.now c.args.client c.args.events.now c.instance.result
     (c.catalog.ensures ∙ ap (λ (e : Reserved). catalog_of e.state.kept) c.self.view_is)
     (c.grants.ensures ∙ ap (λ (e : Reserved). e.state.kept.grants) c.self.view_is)
     (c.desk.ensures ∙ ap (λ (e : Reserved). desk_of (contents_of e)) c.self.view_is)
@@ -35,7 +35,7 @@ returns-clause-bytes c =
 
 pub returns-clause-spellable : goal.returns-clause-spellable
 returns-clause-spellable c =
-    let same = kept_seen (contents_of c.args.self.now) c.catalog.result.now c.grants.result.now c.desk.result.now c.args.client c.args.events c.instance.result
+    let same = kept_seen (contents_of c.args.self.now) c.catalog.result.now c.grants.result.now c.desk.result.now c.args.client c.args.events.now c.instance.result
     (c.catalog.ensures ∙ ap (λ (e : Reserved). catalog_of e.state.kept) c.self.view_is)
     (c.grants.ensures ∙ ap (λ (e : Reserved). e.state.kept.grants) c.self.view_is)
     (c.desk.ensures ∙ ap (λ (e : Reserved). desk_of (contents_of e)) c.self.view_is)

@@ -9,15 +9,15 @@ use Rattle.rec_codec.specs.Frames.{IsSpellable, framed}
 
 pub image_seen-requires : goal.image_seen-requires
 image_seen-requires c =
-    let same = quiet_seen c.rows_are_triples.ensures.forth (contents_of c.args.self.now) c.args.events c.holds_together.ensures.together.desk_is.quiet in
+    let same = quiet_seen c.rows_are_triples.ensures.forth (contents_of c.args.self.now) c.args.events.now c.holds_together.ensures.together.desk_is.quiet in
     subst IsWritable (sym same) c.requires
 
 pub returns-clause-bytes : goal.returns-clause-bytes
 returns-clause-bytes c =
-    let same = quiet_seen c.rows_are_triples.ensures.forth (contents_of c.args.self.now) c.args.events c.holds_together.ensures.together.desk_is.quiet in
+    let same = quiet_seen c.rows_are_triples.ensures.forth (contents_of c.args.self.now) c.args.events.now c.holds_together.ensures.together.desk_is.quiet in
     subst (λ (k : Kept). IfOk c.image_seen.result (λ bytes. bytes.items ≡ framed (image_of k))) same c.image_seen.ensures.bytes
 
 pub returns-clause-spellable : goal.returns-clause-spellable
 returns-clause-spellable c =
-    let same = quiet_seen c.rows_are_triples.ensures.forth (contents_of c.args.self.now) c.args.events c.holds_together.ensures.together.desk_is.quiet in
+    let same = quiet_seen c.rows_are_triples.ensures.forth (contents_of c.args.self.now) c.args.events.now c.holds_together.ensures.together.desk_is.quiet in
     subst (λ (k : Kept). IfOk c.image_seen.result (λ bytes. IsSpellable (image_of k))) same c.image_seen.ensures.spellable
