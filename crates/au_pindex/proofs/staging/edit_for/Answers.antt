@@ -17,8 +17,8 @@ put_policy-requires c = record {
   conditions = ap length c.requires.index.conditions ∙ length_mapped condition_of c.args.catalog.now.policies;
 }
 
-pub resolved_when-condition-requires : goal.resolved_when-condition-requires
-resolved_when-condition-requires c =
+pub resolved_when-requires : goal.resolved_when-requires
+resolved_when-requires c =
     let p = c.in-Policy in
     let known = c.requires.after in
     (
@@ -27,8 +27,8 @@ resolved_when-condition-requires c =
       policy_truth p.name p.privileges p.actions p.roles p.when c.args.change.now p.is known.0 c.args.catalog.now known.2,
     )
 
-pub returns-in-Policy-clause-leads : goal.returns-in-Policy-clause-leads
-returns-in-Policy-clause-leads c =
+pub returns-in_ok-condition-in-Policy-clause-leads : goal.returns-in_ok-condition-in-Policy-clause-leads
+returns-in_ok-condition-in-Policy-clause-leads c =
     let p = c.in-Policy in
     IfOk-weaker c.put_policy.result _ _
     (λ edit said tree read.
