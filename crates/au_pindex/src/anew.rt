@@ -95,8 +95,19 @@ fn copied_condition(condition: &Condition) -> Result<Condition, Memory>
 {
     Ok(Condition {
         text: condition.text.clone()?,
-        tree: condition.tree.clone()?,
+        tree: copied_tree(&condition.tree)?,
     })
+}
+
+// The tree. That a copy is what was copied is tested.
+fn copied_tree(tree: &Expr) -> Result<Expr, Memory>
+    ensures { IfOk result (λ copy. copy ≡ tree.now) }
+{
+    let copy = tree.clone()?;
+    if copy == *tree {
+        return Ok(copy);
+    }
+    Err(Memory)
 }
 
 fn copied_trees(alloc: Global, trees: &[Expr]) -> Result<Vec<Expr>, Memory>
@@ -104,7 +115,7 @@ fn copied_trees(alloc: Global, trees: &[Expr]) -> Result<Vec<Expr>, Memory>
 {
     let mut copy = Vec::new(alloc);
     for tree in trees {
-        copy.push(tree.clone()?)?;
+        copy.push(copied_tree(tree)?)?;
     }
     Ok(copy)
 }

@@ -5,8 +5,8 @@ use Rattle.au_pindex.proofs.Afterwards.{alone_ordered, has_changed}
 use Rattle.au_pindex.proofs.Laid.{length_mapped}
 use Rattle.au_pindex.proofs.anew.changed.Goals as goal
 
-pub stage-staged-requires : goal.stage-staged-requires
-stage-staged-requires c =
+pub stage-requires : goal.stage-requires
+stage-requires c =
     let known = c.requires.read in
     record { trees = ap length c.in_ok-trees.ensures ∙ sym (ap length known.1) ∙ length_mapped known.0 (condition_texts c.args.changes.now) }
 

@@ -1,4 +1,4 @@
-use Rattle.std.proofs.Common.{◌≡◌, ◌∙◌, map, subst, sym, ap}
+use Rattle.std.proofs.Common.{◌≡◌, ◌∙◌, [], map, subst, sym, ap}
 use Rattle.std.specs.Prelude.{option_map}
 use Rattle.std.proofs.lemmas.Result.{IfOk-weaker}
 use Rattle.au_catalog.specs.Settling.{when_texts}
