@@ -16,11 +16,10 @@ returns-clause-leads c =
     let policies = c.args.catalog.now.policies in
     let user = c.args.user.now in
     leaving_leads enabled policies (enabled_after (change.UserGone user) enabled) (is_off_without user enabled)
-    (λ q. on_without user q.name enabled c.requires.catalog.enabled ∙ still_on user (enablement_of enabled q.name)) _
-    (
+    (λ q. on_without user q.name enabled c.requires.catalog.enabled ∙ still_on user (enablement_of enabled q.name)) _ (
       c.leaving.ensures.leaves.0,
       λ at. c.leaving.ensures.leaves.1 at ∙ c.in_ok-places.ensures at
-      ∙ ap (λ (entries : List (List ℕ × Enabled)). passes_at (is_off_without user entries) c.as_slice-policies.result.now at) c.as_slice-enabled.ensures
-      ∙ ap (λ (ps : List AuditPolicy). passes_at (is_off_without user enabled) ps at) c.as_slice-policies.ensures,
+          ∙ ap (λ (entries : List (List ℕ × Enabled)). passes_at (is_off_without user entries) c.as_slice-policies.result.now at) c.as_slice-enabled.ensures
+          ∙ ap (λ (ps : List AuditPolicy). passes_at (is_off_without user enabled) ps at) c.as_slice-policies.ensures,
       c.leaving.ensures.leaves.2,
     )

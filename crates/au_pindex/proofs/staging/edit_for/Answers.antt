@@ -20,8 +20,7 @@ put_policy-requires c = record {
 pub resolved_when-requires : goal.resolved_when-requires
 resolved_when-requires c =
     let p = c.in-Policy in
-    let known = c.requires.after in
-    (
+    let known = c.requires.after in (
       known.0,
       policy_texts p.name p.privileges p.actions p.roles p.when c.args.change.now p.is known.0 c.args.trees.now known.1,
       policy_truth p.name p.privileges p.actions p.roles p.when c.args.change.now p.is known.0 c.args.catalog.now known.2,
