@@ -19,7 +19,7 @@ use Rattle.au_entries.specs.declared.policy.Evaluate.{Evaluate}
 use Rattle.au_entries.specs.Changing.{by_name, enabled_after, policies_after, with_tree}
 use Rattle.au_policy.specs.Asking.{CanBeAsked, IsTruthOverNone}
 use Rattle.au_pindex.specs.descent.Anew.{HasPolicies, policies_alone}
-use Rattle.au_pindex.specs.descent.Changing.{changes_policies}
+use Rattle.au_pindex.specs.Changing.{changes_policies}
 use Rattle.au_pindex.specs.declared.index.Index.{Index}
 use Rattle.au_pindex.specs.declared.staged.IndexEdit.{IndexEdit}
 use Rattle.au_pindex.specs.descent.Finding.{with_policy}

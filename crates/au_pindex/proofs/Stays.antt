@@ -6,7 +6,7 @@ use Rattle.au_entries.specs.declared.change.Change.TheVariants as change
 use Rattle.au_entries.specs.declared.policy.AuditPolicy.{AuditPolicy}
 use Rattle.au_entries.specs.declared.policy.Enabled.{Enabled}
 use Rattle.au_entries.specs.Changing.{enabled_after, policies_after}
-use Rattle.au_pindex.specs.descent.Changing.{changes_policies}
+use Rattle.au_pindex.specs.Changing.{changes_policies}
 use Rattle.au_pindex.specs.declared.index.Index.{Index}
 use Rattle.au_pindex.specs.Indexing.{AreBucketsOf, IsIndexOf, condition_of}
 use Rattle.sql_ast.specs.declared.expression.Expr.{Expr}

@@ -1,4 +1,5 @@
 pub mod Buckets
+pub mod Changing
 pub mod Indexing
 pub mod Naming
 pub mod Places

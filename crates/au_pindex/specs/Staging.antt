@@ -15,10 +15,8 @@ use Rattle.au_pindex.specs.declared.staged.ConditionEdit.{ConditionEdit}
 use Rattle.au_pindex.specs.declared.staged.ConditionEdit.TheVariants.{Stays, Opens, Sets, Closes}
 use Rattle.au_pindex.specs.declared.staged.IndexEdit.{IndexEdit}
 use Rattle.au_pindex.specs.declared.staged.Joining.{Joining}
-use Rattle.au_pindex.specs.declared.staged.Made.{Made}
-use Rattle.au_pindex.specs.declared.staged.Made.TheVariants.{Edited, Anew}
 use Rattle.au_pindex.specs.declared.staged.StagedIndex.{StagedIndex}
-use Rattle.au_pindex.specs.Indexing.{IsIndexOf, condition_of, is_listed}
+use Rattle.au_pindex.specs.Indexing.{condition_of, is_listed}
 use Rattle.au_pindex.specs.Naming.{names_action, names_privilege, names_role, names_table}
 use Rattle.au_pindex.specs.Places.{passes, passes_at}
 use Rattle.au_pindex.specs.descent.Rooms.{HasRoomFor}
@@ -54,14 +52,9 @@ pub record Leads (enabled : List (List ℕ × Enabled)) (policies : List AuditPo
   pub roles : (role : List ℕ) (at : ℕ) → passes_at (is_listed names_role later role) changed at ≡ (is_joined names_role edit.joining role at || passes (passes_at (is_listed names_role enabled role) policies) (shifted_from edit.shift at))
   pub conditions : map condition_of changed ≡ conditions_after edit.condition (map condition_of policies)
 
--- an edit leads from the first catalogue to the second, or an index is one of the second
-abbrev pub LeadsBy : Catalog → Catalog → Made → Type 0
-LeadsBy catalog after (Edited edit) = Leads catalog.enabled catalog.policies after.enabled after.policies edit
-LeadsBy catalog after (Anew index) = IsIndexOf after index
-
 -- what is ready makes of an index of the first catalogue one of the second
 abbrev pub IsStaged : Catalog → Catalog → StagedIndex → Type 0
-IsStaged catalog after staged = LeadsBy catalog after staged.made
+IsStaged catalog after staged = Leads catalog.enabled catalog.policies after.enabled after.policies staged.edit
 
 -- ---- which index an edit fits
 
@@ -82,11 +75,6 @@ pub record FitsEdit (edit : IndexEdit) (index : Index) : Type 0 where
   pub conditions : FitsConditions edit.condition index.conditions
   pub joining : FitsJoining edit.joining index.buckets
 
--- an edit fits the index, and so does another one in its place
-abbrev pub FitsMade : Made → Index → Type 0
-FitsMade (Edited edit) index = FitsEdit edit index
-FitsMade (Anew other) index = ⊤
-
 -- what is ready fits the index, which has room for what is added
 abbrev pub Fits : StagedIndex → Index → Type 0
-Fits staged index = FitsMade staged.made index
+Fits staged index = FitsEdit staged.edit index

@@ -1,7 +1,5 @@
 -- What only mirrors the code: how places are found, added and moved, and which buckets have room for them.
 pub mod Adding
-pub mod Anew
-pub mod Changing
 pub mod Edits
 pub mod Finding
 pub mod Places

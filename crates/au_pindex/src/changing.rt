@@ -1,7 +1,7 @@
 //! Which changes are of policies.
 ghost use Rattle.std.specs.Prelude.{◌≡◌};
 ghost use Rattle.std.specs.List.{list_any};
-ghost use Rattle.au_pindex.specs.descent.Changing as spec;
+ghost use Rattle.au_pindex.specs.Changing as spec;
 
 use au_entries::Change;
 

@@ -1,7 +1,9 @@
 //! The index of a catalogue's audit policies.
-ghost use Rattle.std.specs.Prelude.{◌≡◌, ◌≤◌, ◌+◌, [], ℕ, List as Sequence, IfOk, map};
+ghost use Rattle.std.specs.Prelude.{◌≡◌, ◌≤◌, ◌+◌, [], ℕ, List as Sequence, IfOk, IfSome, IsSome, false, length, map};
+ghost use Rattle.std.specs.List.{list_any};
 ghost use Rattle.au_catalog.specs.declared.catalog.Catalog.{Catalog as AnyCatalog};
 ghost use Rattle.au_catalog.specs.Settling.{catalog_after_all, condition_texts};
+ghost use Rattle.au_pindex.specs.Changing.{changes_policies};
 ghost use Rattle.au_pindex.specs.Indexing.{IsIndexOf};
 ghost use Rattle.au_pindex.specs.Naming.{count_named};
 ghost use Rattle.au_pindex.specs.Staging.{Fits, IsStaged};
@@ -12,7 +14,7 @@ use crate::bucketed::{Bucketed, buckets_of};
 use crate::naming::named_places;
 use crate::resolving::resolved;
 use crate::settling::edit_index;
-use crate::staged::{Made, StagedIndex};
+use crate::staged::StagedIndex;
 use crate::staging::staged;
 use crate::testing::{Case, test_all};
 use au_base::{List, Memory, Steps};
@@ -64,20 +66,23 @@ impl Index {
     /// read as; the catalogue after the changes can be asked too. The index stays that of the
     /// catalogue, whatever is answered.
     ///
-    /// One change takes memory for what it names alone. More than one, where some are of policies, are
-    /// made ready as an index made anew, in the time of `of`.
+    /// It takes memory for what the change names alone. `None` where there are several changes and some
+    /// are of policies, as of a user who is dropped with tables: then `of` makes the index of the
+    /// catalogue after them.
     pub fn stage(
         &mut self,
         alloc: Global,
         catalog: &Catalog,
         changes: &[Change],
         trees: &[Expr],
-    ) -> Result<StagedIndex, Memory>
+    ) -> Result<Option<StagedIndex>, Memory>
         requires index { IsIndexOf catalog.now self.old }
         requires catalog { CanBeAsked catalog.now }
         requires after { (tree : Sequence ℕ → Tree) × (map tree (condition_texts changes.now) ≡ trees.now) × CanBeAsked (catalog_after_all tree changes.now catalog.now) }
-        ensures staged { IfOk result (λ staged. (tree : Sequence ℕ → Tree) → map tree (condition_texts changes.now) ≡ trees.now → IsStaged catalog.now (catalog_after_all tree changes.now catalog.now) staged) }
-        ensures fits { IfOk result (λ staged. Fits staged self.new) }
+        ensures staged { IfOk result (λ found. IfSome found (λ staged. (tree : Sequence ℕ → Tree) → map tree (condition_texts changes.now) ≡ trees.now → IsStaged catalog.now (catalog_after_all tree changes.now catalog.now) staged)) }
+        ensures fits { IfOk result (λ found. IfSome found (λ staged. Fits staged self.new)) }
+        ensures one { length changes.now ≡ 1 → IfOk result IsSome }
+        ensures others { list_any changes_policies changes.now ≡ false → IfOk result IsSome }
         ensures index { IsIndexOf catalog.now self.new }
     {
         staged(self, alloc, catalog, changes, trees)
@@ -89,11 +94,8 @@ impl Index {
         requires fits { Fits staged self.old }
         ensures { (catalog after : AnyCatalog) → IsStaged catalog after staged → IsIndexOf catalog self.old → IsIndexOf after self.new }
     {
-        let StagedIndex { made } = staged;
-        match made {
-            Made::Edited(edit) => edit_index(self, edit),
-            Made::Anew(other) => *self = other,
-        }
+        let StagedIndex { edit } = staged;
+        edit_index(self, edit);
     }
 
     /// What the policies of the catalogue demand of a statement: what `au_policy::demanded` answers.

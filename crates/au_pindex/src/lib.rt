@@ -1,7 +1,6 @@
 //! The enabled audit policies, found by buckets.
 #![tactic(auto)]
 
-mod anew;
 mod bucketed;
 mod buckets;
 mod changing;

@@ -2,7 +2,6 @@
 ghost use Rattle.std.specs.Prelude.{◌≡◌, IfOk, None};
 ghost use Rattle.au_pindex.specs.descent.Edits as edits;
 
-use crate::index::Index;
 use crate::shift::Shift;
 use au_base::{Action, List, Memory, Name, Privilege, TableName};
 use au_entries::AuditPolicy;
@@ -11,16 +10,7 @@ use au_expr::Resolved;
 /// What changes make of an index, ready for `Index::settle`, which makes it with no memory.
 #[derive(Drop)]
 pub struct StagedIndex {
-    pub(crate) made: Made,
-}
-
-/// What becomes of an index.
-#[derive(Drop)]
-pub(crate) enum Made {
-    /// It is edited.
-    Edited(IndexEdit),
-    /// Another stands in its place.
-    Anew(Index),
+    pub(crate) edit: IndexEdit,
 }
 
 /// An edit of an index: first places shift and a condition changes, then a place is added.

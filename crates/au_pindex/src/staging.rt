@@ -1,11 +1,13 @@
 //! Changes of a catalogue, staged on its index.
-ghost use Rattle.std.specs.Prelude.{◌≡◌, ℕ, List as Sequence, [], ◌∷◌, IfOk, None, Some, false, map, option_map};
+ghost use Rattle.std.specs.Prelude.{◌≡◌, ℕ, List as Sequence, [], ◌∷◌, IfOk, IfSome, IsSome, None, Some, false, length, map, option_map};
+ghost use Rattle.std.specs.List.{list_any};
+ghost use Rattle.au_catalog.specs.declared.catalog.Catalog.{Catalog as AnyCatalog};
 ghost use Rattle.au_catalog.specs.Settling.{catalog_after_all, condition_texts, when_texts};
 ghost use Rattle.au_entries.specs.declared.policy.AuditPolicy.{AuditPolicy as AnyPolicy};
 ghost use Rattle.au_entries.specs.declared.policy.Enabled.{Enabled};
 ghost use Rattle.au_entries.specs.Changing.{enabled_after, policies_after, with_tree};
 ghost use Rattle.au_expr.specs.Resolving.{IsCondition, placed};
-ghost use Rattle.au_pindex.specs.descent.Changing.{changes_policies};
+ghost use Rattle.au_pindex.specs.Changing.{changes_policies};
 ghost use Rattle.au_pindex.specs.declared.index.Index.{Index as AnyIndex};
 ghost use Rattle.au_pindex.specs.Indexing.{IsIndexOf};
 ghost use Rattle.au_pindex.specs.Staging.{Fits, FitsEdit, IsStaged, Leads};
@@ -13,12 +15,11 @@ ghost use Rattle.au_pindex.specs.descent.Edits.{Keeps};
 ghost use Rattle.au_policy.specs.Asking.{CanBeAsked, IsTruthOverNone};
 ghost use Rattle.sql_ast.specs.declared.expression.Expr.{Expr as Tree};
 
-use crate::anew::index_after;
 use crate::changing::change_policies;
 use crate::enabling::{drop_user, enable};
 use crate::index::Index;
 use crate::putting::{drop_policy, put_policy};
-use crate::staged::{IndexEdit, Made, StagedIndex, no_edit, policy_of};
+use crate::staged::{IndexEdit, StagedIndex, no_edit, policy_of};
 use au_base::{Memory, Text};
 use au_catalog::Catalog;
 use au_entries::{Change, Evaluate};
@@ -26,69 +27,41 @@ use au_expr::{Resolved, resolve_condition};
 use sql_ast::Expr;
 use std::alloc::Global;
 
-/// The changes, staged on the index of the catalogue: one change as an edit, and more than one as an
-/// index made anew, where some are of policies.
+/// The changes, staged on the index of the catalogue: one change as its edit, and several as no edit,
+/// where none of them is of policies.
 pub(crate) fn staged(
     index: &mut Index,
     alloc: Global,
     catalog: &Catalog,
     changes: &[Change],
     trees: &[Expr],
-) -> Result<StagedIndex, Memory>
+) -> Result<Option<StagedIndex>, Memory>
     requires index { IsIndexOf catalog.now index.old }
     requires catalog { CanBeAsked catalog.now }
     requires after { (tree : Sequence ℕ → Tree) × (map tree (condition_texts changes.now) ≡ trees.now) × CanBeAsked (catalog_after_all tree changes.now catalog.now) }
-    ensures staged { IfOk result (λ staged. (tree : Sequence ℕ → Tree) → map tree (condition_texts changes.now) ≡ trees.now → IsStaged catalog.now (catalog_after_all tree changes.now catalog.now) staged) }
-    ensures fits { IfOk result (λ staged. Fits staged index.new) }
+    ensures staged { IfOk result (λ found. IfSome found (λ staged. (tree : Sequence ℕ → Tree) → map tree (condition_texts changes.now) ≡ trees.now → IsStaged catalog.now (catalog_after_all tree changes.now catalog.now) staged)) }
+    ensures fits { IfOk result (λ found. IfSome found (λ staged. Fits staged index.new)) }
+    ensures one { length changes.now ≡ 1 → IfOk result IsSome }
+    ensures others { list_any changes_policies changes.now ≡ false → IfOk result IsSome }
     ensures keeps { Keeps index.old index.new }
 {
     if changes.len() == 1 {
-        return staged_one(index, alloc, catalog, &changes[0], trees);
+        let edit = edit_for(index, alloc, catalog, &changes[0], trees)?;
+        return Ok(Some(StagedIndex { edit }));
     }
-    staged_all(&*index, alloc, catalog, changes, trees)
+    Ok(staged_apart(changes))
 }
 
-fn staged_one(
-    index: &mut Index,
-    alloc: Global,
-    catalog: &Catalog,
-    change: &Change,
-    trees: &[Expr],
-) -> Result<StagedIndex, Memory>
-    requires index { IsIndexOf catalog.now index.old }
-    requires catalog { CanBeAsked catalog.now }
-    requires after { (tree : Sequence ℕ → Tree) × (map tree (condition_texts (change.now ∷ [])) ≡ trees.now) × CanBeAsked (catalog_after_all tree (change.now ∷ []) catalog.now) }
-    ensures staged { IfOk result (λ staged. (tree : Sequence ℕ → Tree) → map tree (condition_texts (change.now ∷ [])) ≡ trees.now → IsStaged catalog.now (catalog_after_all tree (change.now ∷ []) catalog.now) staged) }
-    ensures fits { IfOk result (λ staged. Fits staged index.new) }
-    ensures keeps { Keeps index.old index.new }
-{
-    let edit = edit_for(index, alloc, catalog, change, trees)?;
-    Ok(StagedIndex {
-        made: Made::Edited(edit),
-    })
-}
-
-fn staged_all(
-    index: &Index,
-    alloc: Global,
-    catalog: &Catalog,
-    changes: &[Change],
-    trees: &[Expr],
-) -> Result<StagedIndex, Memory>
-    requires catalog { CanBeAsked catalog.now }
-    requires after { (tree : Sequence ℕ → Tree) × (map tree (condition_texts changes.now) ≡ trees.now) × CanBeAsked (catalog_after_all tree changes.now catalog.now) }
-    ensures staged { IfOk result (λ staged. (tree : Sequence ℕ → Tree) → map tree (condition_texts changes.now) ≡ trees.now → IsStaged catalog.now (catalog_after_all tree changes.now catalog.now) staged) }
-    ensures fits { IfOk result (λ staged. Fits staged index.now) }
+// No edit, where none of the changes is of policies.
+fn staged_apart(changes: &[Change]) -> Option<StagedIndex>
+    ensures staged { IfSome result (λ staged. (tree : Sequence ℕ → Tree) (catalog : AnyCatalog) → IsStaged catalog (catalog_after_all tree changes.now catalog) staged) }
+    ensures fits { IfSome result (λ staged. (index : AnyIndex) → Fits staged index) }
+    ensures others { list_any changes_policies changes.now ≡ false → IsSome result }
 {
     if change_policies(changes) {
-        let other = index_after(alloc, catalog, changes, trees)?;
-        return Ok(StagedIndex {
-            made: Made::Anew(other),
-        });
+        return None;
     }
-    Ok(StagedIndex {
-        made: Made::Edited(no_edit()),
-    })
+    Some(StagedIndex { edit: no_edit() })
 }
 
 // The edit of an index of the catalogue where one change is made.

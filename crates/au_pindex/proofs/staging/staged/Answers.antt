@@ -8,8 +8,8 @@ use Rattle.au_pindex.proofs.Afterwards.{only_one}
 use Rattle.au_pindex.proofs.staging.staged.Goals as goal
 use Rattle.sql_ast.specs.declared.expression.Expr.{Expr}
 
-pub staged_one-requires-clause-after : goal.staged_one-requires-clause-after
-staged_one-requires-clause-after c =
+pub edit_for-edit-requires-clause-after : goal.edit_for-edit-requires-clause-after
+edit_for-edit-requires-clause-after c =
     let change = c.index-changes-0.result in
     let one : c.args.changes.now ≡ change ∷ [] = only_one c.args.changes.now change c.if-changes-eq1.true c.index-changes-0.is in
     subst (λ (changes : List Change). (tree : List ℕ → Expr) × (map tree (condition_texts changes) ≡ c.args.trees.now) × CanBeAsked (catalog_after_all tree changes c.args.catalog.now)) one c.requires.after
