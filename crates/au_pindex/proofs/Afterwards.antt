@@ -3,10 +3,8 @@ use Rattle.std.proofs.Common.{◌≡◌, ◌∙◌, refl, sym, ap, subst, ℕ, f
 use Rattle.std.proofs.lemmas.List.{append-nil}
 use Rattle.std.specs.List.{AllByRecursion, filter, list_any}
 use Rattle.std.specs.Ordering.{is_gt, is_lt}
-use Rattle.std.specs.Prelude.{IsTrue, Option}
-use Rattle.au_base.specs.Order.{is_in_order, name_before}
+use Rattle.std.specs.Prelude.{Option}
 use Rattle.au_catalog.specs.declared.catalog.Catalog.{Catalog}
-use Rattle.au_catalog.specs.Staging.{IsOrdered}
 use Rattle.au_catalog.specs.Settling.{catalog_after, catalog_after_all, condition_texts, texts_in, when_texts}
 use Rattle.au_base.specs.declared.action.Action.{Action}
 use Rattle.au_base.specs.declared.privilege.Privilege.{Privilege}
@@ -18,7 +16,6 @@ use Rattle.au_entries.specs.declared.policy.Enabled.{Enabled}
 use Rattle.au_entries.specs.declared.policy.Evaluate.{Evaluate}
 use Rattle.au_entries.specs.Changing.{by_name, enabled_after, policies_after, with_tree}
 use Rattle.au_policy.specs.Asking.{CanBeAsked, IsTruthOverNone}
-use Rattle.au_pindex.specs.descent.Anew.{HasPolicies, policies_alone}
 use Rattle.au_pindex.specs.Changing.{changes_policies}
 use Rattle.au_pindex.specs.declared.index.Index.{Index}
 use Rattle.au_pindex.specs.declared.staged.IndexEdit.{IndexEdit}
@@ -28,7 +25,7 @@ use Rattle.au_pindex.specs.descent.Edits.{Keeps, no_edit}
 use Rattle.au_pindex.specs.Staging.{Leads}
 use Rattle.au_pindex.proofs.Leading.{leads_alone}
 use Rattle.au_pindex.proofs.Spared.{all_kept}
-use Rattle.au_pindex.proofs.Stays.{enabled_stay, neither, policies_stay, stays_with}
+use Rattle.au_pindex.proofs.Stays.{enabled_stay, neither, policies_stay}
 use Rattle.sql_ast.specs.declared.expression.Expr.{Expr}
 
 abbrev Entries : Type 0
@@ -90,36 +87,6 @@ module _ (name : List ℕ) (privileges : List Privilege) (actions : List (Action
 
   pub policy_leads : (enabled : Entries) (policies : List AuditPolicy) (edit : IndexEdit) → Leads enabled policies enabled (with_policy name whole policies) edit → Leads enabled policies (enabled_after made enabled) (policies_after tree made policies) edit
   policy_leads enabled policies edit leads = subst (λ one. Leads enabled policies (enabled_after one enabled) (policies_after tree one policies) edit) (sym is) leads
-
--- ---- an index made anew
-
-pub same_policies : (tree : List ℕ → Expr) (changes : List Change) (one other : Catalog) → other.policies ≡ one.policies → (catalog_after_all tree changes other).policies ≡ (catalog_after_all tree changes one).policies
-same_policies tree [] one other same = same
-same_policies tree (change ∷ changes) one other same = same_policies tree changes (catalog_after tree change one) (catalog_after tree change other) (ap (policies_after tree change) same)
-
-pub same_enabled : (tree : List ℕ → Expr) (changes : List Change) (one other : Catalog) → other.enabled ≡ one.enabled → (catalog_after_all tree changes other).enabled ≡ (catalog_after_all tree changes one).enabled
-same_enabled tree [] one other same = same
-same_enabled tree (change ∷ changes) one other same = same_enabled tree changes (catalog_after tree change one) (catalog_after tree change other) (ap (enabled_after change) same)
-
-pub can_be_asked : (one other : Catalog) → HasPolicies one other → CanBeAsked one → CanBeAsked other
-can_be_asked one other has can = record {
-  truths = subst (λ ps. AllByRecursion (λ (policy : AuditPolicy). IsTruthOverNone policy.when) ps) (sym has.policies) can.truths;
-  policies = subst (λ (ps : List AuditPolicy). IsTrue (is_in_order name_before (map (λ (policy : AuditPolicy). policy.name) ps))) (sym has.policies) can.policies;
-  enabled = subst (λ (entries : Entries). IsTrue (is_in_order name_before (map (λ (entry : List ℕ × Enabled). entry.0) entries))) (sym has.enabled) can.enabled;
-}
-
-pub index_of_same : (one other : Catalog) (index : Index) → HasPolicies one other → IsIndexOf other index → IsIndexOf one index
-index_of_same one other index has is = stays_with other one index (sym has.policies) (sym has.enabled) is
-
--- the lists of policies and enablements alone stand in order
-pub alone_ordered : (catalog : Catalog) → CanBeAsked catalog → IsOrdered (policies_alone catalog)
-alone_ordered catalog can = record { users = refl; roles = refl; tables = refl; policies = can.policies; enabled = can.enabled; fga = refl }
-
-pub has_changed : (tree : List ℕ → Expr) (changes : List Change) (catalog after : Catalog) → after ≡ catalog_after_all tree changes (policies_alone catalog) → HasPolicies (catalog_after_all tree changes catalog) after
-has_changed tree changes catalog after is = record {
-  policies = ap (λ (k : Catalog). k.policies) is ∙ same_policies tree changes catalog (policies_alone catalog) refl;
-  enabled = ap (λ (k : Catalog). k.enabled) is ∙ same_enabled tree changes catalog (policies_alone catalog) refl;
-}
 
 -- ---- an index that keeps what it has
 
