@@ -174,7 +174,7 @@ pub record Fits (prepared : Prepared) (engine : Reserved) : Type 0 where
   pub spare : HasSpare prepared.sessions (desk_of (contents_of engine))
   pub room : length prepared.records ≤ engine.room
   pub seat : 0 < engine.seats
-  pub index : IfSome engine.index (indexes.Fits prepared.index)
-  pub leads : indexes.IsStaged (catalog_of engine.state.kept) (catalog_of (after prepared engine.state).kept) prepared.index
+  pub index : IfSome engine.index (λ index. IfSome prepared.index (λ staged. indexes.Fits staged index))
+  pub leads : IfSome prepared.index (indexes.IsStaged (catalog_of engine.state.kept) (catalog_of (after prepared engine.state).kept))
   pub lawful : IsLawfulState (after prepared engine.state)
   pub apart : HaveOneEach (sessions_after prepared.sessions engine.state.sessions)

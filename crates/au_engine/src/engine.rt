@@ -297,8 +297,19 @@ impl Engine {
     }
 }
 
-// Makes the changes of the index that are ready, where it is made. It takes no memory.
-fn settle_index(index: &mut Option<Index>, staged: StagedIndex)
+// Makes the changes of the index that are ready, or drops the index where none are. It takes no memory.
+fn settle_index(index: &mut Option<Index>, ready: Option<StagedIndex>)
+    requires { IfSome index.old (λ made. IfSome ready (λ staged. indexes.Fits staged made)) }
+    ensures { (catalog after : Catalog) → IfSome ready (indexes.IsStaged catalog after) → IfSome index.old (IsIndexOf catalog) → IfSome index.new (IsIndexOf after) }
+{
+    match ready {
+        Some(staged) => settle_made(index, staged),
+        None => *index = None,
+    }
+}
+
+// Makes the changes of the index that are ready, where it is made.
+fn settle_made(index: &mut Option<Index>, staged: StagedIndex)
     requires { IfSome index.old (indexes.Fits staged) }
     ensures { (catalog after : Catalog) → indexes.IsStaged catalog after staged → IfSome index.old (IsIndexOf catalog) → IfSome index.new (IsIndexOf after) }
 {

@@ -28,8 +28,9 @@ pub struct Prepared {
     pub changes: List<Change>,
     /// The other changes, ready to be made.
     pub staged: Staged,
-    /// The changes, ready to be made of the index of the audit policies.
-    pub index: StagedIndex,
+    /// The changes, ready to be made of the index of the audit policies. `None` where it has to be made
+    /// anew.
+    pub index: Option<StagedIndex>,
     /// Of a purge: the records stamped before this moment go, or all of them where it names none.
     pub purge: Option<Option<Stamp>>,
     /// The records that it leaves.

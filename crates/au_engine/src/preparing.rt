@@ -23,8 +23,8 @@ use crate::framing::{asks_are_text, with_frame};
 use crate::outcome::{Outcome, RowsChange, SessionChange};
 use crate::prepared::Prepared;
 use au_base::{Ask, ClientNo, Code, Memory, Stamp, Steps};
-use au_entries::Change;
 use au_catalog::{Catalog, catalogues_change_by_their_parts};
+use au_entries::Change;
 use au_kept::{spellings_are_short, trees_of};
 use au_pindex::{Index, StagedIndex};
 use au_policy::lawful_policies_can_be_asked;
@@ -39,7 +39,8 @@ impl Engine {
     /// that is asked comes with what it is read as, and with its plan; with another ask any reading
     /// comes. The results that the session and the instance keep of conditions are copied. Of the audit
     /// policies those are tested that aren't Off and name the event, one step each; at the first step
-    /// behind a replay the index of all is made before.
+    /// behind a replay, and behind one that made several changes of which some are of policies, the
+    /// index of all is made before.
     pub fn prepare<L: Ledger>(
         &mut self,
         alloc: Global,
@@ -71,8 +72,8 @@ impl Engine {
         self.ready(alloc, client, ask, stamp, outcome, index)
     }
 
-    // Makes the index of the audit policies, where a replay has dropped it: in the time of going over
-    // them and their enablements, with their conditions.
+    // Makes the index of the audit policies, where there is none: in the time of going over them twice,
+    // for what their parts name and for their conditions.
     fn index_policies(&mut self, alloc: Global) -> Result<(), Memory>
         ensures keeps { self.new.state ≡ self.old.state }
         ensures seats { self.new.seats ≡ self.old.seats }
@@ -183,14 +184,14 @@ impl Engine {
         ask: &Ask,
         stamp: Stamp,
         outcome: &Outcome,
-    ) -> Result<StagedIndex, Memory>
+    ) -> Result<Option<StagedIndex>, Memory>
         requires client { client.0 ≢ 0 }
         requires stamp { IsStampOf self.old.state stamp.0 }
         requires seated { EndsWell self.old.state.kept }
         requires step { LoggedStep self.old.state client ask.now stamp.0 outcome.now.reply (logged_by outcome.now) (made_of outcome.now self.old.state) }
         requires index { IsSome self.old.index }
-        ensures leads { IfOk result (indexes.IsStaged (catalog_of self.old.state.kept) (catalog_of (made_of outcome.now self.old.state).kept)) }
-        ensures fits { IfOk result (λ staged. IfSome self.new.index (indexes.Fits staged)) }
+        ensures leads { IfOk result (λ ready. IfSome ready (indexes.IsStaged (catalog_of self.old.state.kept) (catalog_of (made_of outcome.now self.old.state).kept))) }
+        ensures fits { IfOk result (λ ready. IfSome self.new.index (λ index. IfSome ready (λ staged. indexes.Fits staged index))) }
         ensures contents { contents_of self.new ≡ contents_of self.old }
         ensures keeps { self.new.state ≡ self.old.state }
         ensures seats { self.new.seats ≡ self.old.seats }
@@ -215,7 +216,7 @@ impl Engine {
         ask: &Ask,
         stamp: Stamp,
         outcome: Outcome,
-        index: StagedIndex,
+        index: Option<StagedIndex>,
     ) -> Result<Prepared, Memory>
         requires client { client.0 ≢ 0 }
         requires stamp { IsStampOf self.old.state stamp.0 }
@@ -224,8 +225,8 @@ impl Engine {
         requires made { CanBeMade self.old.state outcome }
         requires seat { 0 < self.old.seats }
         requires spare { HasSpare outcome.sessions (desk_of (contents_of self.old)) }
-        requires leads { indexes.IsStaged (catalog_of self.old.state.kept) (catalog_of (made_of outcome self.old.state).kept) index }
-        requires index { IfSome self.old.index (indexes.Fits index) }
+        requires leads { IfSome index (indexes.IsStaged (catalog_of self.old.state.kept) (catalog_of (made_of outcome self.old.state).kept)) }
+        requires index { IfSome self.old.index (λ made. IfSome index (λ staged. indexes.Fits staged made)) }
         ensures reply { IfOk result (λ prepared. prepared.reply ≡ outcome.reply) }
         ensures after { IfOk result (λ prepared. after prepared self.old.state ≡ made_of outcome self.old.state) }
         ensures framed { IfOk result (λ prepared. prepared.framed ≡ outcome.framed) }
@@ -275,14 +276,14 @@ fn staged_on(
     catalog: &Catalog,
     changes: &[Change],
     trees: &[Expr],
-) -> Result<StagedIndex, Memory>
+) -> Result<Option<StagedIndex>, Memory>
     requires made { IsSome index.old }
     requires index { IfSome index.old (IsIndexOf catalog.now) }
     requires catalog { CanBeAsked catalog.now }
     requires trees { trees.now ≡ map conditions.tree (condition_texts changes.now) }
     requires after { CanBeAsked (catalog_after_all conditions.tree changes.now catalog.now) }
-    ensures staged { IfOk result (indexes.IsStaged catalog.now (catalog_after_all conditions.tree changes.now catalog.now)) }
-    ensures fits { IfOk result (λ staged. IfSome index.new (indexes.Fits staged)) }
+    ensures staged { IfOk result (λ ready. IfSome ready (indexes.IsStaged catalog.now (catalog_after_all conditions.tree changes.now catalog.now))) }
+    ensures fits { IfOk result (λ ready. IfSome index.new (λ made. IfSome ready (λ staged. indexes.Fits staged made))) }
     ensures index { IfSome index.new (IsIndexOf catalog.now) }
     ensures made { IsSome index.new }
 {

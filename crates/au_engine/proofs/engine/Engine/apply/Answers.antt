@@ -50,7 +50,7 @@ settle-requires-clause-rows c =
     (subst (λ (e : Reserved). CanChange e.state p.sessions) back c.requires.rows) (subst (λ (e : Reserved). HasSpare p.sessions (desk_of (contents_of e))) back c.requires.spare)
 
 pub settle_index-requires : goal.settle_index-requires
-settle_index-requires c = subst (λ (e : Reserved). IfSome e.index (indexes.Fits c.args.prepared.index)) (sym c.self.view_is) c.requires.index
+settle_index-requires c = subst (λ (e : Reserved). IfSome e.index (λ index. IfSome c.args.prepared.index (λ staged. indexes.Fits staged index))) (sym c.self.view_is) c.requires.index
 
 pub settle-requires-clause-apart : goal.settle-requires-clause-apart
 settle-requires-clause-apart c = apart_alone c.self.inside.keeping.logs c.self.inside.sessions.items c.self.invariant.2
@@ -75,7 +75,7 @@ invariant_of-self c =
     let e = c.self.inside in
     let m = state_by e.keeping.kept e.keeping.logs e.sessions.items e.drawn e.results in
     let apart = subst (λ (e : Reserved). HaveOneEach (sessions_after p.sessions e.state.sessions)) back c.requires.apart in
-    let leads = subst (λ (e : Reserved). indexes.IsStaged (catalog_of e.state.kept) (catalog_of (after p e.state).kept) p.index) back c.requires.leads in
+    let leads = subst (λ (e : Reserved). IfSome p.index (indexes.IsStaged (catalog_of e.state.kept) (catalog_of (after p e.state).kept))) back c.requires.leads in
     let logged = subst (λ (e : Reserved). IsLogged (commits_of p.sessions) (contents_of e) (logged_of p).changes p.changes) back c.requires.logged in
     let leaves = subst (λ (e : Reserved). (after p e.state).kept ≡ after_parts conditions.tree p.last p.purge p.changes p.records e.state.kept) back c.requires.leaves in
     let stands = stands_of p.sessions m (subst (λ (e : Reserved). CanChange e.state p.sessions) back c.requires.rows) in
@@ -86,7 +86,7 @@ invariant_of-self c =
       subst IsLawfulState (sym is) (subst (λ (e : Reserved). IsLawfulState (after p e.state)) back c.requires.lawful),
       subst (λ (s : State). HaveOneEach s.sessions) (sym is) apart,
       (λ q none. quiet_after p.sessions e.keeping.logs c.settle.new.keeping.logs m.sessions c.settle.ensures.lists was.3 stands q (subst (λ (s : State). session_of s.sessions q ≡ None) is none)),
-      c.settle_index.ensures (catalog_of e.keeping.kept) (catalog_of c.settle.new.keeping.kept) (subst (λ (k : Kept). indexes.IsStaged (catalog_of e.keeping.kept) (catalog_of k) p.index) (sym kept) leads) was.4,
+      c.settle_index.ensures (catalog_of e.keeping.kept) (catalog_of c.settle.new.keeping.kept) (subst (λ (k : Kept). IfSome p.index (indexes.IsStaged (catalog_of e.keeping.kept) (catalog_of k))) (sym kept) leads) was.4,
     )
 
 pub returns-clause-next : goal.returns-clause-next

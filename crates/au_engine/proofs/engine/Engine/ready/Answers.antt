@@ -88,8 +88,8 @@ returns-clause-fits c =
       spare = spare_stays o.sessions (contents_of a.self.now) c.stage.new.self logs (subst (λ (e : Reserved). e.spare ≤ c.stage.new.self.spare) c.self.view_is staged.spare) c.requires.spare;
       room = omega (arith, staged.room, c.len.ensures);
       seat = subst (λ (e : Reserved). 0 < e.seats) (sym c.self.view_is) c.requires.seat;
-      index = subst (λ (e : Reserved). IfSome e.index (indexes.Fits a.index)) (sym c.self.view_is) c.requires.index;
-      leads = subst (λ (s : State). indexes.IsStaged (catalog_of s.kept) (catalog_of (made_of o s).kept) a.index) back c.requires.leads;
+      index = subst (λ (e : Reserved). IfSome e.index (λ index. IfSome a.index (λ ready. indexes.Fits ready index))) (sym c.self.view_is) c.requires.index;
+      leads = subst (λ (s : State). IfSome a.index (indexes.IsStaged (catalog_of s.kept) (catalog_of (made_of o s).kept))) back c.requires.leads;
       lawful = subst (λ (s : State). IsLawfulState (made_of o s)) back (law.lawful m n a.client a.ask.now a.stamp.0 o.reply logged lawful ends is text some step);
       apart = subst (λ (s : State). HaveOneEach (sessions_after o.sessions s.sessions)) back
           (c.clients_have_one_session.ensures.one m n a.client a.ask.now a.stamp.0 o.reply logged c.holds_together.ensures.apart step);
