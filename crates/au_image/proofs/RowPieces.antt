@@ -1,12 +1,13 @@
 -- Rows of a desk, counted and written table by table.
-use Rattle.std.proofs.Common.{◌≡◌, ◌∙◌, ℕ, zero, suc, ◌+◌, ◌≤◌, ◌<◌, Bool, true, false, cond, List, [], ◌∷◌, ◌++◌, length, map, take, get_or, refl, sym, ap, subst, arith, append_assoc}
-use Rattle.std.specs.Prelude.{◌&&◌, flat_map}
+use Rattle.std.proofs.Common.{◌≡◌, ◌∙◌, ℕ, zero, suc, ◌+◌, ◌≤◌, ◌<◌, Bool, true, false, cond, ◌⊎◌, inl, inr, Some, List, [], ◌∷◌, ◌++◌, length, map, take, get_or, refl, sym, ap, subst, arith, append_assoc}
+use Rattle.std.specs.Prelude.{IsTrue, flat_map}
 use Rattle.std.specs.Borrow.{Bor}
-use Rattle.std.specs.List.{AllByRecursion}
+use Rattle.std.specs.List.{AllByRecursion, Contains}
 use Rattle.std.specs.Str.{bytes_eq}
 use Rattle.std.proofs.lemmas.Bool.{and_parts}
 use Rattle.std.proofs.lemmas.List.{append-nil, length-append, map-append, take_all, take_more}
 use Rattle.std.proofs.lemmas.List.Concat.{flat_map-append}
+use Rattle.std.proofs.lemmas.List.Elements.{All-contains, All-from_recursion}
 use Rattle.std.proofs.lemmas.Slice.Eq.{bytes_eq-Decides}
 use Rattle.au_base.specs.declared.cell.Cell.{Cell}
 use Rattle.au_base.specs.declared.numbers.RowNo.{RowNo}
@@ -19,9 +20,9 @@ use Rattle.au_entries.specs.Imaging.{row_change}
 use Rattle.au_rows.specs.Held.{lent}
 use Rattle.au_rows.specs.declared.table.Table.{Table as OpenTable}
 use Rattle.au_txn.specs.declared.change.RowChange.{RowChange}
-use Rattle.au_txn.specs.Desks.{contents_of}
+use Rattle.au_txn.specs.Desks.{contents_of, is_open}
 use Rattle.au_txn.specs.Rows.{Row, rows_in, triple_of}
-use Rattle.au_txn.specs.Transactions.{view}
+use Rattle.au_txn.specs.Transactions.{laid_over, view}
 use Rattle.rec_codec.specs.Changes.{IsChangeSpellable}
 use Rattle.rec_codec.specs.Images.{WritesJoin, Written, Wrote}
 use Rattle.au_image.specs.Image.{open_table}
@@ -48,11 +49,10 @@ named_rows : (table : TableName) (rows : List Row) → map (row_of table) (map c
 named_rows table [] = refl
 named_rows table (row ∷ rows) = row_at table row (rows_in table rows) (same_table row.table table) refl (named_rows table rows)
 
--- what a client without changes sees of a table are its rows
-pub seen_rows : (table : TableName) (rows : List Row) (changes : List RowChange) (seen : List (RowNo × List Cell)) → changes ≡ [] → seen ≡ map contents_of (view rows changes table)
-    → map (row_of table) seen ≡ map triple_of (rows_in table rows)
-seen_rows table rows changes seen none is =
-    ap (map (row_of table)) (is ∙ ap (λ (cs : List RowChange). map contents_of (view rows cs table)) none) ∙ named_rows table rows
+-- what a client sees of a table are its rows, of those that the client sees
+pub seen_rows : (table : TableName) (rows : List Row) (changes : List RowChange) (seen : List (RowNo × List Cell)) → seen ≡ map contents_of (view rows changes table)
+    → map (row_of table) seen ≡ map triple_of (rows_in table (laid_over rows changes))
+seen_rows table rows changes seen is = ap (map (row_of table)) is ∙ named_rows table (laid_over rows changes)
 
 -- rows that are lent
 abbrev Lent : Type 0
@@ -62,14 +62,14 @@ puts_lent : (table : TableName) (rows : Lent) → map (lent_change table) rows �
 puts_lent table [] = refl
 puts_lent table (row ∷ rows) = ap (λ (rest : List Change). lent_change table row ∷ rest) (puts_lent table rows)
 
-pub lent_puts : (table : Table) (rows : List Row) (changes : List RowChange) (seen : Lent) → changes ≡ [] → map lent seen ≡ map contents_of (view rows changes table.name)
-    → map (lent_change table.name) seen ≡ map row_change (rows_of rows table)
-lent_puts table rows changes seen none is = puts_lent table.name seen ∙ ap (map row_change) (seen_rows table.name rows changes (map lent seen) none is)
+pub lent_puts : (table : Table) (rows : List Row) (changes : List RowChange) (seen : Lent) → map lent seen ≡ map contents_of (view rows changes table.name)
+    → map (lent_change table.name) seen ≡ map row_change (rows_of (laid_over rows changes) table)
+lent_puts table rows changes seen is = puts_lent table.name seen ∙ ap (map row_change) (seen_rows table.name rows changes (map lent seen) is)
 
-pub lent_count : (table : Table) (rows : List Row) (changes : List RowChange) (seen : Lent) → changes ≡ [] → map lent seen ≡ map contents_of (view rows changes table.name)
-    → length seen ≡ length (rows_of rows table)
-lent_count table rows changes seen none is =
-    sym (length_mapped lent seen) ∙ sym (length_mapped (row_of table.name) (map lent seen)) ∙ ap length (seen_rows table.name rows changes (map lent seen) none is)
+pub lent_count : (table : Table) (rows : List Row) (changes : List RowChange) (seen : Lent) → map lent seen ≡ map contents_of (view rows changes table.name)
+    → length seen ≡ length (rows_of (laid_over rows changes) table)
+lent_count table rows changes seen is =
+    sym (length_mapped lent seen) ∙ sym (length_mapped (row_of table.name) (map lent seen)) ∙ ap length (seen_rows table.name rows changes (map lent seen) is)
 
 -- ---- all rows are those of the tables
 
@@ -85,6 +85,22 @@ all_rows tables opened rows is all =
     by_tables rows tables
     ∙ ap (λ (ts : List OpenTable). map triple_of (flat_map (λ (table : OpenTable). rows_in table.name rows) ts)) (sym is)
     ∙ ap (map triple_of) all
+
+-- a row once changes are laid over others was there, or is one that a change makes
+abbrev pub Laid : Type 0
+Laid = (rows : List Row) (changes : List RowChange) (row : Row) → Contains (laid_over rows changes) row
+    → Contains rows row ⊎ ((change : RowChange) × Contains changes change × (change.table ≡ row.table) × (change.row ≡ row.number) × (change.new ≡ Some row.cells))
+
+-- so it is of an open table where they all are
+pub laid_open : Laid → (opened : List OpenTable) (rows : List Row) (changes : List RowChange)
+    → ((row : Row) → Contains rows row → IsTrue (is_open row.table opened))
+    → AllByRecursion (λ (change : RowChange). IsTrue (is_open change.table opened)) changes
+    → (row : Row) → Contains (laid_over rows changes) row → IsTrue (is_open row.table opened)
+laid_open law opened rows changes are_open there row has = elim (law rows changes row has) [
+  | inl stood ↦ are_open row stood
+  | inr made ↦ (let is_there = λ (change : RowChange). IsTrue (is_open change.table opened) in
+      subst (λ (table : TableName). IsTrue (is_open table opened)) made.2 (All-contains is_there changes made.0 (All-from_recursion is_there changes there) made.1))
+]
 
 -- ---- one table more
 

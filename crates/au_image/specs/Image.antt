@@ -2,6 +2,7 @@
 use Rattle.std.specs.Prelude.{◌≡◌, ◌≤◌, ℕ, List, [], ◌∷◌, ◌++◌, length, map}
 use Rattle.std.specs.List.{AllByRecursion}
 use Rattle.au_base.specs.Limits.{LAST_MOMENT}
+use Rattle.au_base.specs.declared.numbers.ClientNo.{ClientNo}
 use Rattle.au_base.specs.declared.numbers.Stamp.{Stamp}
 use Rattle.au_catalog.specs.declared.catalog.Catalog.{Catalog}
 use Rattle.au_entries.specs.declared.change.Change.{Change}
@@ -10,11 +11,14 @@ use Rattle.au_entries.specs.declared.kept.Kept.{Kept}
 use Rattle.au_entries.specs.declared.table.Table.{Table}
 use Rattle.au_entries.specs.declared.trail_record.Record.{Record}
 use Rattle.au_entries.specs.Changing.{KeptRow}
+use Rattle.au_entries.specs.Frames.{trail_left}
 pub use Rattle.au_entries.specs.Imaging.{archive_changes, enablement_change, fga_change, image_changes, nothing, object_change, policy_change, role_change, role_grant_change, row_change, system_change, table_change, user_change, written_condition, written_text}
 use Rattle.au_grants.specs.Rights.{Grants}
+use Rattle.au_image.specs.declared.told.Told.{Told}
 use Rattle.au_rows.specs.declared.table.Table.{Table as OpenTable}
 use Rattle.au_txn.specs.Desks.{Contents as Desk, open_of, replayer}
 use Rattle.au_txn.specs.Rows.{triple_of}
+use Rattle.au_txn.specs.Transactions.{laid_over}
 use Rattle.rec_codec.specs.Changes.{IsChangeSpellable}
 use Rattle.rec_codec.specs.Images.{Written}
 use Rattle.rec_codec.specs.Records.{trail_record}
@@ -45,6 +49,19 @@ open_table table = record { name = table.name; key = table.key }
 -- the committed rows of a desk, as what is kept lists them
 abbrev pub kept_rows : Desk → List KeptRow
 kept_rows desk = map triple_of desk.rows
+
+-- The rows of a desk as the client sees them, as what is kept lists them: the committed rows with its own changes laid over
+-- them, which is what its commit leaves.
+abbrev pub rows_seen_by : ClientNo → Desk → List KeptRow
+rows_seen_by client desk = map triple_of (laid_over desk.rows (open_of desk client))
+
+-- the records that are told: of the trail those that the purge leaves, all where there is none, and the others behind them
+abbrev pub trail_told : Told → List Record
+trail_told told = trail_left told.purge told.trail.now ++ told.records.now
+
+-- what is kept, with the rows as the client sees them, and with the trail and the last stamp that are told
+abbrev pub kept_as_told : Catalog → Grants → Desk → ClientNo → Told → ℕ → Kept
+kept_as_told catalog grants desk client told instance = kept_of catalog grants (rows_seen_by client desk) (trail_told told) told.last instance
 
 -- the desk has the tables of a catalogue, and no row is replayed on it
 pub record IsDeskOf (tables : List Table) (desk : Desk) : Type 0 where

@@ -6,41 +6,44 @@ ghost use Rattle.au_entries.specs.declared.change.Change.TheVariants.{Start};
 ghost use Rattle.rec_codec.specs.Changes.{IsChangeSpellable};
 ghost use Rattle.rec_codec.specs.Frames.{IsSpellable, framed};
 ghost use Rattle.rec_codec.specs.Images.{Wrote};
-ghost use Rattle.rec_codec.specs.Records.{trail_record};
-ghost use Rattle.au_image.specs.Image.{IsDeskOf, IsReady, IsWritable, archive_changes, audit_changes, image_changes, image_of, kept_of, kept_rows, stored_changes};
+ghost use Rattle.au_image.specs.Image.{IsReady, IsWritable, archive_changes, audit_changes, image_changes, image_of, kept_as_told, kept_of, open_table, rows_seen_by, stored_changes};
 
 use crate::entries::Entry;
+use crate::recording::{count_told, write_told};
 use crate::rows::{count_rows, write_rows};
-use au_base::{Memory, Stamp};
-use au_catalog::{Catalog, Change, Record};
+use crate::told::Told;
+use au_base::{ClientNo, Memory, Stamp};
+use au_catalog::{Catalog, Change};
 use au_grants::Grants;
 use au_txn::Desk;
 use rec_codec::{ImageWriter, writes_join};
 use std::alloc::Global;
 
-/// The framed image of this catalogue, these grants and rows and this trail, with the last stamp
-/// and the number of the instance. What has more changes or records than an image can count,
-/// 4,294,967,295, answers `Memory`.
+/// The framed image of this catalogue, these grants, the rows as this client sees them, and what is
+/// told, with the number of the instance. A client sees the committed rows with its own changes laid
+/// over them, which is what its commit leaves. All of it is written where it is lent: beside the bytes
+/// stand one change and the list of one table's rows. What has more changes or records than an image
+/// can count, 4,294,967,295, answers `Memory`.
 pub fn image(
     alloc: Global,
     catalog: &Catalog,
     grants: &Grants,
     desk: &Desk,
-    trail: &[Record],
-    last: Stamp,
+    client: ClientNo,
+    told: &Told<'_>,
     instance: u32,
 ) -> Result<Vec<u8>, Memory>
-    requires writable { IsWritable (kept_of catalog.now grants.now (kept_rows desk.now) trail.now last instance) }
-    requires desk { IsDeskOf catalog.now.tables desk.now }
-    ensures bytes { IfOk result (λ bytes. bytes.items ≡ framed (image_of (kept_of catalog.now grants.now (kept_rows desk.now) trail.now last instance))) }
-    ensures spellable { IfOk result (λ bytes. IsSpellable (image_of (kept_of catalog.now grants.now (kept_rows desk.now) trail.now last instance))) }
+    requires writable { IsWritable (kept_as_told catalog.now grants.now desk.now client told.now instance) }
+    requires desk { desk.now.tables ≡ map open_table catalog.now.tables }
+    ensures bytes { IfOk result (λ bytes. bytes.items ≡ framed (image_of (kept_as_told catalog.now grants.now desk.now client told.now instance))) }
+    ensures spellable { IfOk result (λ bytes. IsSpellable (image_of (kept_as_told catalog.now grants.now desk.now client told.now instance))) }
 {
-    let rows = count_rows(alloc, desk, catalog.tables.as_slice())?;
+    let rows = count_rows(alloc, desk, client, catalog.tables.as_slice())?;
     let changes = count_of(count_changes(catalog, grants, rows))?;
-    let records = count_of(trail.len() as u128)?;
-    let mut writer = ImageWriter::new(alloc, last, changes, records)?;
-    write_changes(alloc, &mut writer, catalog, grants, desk, instance)?;
-    write_records(&mut writer, trail)?;
+    let records = count_of(count_told(told))?;
+    let mut writer = ImageWriter::new(alloc, told.last, changes, records)?;
+    write_changes(alloc, &mut writer, catalog, grants, desk, client, instance)?;
+    write_told(&mut writer, told)?;
     let bytes = writer.finish()?;
     Ok(bytes)
 }
@@ -85,18 +88,19 @@ fn write_changes(
     catalog: &Catalog,
     grants: &Grants,
     desk: &Desk,
+    client: ClientNo,
     instance: u32,
 ) -> Result<(), Memory>
-    requires ready { IsReady writer.old (image_changes (kept_of catalog.now grants.now (kept_rows desk.now) [] (record { 0 = 0 }) instance)) }
-    requires desk { IsDeskOf catalog.now.tables desk.now }
-    ensures { OnOk result (Wrote writer.old writer.new (image_changes (kept_of catalog.now grants.now (kept_rows desk.now) [] (record { 0 = 0 }) instance)) []) }
+    requires ready { IsReady writer.old (image_changes (kept_of catalog.now grants.now (rows_seen_by client desk.now) [] (record { 0 = 0 }) instance)) }
+    requires desk { desk.now.tables ≡ map open_table catalog.now.tables }
+    ensures { OnOk result (Wrote writer.old writer.new (image_changes (kept_of catalog.now grants.now (rows_seen_by client desk.now) [] (record { 0 = 0 }) instance)) []) }
 {
     writes_join();
     write_group(writer, catalog.users.as_slice())?;
     write_group(writer, catalog.roles.as_slice())?;
     write_group(writer, grants.system_grants())?;
     write_group(writer, grants.role_grants())?;
-    write_stored(alloc, writer, catalog, grants, desk, instance)?;
+    write_stored(alloc, writer, catalog, grants, desk, client, instance)?;
     Ok(())
 }
 
@@ -107,15 +111,16 @@ fn write_stored(
     catalog: &Catalog,
     grants: &Grants,
     desk: &Desk,
+    client: ClientNo,
     instance: u32,
 ) -> Result<(), Memory>
-    requires ready { IsReady writer.old (stored_changes (kept_of catalog.now grants.now (kept_rows desk.now) [] (record { 0 = 0 }) instance)) }
-    requires desk { IsDeskOf catalog.now.tables desk.now }
-    ensures { OnOk result (Wrote writer.old writer.new (stored_changes (kept_of catalog.now grants.now (kept_rows desk.now) [] (record { 0 = 0 }) instance)) []) }
+    requires ready { IsReady writer.old (stored_changes (kept_of catalog.now grants.now (rows_seen_by client desk.now) [] (record { 0 = 0 }) instance)) }
+    requires desk { desk.now.tables ≡ map open_table catalog.now.tables }
+    ensures { OnOk result (Wrote writer.old writer.new (stored_changes (kept_of catalog.now grants.now (rows_seen_by client desk.now) [] (record { 0 = 0 }) instance)) []) }
 {
     writes_join();
     write_group(writer, catalog.tables.as_slice())?;
-    write_rows(alloc, writer, desk, catalog.tables.as_slice())?;
+    write_rows(alloc, writer, desk, client, catalog.tables.as_slice())?;
     write_group(writer, grants.object_grants())?;
     write_audit(writer, catalog, instance)?;
     Ok(())
@@ -184,17 +189,4 @@ pub(crate) fn write_change(writer: &mut ImageWriter, change: &Change) -> Result<
     ensures { OnOk result (Wrote writer.old writer.new (change.now ∷ []) []) }
 {
     writer.push_change(change)
-}
-
-fn write_records(writer: &mut ImageWriter, trail: &[Record]) -> Result<(), Memory>
-    requires changes { writer.old.changes ≡ 0 }
-    requires left { length trail.now ≤ writer.old.records }
-    requires spellable { AllByRecursion trail_record.IsSpellable trail.now }
-    ensures { OnOk result (Wrote writer.old writer.new [] trail.now) }
-{
-    writes_join();
-    for entry in trail {
-        writer.push_record(entry)?;
-    }
-    Ok(())
 }

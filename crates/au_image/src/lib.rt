@@ -3,7 +3,10 @@
 
 mod entries;
 mod imaging;
+mod recording;
 mod rows;
+mod told;
 
 pub use imaging::image;
 pub use rows::copy_rows;
+pub use told::Told;

@@ -1,11 +1,11 @@
-//! The committed rows of a desk, table by table.
+//! The rows of a desk as a client sees them, table by table.
 ghost use Rattle.std.specs.Prelude.{◌≡◌, ◌≤◌, ◌<◌, ◌+◌, ◌++◌, ◌^◌, ◌∷◌, [], IfOk, OnErr, OnOk, length, map};
 ghost use Rattle.std.specs.List.{AllByRecursion};
 ghost use Rattle.au_entries.specs.Imaging.{row_change};
-ghost use Rattle.au_image.specs.Image.{IsDeskOf, kept_rows};
-ghost use Rattle.au_image.specs.descent.Rows.{lent_change, row_of, rows_by_tables, rows_of};
+ghost use Rattle.au_image.specs.Image.{IsDeskOf, kept_rows, open_table, rows_seen_by};
+ghost use Rattle.au_image.specs.descent.Rows.{lent_change, row_of, rows_by_tables, rows_of, seen_by};
 ghost use Rattle.au_rows.specs.Held.{lent};
-ghost use Rattle.au_txn.specs.Desks.{open_of, replayer};
+ghost use Rattle.au_txn.specs.Desks.{replayer};
 ghost use Rattle.rec_codec.specs.Changes.{IsChangeSpellable};
 ghost use Rattle.rec_codec.specs.Images.{Wrote};
 
@@ -19,33 +19,53 @@ use std::alloc::Global;
 /// A committed row: its table, its number and its cells.
 type KeptRow = (TableName, RowNo, List<Cell>);
 
-/// How many committed rows the desk has. More than four bytes can count answer `Memory`.
-pub(crate) fn count_rows(alloc: Global, desk: &Desk, tables: &[Table]) -> Result<u32, Memory>
-    requires { IsDeskOf tables.now desk.now }
-    ensures { IfOk result (λ count. count ≡ length (kept_rows desk.now)) }
+/// How many rows the client sees. More than four bytes can count answer `Memory`.
+pub(crate) fn count_rows(
+    alloc: Global,
+    desk: &Desk,
+    client: ClientNo,
+    tables: &[Table],
+) -> Result<u32, Memory>
+    requires { desk.now.tables ≡ map open_table tables.now }
+    ensures { IfOk result (λ count. count ≡ length (rows_seen_by client desk.now)) }
 {
-    au_txn::rows_stand_by_tables();
-    desk.holds_together();
-    count_by_tables(alloc, desk, tables)
+    seen_stand_by_tables(desk, client, tables);
+    count_by_tables(alloc, desk, client, tables)
 }
 
-fn count_by_tables(alloc: Global, desk: &Desk, tables: &[Table]) -> Result<u32, Memory>
-    requires { open_of desk.now replayer ≡ [] }
-    ensures { IfOk result (λ count. count ≡ length (rows_by_tables desk.now.rows tables.now)) }
+// The rows that the client sees are those of the tables. It does nothing, and states it for its
+// callers.
+fn seen_stand_by_tables(desk: &Desk, client: ClientNo, tables: &[Table])
+    requires { desk.now.tables ≡ map open_table tables.now }
+    ensures { rows_by_tables (seen_by client desk.now) tables.now ≡ rows_seen_by client desk.now }
+{
+    au_txn::rows_stand_by_tables();
+    au_txn::rows_are_what_they_answer();
+    au_txn::laid_rows_answer();
+    desk.holds_together();
+    let _client = client;
+    let _tables = tables;
+}
+
+fn count_by_tables(
+    alloc: Global,
+    desk: &Desk,
+    client: ClientNo,
+    tables: &[Table],
+) -> Result<u32, Memory>
+    ensures { IfOk result (λ count. count ≡ length (rows_by_tables (seen_by client desk.now) tables.now)) }
 {
     let mut count = 0;
     for table in tables {
-        count = sum_of(count, count_in(alloc, desk, table)?)?;
+        count = sum_of(count, count_in(alloc, desk, client, table)?)?;
     }
     Ok(count)
 }
 
-// The client by which rows are replayed has no changes, and sees what is committed.
-fn count_in(alloc: Global, desk: &Desk, table: &Table) -> Result<usize, Memory>
-    requires { open_of desk.now replayer ≡ [] }
-    ensures { IfOk result (λ count. count ≡ length (rows_of desk.now.rows table.now)) }
+fn count_in(alloc: Global, desk: &Desk, client: ClientNo, table: &Table) -> Result<usize, Memory>
+    ensures { IfOk result (λ count. count ≡ length (rows_of (seen_by client desk.now) table.now)) }
 {
-    let view = desk.view(alloc, ClientNo(0), &table.name)?;
+    let view = desk.view(alloc, client, &table.name)?;
     Ok(view.rows.as_slice().len())
 }
 
@@ -60,37 +80,37 @@ fn sum_of(count: u32, more: usize) -> Result<u32, Memory>
     Ok(count + more as u32)
 }
 
-/// Writes the committed rows of the desk, each as the change that puts it.
+/// Writes the rows that the client sees, each as the change that puts it.
 pub(crate) fn write_rows(
     alloc: Global,
     writer: &mut ImageWriter,
     desk: &Desk,
+    client: ClientNo,
     tables: &[Table],
 ) -> Result<(), Memory>
-    requires desk { IsDeskOf tables.now desk.now }
-    requires left { length (kept_rows desk.now) ≤ writer.old.changes }
-    requires spellable { AllByRecursion IsChangeSpellable (map row_change (kept_rows desk.now)) }
-    ensures { OnOk result (Wrote writer.old writer.new (map row_change (kept_rows desk.now)) []) }
+    requires desk { desk.now.tables ≡ map open_table tables.now }
+    requires left { length (rows_seen_by client desk.now) ≤ writer.old.changes }
+    requires spellable { AllByRecursion IsChangeSpellable (map row_change (rows_seen_by client desk.now)) }
+    ensures { OnOk result (Wrote writer.old writer.new (map row_change (rows_seen_by client desk.now)) []) }
 {
-    au_txn::rows_stand_by_tables();
-    desk.holds_together();
-    write_by_tables(alloc, writer, desk, tables)
+    seen_stand_by_tables(desk, client, tables);
+    write_by_tables(alloc, writer, desk, client, tables)
 }
 
 fn write_by_tables(
     alloc: Global,
     writer: &mut ImageWriter,
     desk: &Desk,
+    client: ClientNo,
     tables: &[Table],
 ) -> Result<(), Memory>
-    requires quiet { open_of desk.now replayer ≡ [] }
-    requires left { length (rows_by_tables desk.now.rows tables.now) ≤ writer.old.changes }
-    requires spellable { AllByRecursion IsChangeSpellable (map row_change (rows_by_tables desk.now.rows tables.now)) }
-    ensures { OnOk result (Wrote writer.old writer.new (map row_change (rows_by_tables desk.now.rows tables.now)) []) }
+    requires left { length (rows_by_tables (seen_by client desk.now) tables.now) ≤ writer.old.changes }
+    requires spellable { AllByRecursion IsChangeSpellable (map row_change (rows_by_tables (seen_by client desk.now) tables.now)) }
+    ensures { OnOk result (Wrote writer.old writer.new (map row_change (rows_by_tables (seen_by client desk.now) tables.now)) []) }
 {
     writes_join();
     for table in tables {
-        write_table_rows(alloc, writer, desk, table)?;
+        write_table_rows(alloc, writer, desk, client, table)?;
     }
     Ok(())
 }
@@ -99,14 +119,14 @@ fn write_table_rows(
     alloc: Global,
     writer: &mut ImageWriter,
     desk: &Desk,
+    client: ClientNo,
     table: &Table,
 ) -> Result<(), Memory>
-    requires quiet { open_of desk.now replayer ≡ [] }
-    requires left { length (rows_of desk.now.rows table.now) ≤ writer.old.changes }
-    requires spellable { AllByRecursion IsChangeSpellable (map row_change (rows_of desk.now.rows table.now)) }
-    ensures { OnOk result (Wrote writer.old writer.new (map row_change (rows_of desk.now.rows table.now)) []) }
+    requires left { length (rows_of (seen_by client desk.now) table.now) ≤ writer.old.changes }
+    requires spellable { AllByRecursion IsChangeSpellable (map row_change (rows_of (seen_by client desk.now) table.now)) }
+    ensures { OnOk result (Wrote writer.old writer.new (map row_change (rows_of (seen_by client desk.now) table.now)) []) }
 {
-    let view = desk.view(alloc, ClientNo(0), &table.name)?;
+    let view = desk.view(alloc, client, &table.name)?;
     write_view(alloc, writer, &table.name, view.rows.as_slice())
 }
 
@@ -165,14 +185,13 @@ pub fn copy_rows(alloc: Global, desk: &Desk, tables: &[Table]) -> Result<List<Ke
     requires { IsDeskOf tables.now desk.now }
     ensures { IfOk result (λ rows. rows ≡ kept_rows desk.now) }
 {
-    au_txn::rows_stand_by_tables();
-    desk.holds_together();
+    seen_stand_by_tables(desk, ClientNo(0), tables);
     copy_by_tables(alloc, desk, tables)
 }
 
+// The client by which rows are replayed has no changes, and sees what is committed.
 fn copy_by_tables(alloc: Global, desk: &Desk, tables: &[Table]) -> Result<List<KeptRow>, Memory>
-    requires { open_of desk.now replayer ≡ [] }
-    ensures { IfOk result (λ rows. rows ≡ rows_by_tables desk.now.rows tables.now) }
+    ensures { IfOk result (λ rows. rows ≡ rows_by_tables (seen_by replayer desk.now) tables.now) }
 {
     let mut rows = List::new(alloc);
     for table in tables {
@@ -187,8 +206,7 @@ fn copy_table(
     table: &Table,
     rows: &mut List<KeptRow>,
 ) -> Result<(), Memory>
-    requires { open_of desk.now replayer ≡ [] }
-    ensures { OnOk result (rows.new ≡ rows.old ++ rows_of desk.now.rows table.now) }
+    ensures { OnOk result (rows.new ≡ rows.old ++ rows_of (seen_by replayer desk.now) table.now) }
 {
     let view = desk.view(alloc, ClientNo(0), &table.name)?;
     push_view(alloc, &table.name, view.rows.as_slice(), rows)

@@ -1,17 +1,23 @@
 -- How a keeping holds together.
-use Rattle.std.proofs.Common.{◌≡◌, ◌∙◌, ℕ, Bool, true, false, if◌then◌else◌, List, [], ◌∷◌, ◌++◌, map, refl, sym, ap, subst}
+use Rattle.std.proofs.Common.{◌≡◌, ◌∙◌, ℕ, Bool, true, false, if◌then◌else◌, List, [], ◌∷◌, ◌++◌, map, refl, sym, ap, subst, arith}
 use Rattle.std.specs.Prelude.{◌==◌}
 use Rattle.au_base.specs.declared.numbers.ClientNo.{ClientNo}
+use Rattle.au_base.specs.declared.numbers.Stamp.{Stamp}
 use Rattle.au_base.specs.declared.table.TableName.{TableName}
+use Rattle.au_catalog.specs.declared.catalog.Catalog.{Catalog}
 use Rattle.au_entries.specs.declared.kept.Kept.{Kept}
+use Rattle.au_entries.specs.declared.trail_record.Record.{Record}
 use Rattle.au_entries.specs.Imaging.{nothing}
-use Rattle.au_image.specs.Image.{IsWritable, kept_rows, open_table}
+use Rattle.au_grants.specs.Rights.{Grants}
+use Rattle.au_image.specs.declared.told.Told.{Told}
+use Rattle.au_image.specs.Image.{IsWritable, kept_as_told, kept_of, kept_rows, open_table, trail_told}
 use Rattle.au_rows.specs.declared.table.Table.{Table as OpenTable}
 use Rattle.au_txn.specs.declared.change.RowChange.{RowChange}
 use Rattle.au_txn.specs.Desks.{Contents as Desk, key_of, open_of, replayer}
 use Rattle.au_txn.specs.Logs.{changes_of}
 use Rattle.au_txn.specs.Keys.{IsKeyedDesk, KeysDiffer}
 use Rattle.au_txn.specs.Rows.{Row, of_triple, triple_of}
+use Rattle.au_txn.specs.Transactions.{laid_over}
 use Rattle.au_kept.specs.Keeping.{HoldsTogether, desk_of}
 use Rattle.au_replay.specs.Reading.{conditions}
 use Rattle.au_kept.specs.Sound.{IsKept}
@@ -50,6 +56,19 @@ nothing_holds keyed is kept desk blank empty = subst (λ (k : Kept). HoldsTogeth
 -- what is kept can be written
 pub writable : (kept : Kept) (desk : Desk) → HoldsTogether kept desk → IsWritable kept
 writable kept desk h = record { last = h.kept_is.lawful.last; spelled = h.kept_is.spelled }
+
+pub bare_writable : (kept : Kept) (desk : Desk) → HoldsTogether kept desk → IsWritable (record kept { trail = []; last = record { 0 = 0 } })
+bare_writable kept desk h = record { last = omega arith; spelled = record { entries = h.kept_is.spelled.entries; records = tt } }
+
+-- What is told of a keeping by the client by which rows are replayed, which has no changes: it is what is kept, with this trail
+-- and this last stamp.
+pub as_told : (catalog : Catalog) (grants : Grants) (desk : Desk) (told : Told) (instance : ℕ) (trail : List Record) (last : Stamp)
+    → open_of desk replayer ≡ [] → trail_told told ≡ trail → told.last ≡ last
+    → kept_as_told catalog grants desk replayer told instance ≡ kept_of catalog grants (kept_rows desk) trail last instance
+as_told catalog grants desk told instance trail last quiet records stamped =
+    ap (λ (changes : List RowChange). kept_of catalog grants (map triple_of (laid_over desk.rows changes)) (trail_told told) told.last instance) quiet
+    ∙ ap (λ (t : List Record). kept_of catalog grants (kept_rows desk) t told.last instance) records
+    ∙ ap (λ (s : Stamp). kept_of catalog grants (kept_rows desk) trail s instance) stamped
 
 -- nothing is laid where the client by which rows are replayed has no changes
 front_none : (xs ys : List RowChange) → xs ++ ys ≡ [] → xs ≡ []

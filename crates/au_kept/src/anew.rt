@@ -16,8 +16,9 @@ use crate::building::{Building, go_on_all};
 use crate::laws::{frames_hold, spellings_are_short};
 use crate::parts::Parts;
 use crate::settling::settle_trail;
-use au_base::{List, Memory, Stamp};
+use au_base::{ClientNo, List, Memory, Stamp};
 use au_entries::Change;
+use au_image::Told;
 use au_replay::is_from_last;
 use rec_codec::Frame;
 use std::alloc::Global;
@@ -206,8 +207,8 @@ impl Keeping {
             &self.catalog,
             &self.grants,
             &self.desk,
-            &[],
-            Stamp(0),
+            ClientNo(0),
+            &Told::all(&[], Stamp(0)),
             self.instance,
         )?;
         changes_in(alloc, bytes.as_slice())

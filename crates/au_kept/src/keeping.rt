@@ -15,9 +15,10 @@ ghost use Rattle.au_txn.specs.Keys.{IsKeyedDesk};
 ghost use Rattle.rec_codec.specs.Frames.{IsSpellable, framed};
 
 use crate::laws::{frames_hold, images_lead_back};
-use au_base::{Cell, List, Memory, RowNo, Stamp, TableName};
+use au_base::{Cell, ClientNo, List, Memory, RowNo, Stamp, TableName};
 use au_catalog::{Catalog, Kept, Record};
 use au_grants::Grants;
+use au_image::Told;
 use au_txn::Desk;
 use std::alloc::Global;
 use std::marker::Model;
@@ -165,8 +166,8 @@ impl Keeping {
             &self.catalog,
             &self.grants,
             &self.desk,
-            self.trail.as_slice(),
-            self.last,
+            ClientNo(0),
+            &Told::all(self.trail.as_slice(), self.last),
             self.instance,
         )
     }

@@ -86,6 +86,7 @@ impl GrantsSeen for Course {
 
 /// Grants that are lent. No question takes memory: a grant is found by halving, and a circle is
 /// looked for among the roles that the granted role holds.
+#[derive(Drop)]
 pub struct Lent<'a> {
     pub grants: &'a Grants,
 }

@@ -4,6 +4,7 @@ pub mod Cuts
 pub mod Firsts
 pub mod Equalities
 pub mod Fronts
+pub mod Nothing
 pub mod Numbers
 pub mod Orders
 pub mod Scans

@@ -6,13 +6,14 @@ ghost use Rattle.au_query.specs.Combos.{AreSoundRows, overflows_over, product, v
 ghost use Rattle.au_query.specs.Inside.{cell_views, cells_in, found_in, names_in, overflows_in};
 
 use crate::Source;
+use crate::size::has_empty_table;
 use au_base::{Cell, RowNo};
 use au_expr::{
     Resolved, Row, SessionFacts, named_ranges_suffice, no_overflow_where_none_can, overflows_at,
 };
 
 /// Whether an expression overflows over some combination. Only the rows of tables that it names are
-/// gone through, and none where it can't overflow. It takes no memory.
+/// gone through, and none where it can't overflow or a table has no row. It takes no memory.
 pub fn overflows_somewhere(expr: &Resolved, session: &SessionFacts, sources: &[Source<'_>]) -> bool
     requires few { length sources.now ≤ limits.FROM_TABLES }
     requires sound { AreSoundRows (views sources.now) }
@@ -21,6 +22,9 @@ pub fn overflows_somewhere(expr: &Resolved, session: &SessionFacts, sources: &[S
     named_ranges_suffice();
     no_overflow_where_none_can();
     if !expr.can_overflow() {
+        return false;
+    }
+    if has_empty_table(sources) {
         return false;
     }
     let mut row = Row::new();

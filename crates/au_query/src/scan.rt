@@ -12,14 +12,16 @@ ghost use Rattle.au_query.specs.Inside.{IsKept, IsReach, gathered, trees_in_test
 use crate::Source;
 use crate::combo::Combo;
 use crate::cutting::{Test, are_passed, is_cut};
+use crate::size::has_empty_table;
 use au_base::limits::REPLY_ROWS;
 use au_base::{Memory, Truth};
 use au_expr::{Resolved, Row, SessionFacts, truth};
 use std::alloc::Global;
 
 /// The combinations over which each condition is Yes, in order. `None` where they are more than a
-/// reply may have. Nothing is allocated for a combination that is refused; and where a condition that
-/// names the first tables alone isn't Yes over their rows, none that begins with them is gone through.
+/// reply may have. Nothing is allocated for a combination that is refused; where a condition that names
+/// the first tables alone isn't Yes over their rows, none that begins with them is gone through; and
+/// where a table has no row, none at all.
 pub fn combos<'a>(
     alloc: Global,
     tests: &[Test<'_>],
@@ -33,6 +35,9 @@ pub fn combos<'a>(
         (λ kept. (kept.items ≡ spec.combos session.now (trees_in_tests tests.now) (views sources.now)) × (length (spec.combos session.now (trees_in_tests tests.now) (views sources.now)) ≤ limits.REPLY_ROWS))) }
 {
     let mut kept = Vec::new(alloc);
+    if has_empty_table(sources) {
+        return Ok(Some(kept));
+    }
     let mut front = Combo::new(alloc)?;
     let mut row = Row::new();
     if scan(

@@ -1,7 +1,7 @@
-//! How many combinations there are.
-ghost use Rattle.std.specs.Prelude.{◌≡◌, ◌≤◌, ◌<◌, ◌*◌, ℕ, MatchOption};
+//! How many combinations there are, and whether there are any.
+ghost use Rattle.std.specs.Prelude.{◌≡◌, ◌≤◌, ◌<◌, ◌*◌, [], ℕ, MatchOption, true};
 ghost use Rattle.au_base.specs.Limits as limits;
-ghost use Rattle.au_query.specs.Combos.{product_size, views};
+ghost use Rattle.au_query.specs.Combos.{product, product_size, views};
 
 use crate::Source;
 use au_base::limits::COMBINATIONS;
@@ -29,5 +29,16 @@ fn times(rows: usize, rest: Option<u64>) -> Option<u64>
     match rest.checked_mul(rows as u64) {
         Some(size) if size <= COMBINATIONS => Some(size),
         _ => None,
+    }
+}
+
+/// Whether one of the tables has no row. There is no combination then.
+#[tactic(auto, using(crate::proofs::Nothing::none_of_none, crate::proofs::Nothing::none_behind))]
+pub fn has_empty_table(sources: &[Source<'_>]) -> bool
+    ensures { result ≡ true → product (views sources.now) ≡ [] }
+{
+    match sources.split_first() {
+        None => false,
+        Some((source, rest)) => source.rows.is_empty() || has_empty_table(rest),
     }
 }

@@ -2,6 +2,7 @@
 use Rattle.std.specs.Prelude.{List, flat_map, map}
 use Rattle.std.specs.Borrow.{Bor}
 use Rattle.au_base.specs.declared.cell.Cell.{Cell}
+use Rattle.au_base.specs.declared.numbers.ClientNo.{ClientNo}
 use Rattle.au_base.specs.declared.numbers.RowNo.{RowNo}
 use Rattle.au_base.specs.declared.table.TableName.{TableName}
 use Rattle.au_entries.specs.declared.change.Change.{Change}
@@ -9,7 +10,13 @@ use Rattle.au_entries.specs.declared.table.Table.{Table}
 use Rattle.au_entries.specs.Changing.{KeptRow}
 use Rattle.au_entries.specs.Imaging.{row_change}
 use Rattle.au_rows.specs.Held.{lent}
+use Rattle.au_txn.specs.Desks.{Contents as Desk, open_of}
 use Rattle.au_txn.specs.Rows.{Row, rows_in, triple_of}
+use Rattle.au_txn.specs.Transactions.{laid_over}
+
+-- the rows as the client sees them
+abbrev pub seen_by : ClientNo → Desk → List Row
+seen_by client desk = laid_over desk.rows (open_of desk client)
 
 -- a row of the table, by its number and its cells
 abbrev pub row_of : TableName → RowNo × List Cell → KeptRow
