@@ -118,7 +118,7 @@ fn drawn_actions(
 
 /// An action, ALL among them.
 pub fn drawn_action(draw: &mut Draw) -> Action {
-    Action::from_code(draw.below(23) as u8).unwrap_or(Action::All)
+    Action::from_code(small(draw, 23)).unwrap_or(Action::All)
 }
 
 fn drawn_roles(alloc: Global, draw: &mut Draw) -> Result<List<Name>, Fault> {
@@ -206,7 +206,12 @@ pub fn drawn_grants(alloc: Global, draw: &mut Draw) -> Result<Grants, Fault> {
 
 /// A system privilege; none at times.
 pub fn drawn_privilege(draw: &mut Draw) -> Option<Privilege> {
-    Privilege::from_code(draw.below(18) as u8)
+    Privilege::from_code(small(draw, 18))
+}
+
+// A number less than this one, which is at most 256.
+fn small(draw: &mut Draw, bound: u64) -> u8 {
+    u8::try_from(draw.below(bound)).unwrap_or(0)
 }
 
 fn granted(alloc: Global, changes: &[GrantChange]) -> Result<Grants, Fault> {

@@ -24,7 +24,7 @@ pub fn are_in_order(names: &[Name]) -> bool
 
 // Whether the name comes behind the last one, where there is one.
 fn comes_behind(last: Option<&Name>, name: &Name) -> bool
-    ensures { result ≡ comes_behind (option_copied last) name.now }
+    ensures { result ≡ comes_behind (option_copied last.entry) name.now }
 {
     match last {
         Some(last) => *last < *name,
