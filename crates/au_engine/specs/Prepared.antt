@@ -1,15 +1,17 @@
 -- What a step that is worked out, and one that is prepared, make of a state.
-use Rattle.std.specs.Prelude.{◌≡◌, ◌≢◌, ◌<◌, ◌≤◌, ◌+◌, ⊤, ℕ, Bool, ◌==◌, if◌then◌else◌, IsTrue, List, [], ◌∷◌, ◌++◌, length, map, take, drop, Option, None, Some, is_some}
+use Rattle.std.specs.Prelude.{◌≡◌, ◌≢◌, ◌<◌, ◌≤◌, ◌+◌, ⊤, ℕ, Bool, ◌==◌, if◌then◌else◌, IsTrue, List, [], ◌∷◌, ◌++◌, length, map, take, drop, IfSome, Option, None, Some, is_some}
 use Rattle.std.specs.List.{filter_map}
 use Rattle.au_audit.specs.Conditions.{forgetting}
 use Rattle.au_base.specs.declared.cell.Cell.{Cell}
 use Rattle.au_base.specs.declared.numbers.ClientNo.{ClientNo}
 use Rattle.au_base.specs.declared.numbers.Stamp.{Stamp}
+use Rattle.au_catalog.specs.Settling.{catalog_of}
 use Rattle.au_entries.specs.declared.change.Change.{Change}
 use Rattle.au_entries.specs.Frames.{after_parts}
 use Rattle.au_kept.specs.Keeping.{desk_of}
 use Rattle.au_kept.specs.Staging.{CanSettle, IsLogged, IsStaged}
 use Rattle.au_kept.specs.Staging as keepings
+use Rattle.au_pindex.specs.Staging as indexes
 use Rattle.au_replay.specs.Reading.{conditions}
 use Rattle.au_step.specs.Abandoning.{sessions_without}
 use Rattle.au_step.specs.Lawful.{IsLawfulState}
@@ -159,7 +161,8 @@ HasSpare _ desk = ⊤
 
 -- What is ready are the step's changes, and it fits what is kept, which can be settled so: what is kept then is what a frame
 -- with all of its changes makes of it. What its client writes can be written. There is room for all of it, and a seat for a
--- session that begins. The state is lawful afterwards, and no client has two sessions.
+-- session that begins. What is ready for the index of the audit policies fits it, and leads to the catalogue afterwards. The
+-- state is lawful then, and no client has two sessions.
 pub record Fits (prepared : Prepared) (engine : Reserved) : Type 0 where
   pub staged : IsStaged (logged_of prepared).changes prepared.staged
   pub fits : keepings.Fits prepared.staged (contents_of engine)
@@ -171,5 +174,7 @@ pub record Fits (prepared : Prepared) (engine : Reserved) : Type 0 where
   pub spare : HasSpare prepared.sessions (desk_of (contents_of engine))
   pub room : length prepared.records ≤ engine.room
   pub seat : 0 < engine.seats
+  pub index : IfSome engine.index (λ index. IfSome prepared.index (λ staged. indexes.Fits staged index))
+  pub leads : IfSome prepared.index (indexes.IsStaged (catalog_of engine.state.kept) (catalog_of (after prepared engine.state).kept))
   pub lawful : IsLawfulState (after prepared engine.state)
   pub apart : HaveOneEach (sessions_after prepared.sessions engine.state.sessions)

@@ -1,5 +1,5 @@
 //! The engine: the whole state.
-ghost use Rattle.std.specs.Prelude.{◌≡◌, ◌↔◌, ◌<◌, [], IfOk, IsTrue, None, OnErr, OnOk, if◌then◌else◌, is_some};
+ghost use Rattle.std.specs.Prelude.{◌≡◌, ◌↔◌, ◌<◌, [], IfOk, IfSome, IsTrue, OnErr, OnOk, if◌then◌else◌, is_some};
 ghost use Rattle.au_base.specs.Limits.{INSTANCES};
 ghost use Rattle.au_base.specs.declared.numbers.ClientNo.{ClientNo as Client};
 ghost use Rattle.au_entries.specs.Imaging.{nothing};
@@ -17,8 +17,9 @@ ghost use Rattle.au_step.specs.Sessions.{HaveOneEach};
 ghost use Rattle.au_engine.specs.Prepared.{Fits, after, instance_after};
 ghost use Rattle.au_engine.specs.Reserved.{contents_of};
 ghost use Rattle.au_kept.specs.Keeping.{HoldsTogether, desk_of};
-ghost use Rattle.au_pindex.specs.Changing.{changes_policies};
-ghost use Rattle.std.specs.List.{list_any};
+ghost use Rattle.au_catalog.specs.declared.catalog.Catalog.{Catalog};
+ghost use Rattle.au_pindex.specs.Indexing.{IsIndexOf};
+ghost use Rattle.au_pindex.specs.Staging as indexes;
 ghost use Rattle.rec_codec.specs.Frames.{IsSpellable, framed};
 
 use crate::prepared::Prepared;
@@ -28,14 +29,14 @@ use au_base::{ClientNo, LAST_MOMENT, List, Memory, Name, Reply, Stamp};
 use au_entries::{Change, Kept, Record};
 use au_kept::{Keeping, transactions_hold};
 use au_opening::opening_changes;
-use au_pindex::{Index, change_policies, indexes_stay};
+use au_pindex::{Index, StagedIndex};
 use au_step::{Session, ends_stay_lawful, starts_can_be_written};
 use rec_codec::Frame;
 use std::alloc::Global;
 use std::marker::Model;
 
-/// The whole state. Contracts see it beside each client's changes of rows, and the numbers of rows,
-/// records and sessions for which room is reserved.
+/// The whole state. Contracts see it beside each client's changes of rows, the numbers of rows, records
+/// and sessions for which room is reserved, and the index of the audit policies.
 #[derive(Drop)]
 pub struct Engine {
     pub(crate) keeping: Keeping,
@@ -53,6 +54,7 @@ pub struct Engine {
 impl Model for Engine {
     ghost use Rattle.std.specs.Prelude.{◌≡◌, ◌+◌, ◌≤◌, [], IfSome, None, map, vec_len, vec_capacity};
     ghost use Rattle.au_catalog.specs.Settling.{catalog_of};
+    ghost use Rattle.au_pindex.specs.contracts.index.Index as policy_index;
     ghost use Rattle.au_pindex.specs.Indexing.{IsIndexOf};
     ghost use Rattle.std.specs.Coded.{codes as value_codes};
     ghost use Rattle.au_base.specs.declared.numbers.ClientNo.{ClientNo as Client};
@@ -65,7 +67,7 @@ impl Model for Engine {
 
     ghost Value = { Reserved };
 
-    ghost coded = { Prim.hlevel (value_codes, expression.the_row.coded) };
+    ghost coded = { Prim.hlevel (value_codes, expression.the_row.coded, policy_index.the_row.coded) };
 
     ghost view = { λ e. record {
       state = record { kept = e.keeping.kept; sessions = map (with_changes e.keeping.logs) e.sessions.items; drawn = e.drawn; results = e.results };
@@ -73,6 +75,7 @@ impl Model for Engine {
       spare = e.keeping.spare;
       room = e.keeping.room;
       seats = e.seats;
+      index = e.index;
     } };
 
     ghost invariant = { λ e. (vec_len e.sessions + e.seats ≤ vec_capacity e.sessions)
@@ -170,8 +173,7 @@ impl Engine {
         })
     }
 
-    /// Makes a step that was worked out. It takes no memory and can't fail. The index of the audit
-    /// policies is dropped where the step changes policies or enablements or drops a user.
+    /// Makes a step that was worked out. It takes no memory and can't fail.
     pub fn apply(&mut self, prepared: Prepared) -> Reply
         requires { Fits prepared self.old }
         ensures reply { result ≡ prepared.reply }
@@ -183,15 +185,15 @@ impl Engine {
             sessions,
             results,
             finals: _,
-            changes,
+            changes: _,
             staged,
+            index,
             purge,
             records,
             last,
             framed: _,
         } = prepared;
-        indexes_stay();
-        drop_index(&mut self.index, changes.as_slice());
+        settle_index(&mut self.index, index);
         self.seats -= 1;
         self.drawn = drawn_after(&sessions, self.drawn);
         let kept = KeptChange {
@@ -295,13 +297,24 @@ impl Engine {
     }
 }
 
-// Drops the index, where one of the changes is of audit policies or of their enablements. It takes no
-// memory.
-fn drop_index(index: &mut Option<Index>, changes: &[Change])
-    ensures { index.new ≡ (if list_any changes_policies changes.now then None else index.old) }
+// Makes the changes of the index that are ready, or drops the index where none are. It takes no memory.
+fn settle_index(index: &mut Option<Index>, ready: Option<StagedIndex>)
+    requires { IfSome index.old (λ made. IfSome ready (λ staged. indexes.Fits staged made)) }
+    ensures { (catalog after : Catalog) → IfSome ready (indexes.IsStaged catalog after) → IfSome index.old (IsIndexOf catalog) → IfSome index.new (IsIndexOf after) }
 {
-    if change_policies(changes) {
-        *index = None;
+    match ready {
+        Some(staged) => settle_made(index, staged),
+        None => *index = None,
+    }
+}
+
+// Makes the changes of the index that are ready, where it is made.
+fn settle_made(index: &mut Option<Index>, staged: StagedIndex)
+    requires { IfSome index.old (indexes.Fits staged) }
+    ensures { (catalog after : Catalog) → indexes.IsStaged catalog after staged → IfSome index.old (IsIndexOf catalog) → IfSome index.new (IsIndexOf after) }
+{
+    if let Some(index) = index {
+        index.settle(staged);
     }
 }
 

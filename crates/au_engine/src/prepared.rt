@@ -12,10 +12,11 @@ use crate::outcome::SessionChange;
 use au_base::{List, Name, Reply, Stamp};
 use au_entries::{Change, Record};
 use au_kept::Staged;
+use au_pindex::StagedIndex;
 
 /// A step that is worked out and not made yet: what it makes otherwise, ready to be made without
 /// memory.
-#[derive(Debug, Drop)]
+#[derive(Drop)]
 pub struct Prepared {
     pub reply: Reply,
     pub sessions: SessionChange,
@@ -27,6 +28,9 @@ pub struct Prepared {
     pub changes: List<Change>,
     /// The other changes, ready to be made.
     pub staged: Staged,
+    /// The changes, ready to be made of the index of the audit policies. `None` where it has to be made
+    /// anew.
+    pub index: Option<StagedIndex>,
     /// Of a purge: the records stamped before this moment go, or all of them where it names none.
     pub purge: Option<Option<Stamp>>,
     /// The records that it leaves.

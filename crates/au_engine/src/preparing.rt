@@ -1,5 +1,5 @@
 //! Steps, worked out and made ready.
-ghost use Rattle.std.specs.Prelude.{◌≡◌, ◌≢◌, ◌<◌, ◌≤◌, IfOk, OnOk};
+ghost use Rattle.std.specs.Prelude.{◌≡◌, ◌≢◌, ◌<◌, ◌≤◌, IfOk, IfSome, IsSome, OnOk, map};
 ghost use Rattle.au_step.specs.Framing.{Writes};
 ghost use Rattle.au_step.specs.Planning.{IsPlanFor};
 ghost use Rattle.au_step.specs.Reading.{IsReadOf};
@@ -10,7 +10,12 @@ ghost use Rattle.au_engine.specs.Counting.{CountsFor};
 ghost use Rattle.au_engine.specs.Inside.{CanBeMade};
 ghost use Rattle.au_engine.specs.Prepared.{Fits, HasSpare, after, logged_by, logged_of, made_of};
 ghost use Rattle.au_engine.specs.Reserved.{contents_of};
+ghost use Rattle.au_catalog.specs.Settling.{catalog_after_all, catalog_of, condition_texts};
 ghost use Rattle.au_kept.specs.Keeping.{desk_of};
+ghost use Rattle.au_pindex.specs.Indexing.{IsIndexOf};
+ghost use Rattle.au_pindex.specs.Staging as indexes;
+ghost use Rattle.au_policy.specs.Asking.{CanBeAsked};
+ghost use Rattle.au_replay.specs.Reading.{conditions};
 ghost use Rattle.au_txn.specs.Desks.{spare_of};
 
 use crate::Engine;
@@ -18,13 +23,14 @@ use crate::framing::{asks_are_text, with_frame};
 use crate::outcome::{Outcome, RowsChange, SessionChange};
 use crate::prepared::Prepared;
 use au_base::{Ask, ClientNo, Code, Memory, Stamp, Steps};
+use au_catalog::{Catalog, catalogues_change_by_their_parts};
 use au_entries::Change;
-use au_kept::spellings_are_short;
-use au_pindex::Index;
+use au_kept::{spellings_are_short, trees_of};
+use au_pindex::{Index, StagedIndex};
 use au_policy::lawful_policies_can_be_asked;
 use au_step::{clients_have_one_session, frames_lead_on, steps_hold};
 use au_world::RowPlan;
-use sql_ast::Statement;
+use sql_ast::{Expr, Statement};
 use std::alloc::Global;
 use std::sync::ledger::Ledger;
 
@@ -32,9 +38,9 @@ impl Engine {
     /// Works out the step of a client's ask at this stamp, and leaves the state as it is. A text
     /// that is asked comes with what it is read as, and with its plan; with another ask any reading
     /// comes. The results that the session and the instance keep of conditions are copied. Of the audit
-    /// policies those are tested that aren't Off and name the event, one step each; at the
-    /// first step, and behind one that changed policies or enablements or dropped a user, the index of
-    /// all is made before.
+    /// policies those are tested that aren't Off and name the event, one step each; at the first step
+    /// behind a replay, and behind one that made several changes of which some are of policies, the
+    /// index of all is made before.
     pub fn prepare<L: Ledger>(
         &mut self,
         alloc: Global,
@@ -62,14 +68,16 @@ impl Engine {
         let outcome = self.step(alloc, client, ask, read, plan, stamp, steps)?;
         let outcome = self.framed(alloc, client, ask, stamp, outcome)?;
         self.reserve_rows(alloc, &outcome.sessions)?;
-        self.ready(alloc, client, ask, stamp, outcome)
+        let index = self.stage_index(alloc, client, ask, stamp, &outcome)?;
+        self.ready(alloc, client, ask, stamp, outcome, index)
     }
 
-    // Makes the index of the audit policies, where a step has dropped it: in the time of going over them
-    // once, with their conditions.
+    // Makes the index of the audit policies, where there is none: in the time of going over them twice,
+    // for what their parts name and for their conditions.
     fn index_policies(&mut self, alloc: Global) -> Result<(), Memory>
         ensures keeps { self.new.state ≡ self.old.state }
         ensures seats { self.new.seats ≡ self.old.seats }
+        ensures index { OnOk result (IsSome self.new.index) }
     {
         if self.index.is_none() {
             self.holds_together();
@@ -93,6 +101,7 @@ impl Engine {
     fn reserve_rows(&mut self, alloc: Global, change: &SessionChange) -> Result<(), Memory>
         ensures keeps { self.new.state ≡ self.old.state }
         ensures seats { self.new.seats ≡ self.old.seats }
+        ensures index { self.new.index ≡ self.old.index }
         ensures spare { OnOk result (HasSpare change.now (desk_of (contents_of self.new))) }
     {
         match change {
@@ -109,6 +118,7 @@ impl Engine {
     fn reserve_for(&mut self, alloc: Global, client: ClientNo, more: usize) -> Result<(), Memory>
         ensures keeps { self.new.state ≡ self.old.state }
         ensures seats { self.new.seats ≡ self.old.seats }
+        ensures index { self.new.index ≡ self.old.index }
         ensures spare { OnOk result (more ≤ spare_of client (desk_of (contents_of self.new))) }
     {
         self.keeping.reserve(alloc, client, more)
@@ -166,6 +176,38 @@ impl Engine {
         Ok(made)
     }
 
+    // The changes of the step, ready to be made of the index of the audit policies.
+    fn stage_index(
+        &mut self,
+        alloc: Global,
+        client: ClientNo,
+        ask: &Ask,
+        stamp: Stamp,
+        outcome: &Outcome,
+    ) -> Result<Option<StagedIndex>, Memory>
+        requires client { client.0 ≢ 0 }
+        requires stamp { IsStampOf self.old.state stamp.0 }
+        requires seated { EndsWell self.old.state.kept }
+        requires step { LoggedStep self.old.state client ask.now stamp.0 outcome.now.reply (logged_by outcome.now) (made_of outcome.now self.old.state) }
+        requires index { IsSome self.old.index }
+        ensures leads { IfOk result (λ ready. IfSome ready (indexes.IsStaged (catalog_of self.old.state.kept) (catalog_of (made_of outcome.now self.old.state).kept))) }
+        ensures fits { IfOk result (λ ready. IfSome self.new.index (λ index. IfSome ready (λ staged. indexes.Fits staged index))) }
+        ensures contents { contents_of self.new ≡ contents_of self.old }
+        ensures keeps { self.new.state ≡ self.old.state }
+        ensures seats { self.new.seats ≡ self.old.seats }
+    {
+        self.holds_together();
+        asks_are_text(ask);
+        steps_hold();
+        spellings_are_short();
+        lawful_policies_can_be_asked();
+        catalogues_change_by_their_parts();
+        let changes = behind(outcome);
+        let trees = trees_of(alloc, changes)?;
+        let catalog = self.keeping.catalog();
+        staged_on(&mut self.index, alloc, catalog, changes, trees.as_slice())
+    }
+
     // The step with its changes ready to be made, and with room for its records.
     fn ready(
         &mut self,
@@ -174,6 +216,7 @@ impl Engine {
         ask: &Ask,
         stamp: Stamp,
         outcome: Outcome,
+        index: Option<StagedIndex>,
     ) -> Result<Prepared, Memory>
         requires client { client.0 ≢ 0 }
         requires stamp { IsStampOf self.old.state stamp.0 }
@@ -182,6 +225,8 @@ impl Engine {
         requires made { CanBeMade self.old.state outcome }
         requires seat { 0 < self.old.seats }
         requires spare { HasSpare outcome.sessions (desk_of (contents_of self.old)) }
+        requires leads { IfSome index (indexes.IsStaged (catalog_of self.old.state.kept) (catalog_of (made_of outcome self.old.state).kept)) }
+        requires index { IfSome self.old.index (λ made. IfSome index (λ staged. indexes.Fits staged made)) }
         ensures reply { IfOk result (λ prepared. prepared.reply ≡ outcome.reply) }
         ensures after { IfOk result (λ prepared. after prepared self.old.state ≡ made_of outcome self.old.state) }
         ensures framed { IfOk result (λ prepared. prepared.framed ≡ outcome.framed) }
@@ -215,11 +260,36 @@ impl Engine {
             finals,
             changes,
             staged,
+            index,
             purge,
             records,
             last,
             framed,
         })
+    }
+}
+
+// The changes, ready to be made of the index of the catalogue, which is made.
+fn staged_on(
+    index: &mut Option<Index>,
+    alloc: Global,
+    catalog: &Catalog,
+    changes: &[Change],
+    trees: &[Expr],
+) -> Result<Option<StagedIndex>, Memory>
+    requires made { IsSome index.old }
+    requires index { IfSome index.old (IsIndexOf catalog.now) }
+    requires catalog { CanBeAsked catalog.now }
+    requires trees { trees.now ≡ map conditions.tree (condition_texts changes.now) }
+    requires after { CanBeAsked (catalog_after_all conditions.tree changes.now catalog.now) }
+    ensures staged { IfOk result (λ ready. IfSome ready (indexes.IsStaged catalog.now (catalog_after_all conditions.tree changes.now catalog.now))) }
+    ensures fits { IfOk result (λ ready. IfSome index.new (λ made. IfSome ready (λ staged. indexes.Fits staged made))) }
+    ensures index { IfSome index.new (IsIndexOf catalog.now) }
+    ensures made { IsSome index.new }
+{
+    match index {
+        Some(index) => index.stage(alloc, catalog, changes, trees),
+        None => unreachable!(),
     }
 }
 

@@ -28,5 +28,6 @@ pub use commits::{commits_can_settle, numbers_stay_few, worlds_are_sound};
 pub use keeping::Keeping;
 pub use laws::{frames_hold, images_lead_back, spellings_are_short};
 pub use quick::is_of_rows;
+pub use reading::trees_of;
 pub use staged::{Staged, TableEdit};
 pub use transactions::transactions_hold;

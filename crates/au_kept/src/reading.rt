@@ -10,8 +10,9 @@ use sql_ast::Expr;
 use sql_parse::condition;
 use std::alloc::Global;
 
-/// The trees of the conditions that the changes hold, in their order.
-pub(crate) fn trees_of(alloc: Global, changes: &[Change]) -> Result<Vec<Expr>, Memory>
+/// The trees of the conditions that the changes hold, in their order: what the texts are read as, NULL
+/// where a text isn't a condition. It takes as long as the texts are.
+pub fn trees_of(alloc: Global, changes: &[Change]) -> Result<Vec<Expr>, Memory>
     requires short { AllByRecursion HasShortText changes.now }
     ensures { IfOk result (λ trees. trees.items ≡ map conditions.tree (condition_texts changes.now)) }
 {

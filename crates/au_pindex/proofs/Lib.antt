@@ -1,9 +1,16 @@
-pub mod Added
+pub mod Afterwards
+pub mod Edited
+pub mod EnabledBy
+pub mod Found
 pub mod GrantedTo
 pub mod Keys
+pub mod Laid
+pub mod Leading
 pub mod Named
 pub mod Numbers
 pub mod Placing
+pub mod Shifted
+pub mod Spared
 pub mod Stays
 pub mod Taken
 pub mod Tested

@@ -9,7 +9,8 @@ use Rattle.std.specs.List.Sorted.{IsStrictlySortedBy}
 use Rattle.std.specs.Ordering.{MatchOrdering, nat_cmp}
 use Rattle.std.specs.Prelude.{◌==◌, Option, Some, None, ⊤}
 use Rattle.std.specs.declared.cmp.Ordering.TheVariants.{Less}
-use Rattle.au_pindex.specs.Places.{passes, passes_at, places_where}
+use Rattle.au_pindex.specs.Places.{passes, passes_at}
+use Rattle.au_pindex.specs.descent.Places.{places_where}
 
 -- ---- numbers
 

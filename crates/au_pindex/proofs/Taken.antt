@@ -28,8 +28,9 @@ use Rattle.au_pindex.specs.Buckets.{is_in_bucket, places_of}
 use Rattle.au_pindex.specs.declared.bucketed.Bucketed.{Bucketed}
 use Rattle.au_pindex.specs.Indexing.{AreBucketsOf, is_listed, table_cmp}
 use Rattle.au_pindex.specs.Naming.{is_enabled, is_named, names_action, names_privilege, names_role, names_table}
-use Rattle.au_pindex.specs.Places.{passes, passes_at, places_where}
-use Rattle.au_pindex.specs.Taking.{is_taken}
+use Rattle.au_pindex.specs.Places.{passes, passes_at}
+use Rattle.au_pindex.specs.descent.Places.{places_where}
+use Rattle.au_pindex.specs.descent.Taking.{is_taken}
 use Rattle.au_pindex.proofs.Numbers.{same_number, turned}
 use Rattle.au_pindex.proofs.Placing.{any_passes, any_same, both_ways, listed, or_passes, rising}
 

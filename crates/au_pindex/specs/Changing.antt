@@ -1,4 +1,4 @@
--- Which changes make another index.
+-- Which changes are of what an index is made of: where none of several is, the index stays as it is.
 use Rattle.std.specs.Prelude.{Bool, true, false}
 use Rattle.au_entries.specs.declared.change.Change.{Change}
 use Rattle.au_entries.specs.declared.change.Change.TheVariants.{UserGone, Policy, PolicyGone, Enable}

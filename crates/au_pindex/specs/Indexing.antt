@@ -1,5 +1,5 @@
 -- When an index is that of a catalogue.
-use Rattle.std.specs.Prelude.{◌≡◌, ◌==◌, ◌&&◌, ◌||◌, ℕ, Bool, List, [], map, Option, option_map}
+use Rattle.std.specs.Prelude.{◌≡◌, ◌&&◌, ℕ, Bool, List, [], map, Option, option_map}
 use Rattle.std.specs.Cmp.Lexicographic.{slice_cmp}
 use Rattle.std.specs.Ordering.{nat_cmp, ordering_then}
 use Rattle.std.specs.declared.cmp.Ordering.{Ordering}
@@ -34,13 +34,6 @@ pub record AreBucketsOf (enabled : List (List ℕ × Enabled)) (policies : List 
   pub tables : (table : TableName) (place : ℕ) → is_in_bucket table_cmp buckets.tables table place ≡ passes_at (is_listed names_table enabled table) policies place
   pub privileges : (privilege : Privilege) (place : ℕ) → is_in_bucket nat_cmp buckets.privileges (privileges.code_of privilege) place ≡ passes_at (is_listed names_privilege enabled privilege) policies place
   pub roles : (role : List ℕ) (place : ℕ) → is_in_bucket (slice_cmp nat_cmp) buckets.roles role place ≡ passes_at (is_listed names_role enabled role) policies place
-
--- the place, which is that of the policy, joins the buckets of all that the policy names, where it is enabled
-pub record AddsPolicy (enabled : Bool) (policy : AuditPolicy) (place : ℕ) (old new : Bucketed) : Type 0 where
-  pub actions : (action : Action) (at : ℕ) → is_in_bucket nat_cmp new.actions (actions.code_of action) at ≡ (((enabled && names_action action policy) && (place == at)) || is_in_bucket nat_cmp old.actions (actions.code_of action) at)
-  pub tables : (table : TableName) (at : ℕ) → is_in_bucket table_cmp new.tables table at ≡ (((enabled && names_table table policy) && (place == at)) || is_in_bucket table_cmp old.tables table at)
-  pub privileges : (privilege : Privilege) (at : ℕ) → is_in_bucket nat_cmp new.privileges (privileges.code_of privilege) at ≡ (((enabled && names_privilege privilege policy) && (place == at)) || is_in_bucket nat_cmp old.privileges (privileges.code_of privilege) at)
-  pub roles : (role : List ℕ) (at : ℕ) → is_in_bucket (slice_cmp nat_cmp) new.roles role at ≡ (((enabled && names_role role policy) && (place == at)) || is_in_bucket (slice_cmp nat_cmp) old.roles role at)
 
 -- the condition of the policy, where it has one, resolved over no table
 abbrev pub condition_of : AuditPolicy → Option Placed

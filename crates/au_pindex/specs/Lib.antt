@@ -3,4 +3,5 @@ pub mod Changing
 pub mod Indexing
 pub mod Naming
 pub mod Places
-pub mod Taking
+pub mod Staging
+pub mod descent

@@ -3,12 +3,23 @@
 
 mod bucketed;
 mod buckets;
+mod changing;
+mod enabling;
+mod finding;
 mod index;
+mod joining;
 mod laws;
 mod naming;
+mod putting;
 mod resolving;
 mod roles;
+mod settling;
+mod shift;
+mod sparing;
+mod staged;
+mod staging;
 mod testing;
 
 pub use index::Index;
-pub use laws::{change_policies, indexes_stay};
+pub use laws::indexes_stay;
+pub use staged::StagedIndex;

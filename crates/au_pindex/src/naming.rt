@@ -10,8 +10,8 @@ ghost use Rattle.au_base.specs.Privileges as privileges;
 ghost use Rattle.au_pindex.specs.Buckets.{is_in_bucket};
 ghost use Rattle.au_pindex.specs.Indexing.{AreBucketsOf, table_cmp};
 ghost use Rattle.au_pindex.specs.Naming.{count_named, is_named};
-ghost use Rattle.au_pindex.specs.Places.{places_where};
-ghost use Rattle.au_pindex.specs.Taking.{is_in_role, is_taken};
+ghost use Rattle.au_pindex.specs.descent.Places.{places_where};
+ghost use Rattle.au_pindex.specs.descent.Taking.{is_in_role, is_taken};
 
 use crate::bucketed::Bucketed;
 use crate::buckets::{take_all, take_bucket};

@@ -7,7 +7,7 @@ ghost use Rattle.au_entries.specs.Demand.{demanding};
 ghost use Rattle.au_expr.specs.Resolving.{placed};
 ghost use Rattle.au_pindex.specs.Indexing.{condition_of};
 ghost use Rattle.au_pindex.specs.Naming.{count_named, is_named};
-ghost use Rattle.au_pindex.specs.Places.{places_where};
+ghost use Rattle.au_pindex.specs.descent.Places.{places_where};
 ghost use Rattle.au_policy.specs.Asking.{AreInOrder, CanBeAsked, IsTruthOverNone, truth_now};
 
 use au_base::{List, Memory, Steps};

@@ -15,13 +15,14 @@ pub struct Store<D: Disk, C: Clock> {
 }
 
 impl<D: Disk, C: Clock> Model for Store<D, C> {
+    ghost use Rattle.au_pindex.specs.contracts.index.Index as policy_index;
     ghost use Rattle.std.specs.Coded.{codes as value_codes};
     ghost use Rattle.sql_ast.specs.contracts.expression.Expr as expression;
     ghost use Rattle.au_store.specs.Stored.{Stored, IsSound};
 
     ghost Value = { Stored D C };
 
-    ghost coded = { Prim.hlevel (value_codes, expression.the_row.coded, D.code, C.code) };
+    ghost coded = { Prim.hlevel (value_codes, expression.the_row.coded, policy_index.the_row.coded, D.code, C.code) };
 
     ghost view = { λ s. record {
       state = s.engine.state;
@@ -29,6 +30,7 @@ impl<D: Disk, C: Clock> Model for Store<D, C> {
       spare = s.engine.spare;
       room = s.engine.room;
       seats = s.engine.seats;
+      index = s.engine.index;
       disk = s.journal.disk;
       seat = s.journal.seat;
       clock = s.clock;

@@ -9,7 +9,7 @@ use Rattle.au_base.specs.Actions as actions
 use Rattle.au_base.specs.Privileges as privileges
 use Rattle.au_pindex.specs.Buckets.{is_in_bucket}
 use Rattle.au_pindex.specs.Indexing.{table_cmp}
-use Rattle.au_pindex.specs.Taking.{is_in_role}
+use Rattle.au_pindex.specs.descent.Taking.{is_in_role}
 use Rattle.au_pindex.proofs.Keys.{in_turn}
 use Rattle.au_pindex.proofs.naming.all_named.Goals as goal
 

@@ -2,7 +2,7 @@ use Rattle.std.proofs.Common.{◌≡◌, ◌||◌, ℕ}
 use Rattle.std.specs.BTreeSet.{contains}
 use Rattle.std.specs.List.{list_any}
 use Rattle.std.specs.Ordering.{nat_cmp}
-use Rattle.au_pindex.specs.Taking.{is_in_role}
+use Rattle.au_pindex.specs.descent.Taking.{is_in_role}
 use Rattle.au_pindex.proofs.naming.take_roles.Given as goal
 
 abbrev pub invariant-loop-role : goal.invariant-loop-role

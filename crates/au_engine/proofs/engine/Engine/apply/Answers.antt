@@ -1,12 +1,7 @@
 use Rattle.std.proofs.Common.{◌≡◌, ◌∙◌, ◌≤◌, ℕ, Bool, List, length, map, drop, refl, sym, ap, subst, arith}
-use Rattle.std.specs.Prelude.{if◌then◌else◌, IfSome, Option, None, Some, false, true}
-use Rattle.std.specs.List.{list_any}
+use Rattle.std.specs.Prelude.{IfSome, None}
 use Rattle.au_catalog.specs.Settling.{catalog_of}
-use Rattle.au_entries.specs.declared.change.Change.{Change}
-use Rattle.au_entries.specs.Changing.{changed_all}
-use Rattle.au_pindex.specs.Changing.{changes_policies}
-use Rattle.au_pindex.specs.declared.index.Index.{Index}
-use Rattle.au_pindex.specs.Indexing.{IsIndexOf}
+use Rattle.au_pindex.specs.Staging as indexes
 use Rattle.au_base.specs.declared.numbers.ClientNo.{ClientNo}
 use Rattle.au_entries.specs.declared.kept.Kept.{Kept}
 use Rattle.au_txn.specs.Logs.{Changes, changes_of}
@@ -54,6 +49,9 @@ settle-requires-clause-rows c =
     can_now p.sessions m e.keeping refl (λ q. desk_tells e.keeping e.sessions.items q (c.self.invariant.3 q))
     (subst (λ (e : Reserved). CanChange e.state p.sessions) back c.requires.rows) (subst (λ (e : Reserved). HasSpare p.sessions (desk_of (contents_of e))) back c.requires.spare)
 
+pub settle_index-requires : goal.settle_index-requires
+settle_index-requires c = subst (λ (e : Reserved). IfSome e.index (λ index. IfSome c.args.prepared.index (λ staged. indexes.Fits staged index))) (sym c.self.view_is) c.requires.index
+
 pub settle-requires-clause-apart : goal.settle-requires-clause-apart
 settle-requires-clause-apart c = apart_alone c.self.inside.keeping.logs c.self.inside.sessions.items c.self.invariant.2
 
@@ -69,13 +67,6 @@ kept_now : (p : Prepared) (m : State) (records : List Record) (new : Kept) → n
     → (after p m).kept ≡ after_parts conditions.tree p.last p.purge p.changes p.records m.kept → new ≡ (after p m).kept
 kept_now p m records new is same leaves = is ∙ (ap (λ (rs : List Record). after_parts conditions.tree p.last p.purge p.changes rs m.kept) same ∙ sym leaves)
 
--- the index then, where there is one
-index_after : (gone : Bool) (old new : Option Index) (kept before : Kept) → new ≡ (if gone then None else old) → ((index : Index) → gone ≡ false → IsIndexOf (catalog_of before) index → IsIndexOf (catalog_of kept) index)
-    → IfSome old (IsIndexOf (catalog_of before)) → IfSome new (IsIndexOf (catalog_of kept))
-index_after true old new kept before is stays was = subst (λ (o : Option Index). IfSome o (IsIndexOf (catalog_of kept))) (sym is) tt
-index_after false None new kept before is stays was = subst (λ (o : Option Index). IfSome o (IsIndexOf (catalog_of kept))) (sym is) tt
-index_after false (Some index) new kept before is stays was = subst (λ (o : Option Index). IfSome o (IsIndexOf (catalog_of kept))) (sym is) (stays index refl was)
-
 pub invariant_of-self : goal.invariant_of-self
 invariant_of-self c =
     let p = c.args.prepared in
@@ -84,6 +75,7 @@ invariant_of-self c =
     let e = c.self.inside in
     let m = state_by e.keeping.kept e.keeping.logs e.sessions.items e.drawn e.results in
     let apart = subst (λ (e : Reserved). HaveOneEach (sessions_after p.sessions e.state.sessions)) back c.requires.apart in
+    let leads = subst (λ (e : Reserved). IfSome p.index (indexes.IsStaged (catalog_of e.state.kept) (catalog_of (after p e.state).kept))) back c.requires.leads in
     let logged = subst (λ (e : Reserved). IsLogged (commits_of p.sessions) (contents_of e) (logged_of p).changes p.changes) back c.requires.logged in
     let leaves = subst (λ (e : Reserved). (after p e.state).kept ≡ after_parts conditions.tree p.last p.purge p.changes p.records e.state.kept) back c.requires.leaves in
     let stands = stands_of p.sessions m (subst (λ (e : Reserved). CanChange e.state p.sessions) back c.requires.rows) in
@@ -94,10 +86,7 @@ invariant_of-self c =
       subst IsLawfulState (sym is) (subst (λ (e : Reserved). IsLawfulState (after p e.state)) back c.requires.lawful),
       subst (λ (s : State). HaveOneEach s.sessions) (sym is) apart,
       (λ q none. quiet_after p.sessions e.keeping.logs c.settle.new.keeping.logs m.sessions c.settle.ensures.lists was.3 stands q (subst (λ (s : State). session_of s.sessions q ≡ None) is none)),
-      index_after (list_any changes_policies p.changes) e.index c.drop_index.new.index c.settle.new.keeping.kept e.keeping.kept (subst (λ (changes : List Change). c.drop_index.new.index ≡ (if list_any changes_policies changes then None else e.index)) c.as_slice.ensures c.drop_index.ensures)
-          (λ index none is. subst (λ (k : Kept). IsIndexOf (catalog_of k) index) (sym (c.settle.ensures.kept (logged_of p).changes p.changes c.requires.staged logged))
-          (c.indexes_stay.ensures.same (changed_all conditions.tree p.changes e.keeping.kept) (after_parts conditions.tree p.last p.purge p.changes c.into_vec.result.items e.keeping.kept) index refl refl (c.indexes_stay.ensures.changed conditions.tree p.changes e.keeping.kept index none is)))
-          was.4,
+      c.settle_index.ensures (catalog_of e.keeping.kept) (catalog_of c.settle.new.keeping.kept) (subst (λ (k : Kept). IfSome p.index (indexes.IsStaged (catalog_of e.keeping.kept) (catalog_of k))) (sym kept) leads) was.4,
     )
 
 pub returns-clause-next : goal.returns-clause-next

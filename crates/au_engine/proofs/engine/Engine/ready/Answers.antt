@@ -1,4 +1,5 @@
 use Rattle.std.proofs.Common.{◌≡◌, ◌∙◌, ◌<◌, ◌≤◌, List, [], map, ap, ap₂, sym, subst, arith}
+use Rattle.std.specs.Prelude.{IfSome}
 use Rattle.std.proofs.lemmas.List.{take-append-drop}
 use Rattle.au_base.specs.declared.numbers.ClientNo.{ClientNo}
 use Rattle.au_entries.specs.Frames.{after_parts}
@@ -6,12 +7,14 @@ use Rattle.au_step.specs.State.{State}
 use Rattle.au_txn.specs.Desks.{open_in}
 use Rattle.std.specs.List.{AllByRecursion}
 use Rattle.au_base.specs.Limits.{GRANTS}
+use Rattle.au_catalog.specs.Settling.{catalog_of}
 use Rattle.au_entries.specs.declared.change.Change.{Change}
 use Rattle.au_entries.specs.declared.kept.Kept.{Kept}
 use Rattle.au_entries.specs.Changing.{changed_all}
 use Rattle.au_grants.specs.declared.grants.Grants.{Grants}
 use Rattle.au_grants.specs.Rights.{grant_count}
 use Rattle.au_kept.specs.Staging.{IsLogged, IsOfRow, IsStaged}
+use Rattle.au_pindex.specs.Staging as indexes
 use Rattle.au_replay.specs.Reading.{HasShortText, conditions}
 use Rattle.au_step.specs.Lawful.{IsLawfulState}
 use Rattle.au_step.specs.Sessions.{HaveOneEach}
@@ -85,6 +88,8 @@ returns-clause-fits c =
       spare = spare_stays o.sessions (contents_of a.self.now) c.stage.new.self logs (subst (λ (e : Reserved). e.spare ≤ c.stage.new.self.spare) c.self.view_is staged.spare) c.requires.spare;
       room = omega (arith, staged.room, c.len.ensures);
       seat = subst (λ (e : Reserved). 0 < e.seats) (sym c.self.view_is) c.requires.seat;
+      index = subst (λ (e : Reserved). IfSome e.index (λ index. IfSome a.index (λ ready. indexes.Fits ready index))) (sym c.self.view_is) c.requires.index;
+      leads = subst (λ (s : State). IfSome a.index (indexes.IsStaged (catalog_of s.kept) (catalog_of (made_of o s).kept))) back c.requires.leads;
       lawful = subst (λ (s : State). IsLawfulState (made_of o s)) back (law.lawful m n a.client a.ask.now a.stamp.0 o.reply logged lawful ends is text some step);
       apart = subst (λ (s : State). HaveOneEach (sessions_after o.sessions s.sessions)) back
           (c.clients_have_one_session.ensures.one m n a.client a.ask.now a.stamp.0 o.reply logged c.holds_together.ensures.apart step);

@@ -1,0 +1,52 @@
+-- Room for places in the buckets of what a policy names.
+use Rattle.std.specs.Prelude.{◌≡◌, ◌≤◌, ℕ, ◌-◌, true, List, Option, Some, None, Vec, length, vec_capacity, vec_len}
+use Rattle.std.specs.BTreeMap.{BTreeMap, get}
+use Rattle.std.specs.Cmp.Lexicographic.{slice_cmp}
+use Rattle.std.specs.Global.{Global}
+use Rattle.std.specs.Ordering.{nat_cmp}
+use Rattle.std.specs.declared.cmp.Ordering.{Ordering}
+use Rattle.au_base.specs.declared.action.Action.{Action}
+use Rattle.au_base.specs.declared.privilege.Privilege.{Privilege}
+use Rattle.au_base.specs.declared.table.TableName.{TableName}
+use Rattle.au_base.specs.Actions as actions
+use Rattle.au_base.specs.Privileges as privileges
+use Rattle.au_entries.specs.declared.policy.AuditPolicy.{AuditPolicy}
+use Rattle.au_pindex.specs.Buckets.{is_in_bucket}
+use Rattle.au_pindex.specs.declared.bucketed.Bucketed.{Bucketed}
+use Rattle.au_pindex.specs.Indexing.{table_cmp}
+use Rattle.au_pindex.specs.Naming.{names_action, names_privilege, names_role, names_table}
+
+-- how many more places a bucket takes in the room that it has: none where there is no bucket
+abbrev pub room_of : Option (Vec ℕ Global) → ℕ
+room_of None = 0
+room_of (Some bucket) = vec_capacity bucket - vec_len bucket
+
+-- how many more places the bucket of the key takes in the room that it has
+abbrev pub room_in : {K : Type 0} → (K → K → Ordering) → BTreeMap K (Vec ℕ Global) → K → ℕ
+room_in {K} cmp buckets key = room_of (get cmp buckets key)
+
+-- the bucket of each key that the policy names has room for as many places as the policy has parts of that kind
+pub record HasRoomFor (policy : AuditPolicy) (buckets : Bucketed) : Type 0 where
+  pub actions : (action : Action) → names_action action policy ≡ true → length policy.actions ≤ room_in nat_cmp buckets.actions (actions.code_of action)
+  pub tables : (table : TableName) → names_table table policy ≡ true → length policy.actions ≤ room_in table_cmp buckets.tables table
+  pub privileges : (privilege : Privilege) → names_privilege privilege policy ≡ true → length policy.privileges ≤ room_in nat_cmp buckets.privileges (privileges.code_of privilege)
+  pub roles : (role : List ℕ) → names_role role policy ≡ true → length policy.roles ≤ room_in (slice_cmp nat_cmp) buckets.roles role
+
+-- no bucket has less room than it had
+pub record KeepsRoom (old new : Bucketed) : Type 0 where
+  pub actions : (code : ℕ) → room_in nat_cmp old.actions code ≤ room_in nat_cmp new.actions code
+  pub tables : (table : TableName) → room_in table_cmp old.tables table ≤ room_in table_cmp new.tables table
+  pub privileges : (code : ℕ) → room_in nat_cmp old.privileges code ≤ room_in nat_cmp new.privileges code
+  pub roles : (role : List ℕ) → room_in (slice_cmp nat_cmp) old.roles role ≤ room_in (slice_cmp nat_cmp) new.roles role
+
+-- buckets have the places that they had, and no less room
+pub record KeepPlaces {K : Type 0} (cmp : K → K → Ordering) (old new : BTreeMap K (Vec ℕ Global)) : Type 0 where
+  pub places : (key : K) (at : ℕ) → is_in_bucket cmp new key at ≡ is_in_bucket cmp old key at
+  pub rooms : (key : K) → room_in cmp old key ≤ room_in cmp new key
+
+-- all buckets have the places that they had
+pub record KeepAllPlaces (old new : Bucketed) : Type 0 where
+  pub actions : KeepPlaces nat_cmp old.actions new.actions
+  pub tables : KeepPlaces table_cmp old.tables new.tables
+  pub privileges : KeepPlaces nat_cmp old.privileges new.privileges
+  pub roles : KeepPlaces (slice_cmp nat_cmp) old.roles new.roles
