@@ -57,7 +57,6 @@ nothing_holds keyed is kept desk blank empty = subst (λ (k : Kept). HoldsTogeth
 pub writable : (kept : Kept) (desk : Desk) → HoldsTogether kept desk → IsWritable kept
 writable kept desk h = record { last = h.kept_is.lawful.last; spelled = h.kept_is.spelled }
 
--- and so can it without its trail and its last stamp
 pub bare_writable : (kept : Kept) (desk : Desk) → HoldsTogether kept desk → IsWritable (record kept { trail = []; last = record { 0 = 0 } })
 bare_writable kept desk h = record { last = omega arith; spelled = record { entries = h.kept_is.spelled.entries; records = tt } }
 

@@ -1,4 +1,4 @@
-use Rattle.std.proofs.Common.{◌≡◌, ◌∙◌, [], subst, sym}
+use Rattle.std.proofs.Common.{◌≡◌, ◌∙◌, [], arith, subst, sym}
 use Rattle.au_entries.specs.declared.kept.Kept.{Kept}
 use Rattle.au_image.specs.Image.{IsWritable, image_of, kept_of, kept_rows}
 use Rattle.au_kept.proofs.Held.{as_told, bare_writable}
