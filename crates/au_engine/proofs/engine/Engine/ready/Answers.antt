@@ -22,6 +22,7 @@ use Rattle.au_txn.specs.Logs.{Changes}
 use Rattle.rec_codec.specs.Changes.{IsChangeSpellable}
 use Rattle.au_engine.specs.Prepared.{CanChange, committed_by, logged_by, made_of, sessions_after}
 use Rattle.au_engine.specs.Reserved.{Reserved, contents_of, with_changes}
+use Rattle.au_engine.proofs.Indexed.{none_ok}
 use Rattle.au_engine.proofs.Settled.{all_behind, grants_alone, grants_committed, spare_stays}
 use Rattle.au_engine.proofs.Settles.{short}
 use Rattle.au_engine.proofs.engine.Engine.ready.Goals as goal
@@ -51,6 +52,9 @@ stage-requires-clause-few c =
     subst (λ (cs : List Change). grant_count (changed_all conditions.tree cs c.self.inside.keeping.kept).grants ≤ GRANTS) (sym c.behind.ensures)
     (subst (λ (e : Reserved). grant_count (changed_all conditions.tree logged.changes e.state.kept).grants ≤ GRANTS) (sym c.self.view_is)
     (subst (λ (g : Grants). grant_count g ≤ GRANTS) (sym same) lawful.kept.whole.few.grants))
+
+pub returns-in_err-staged-clause-fits : goal.returns-in_err-staged-clause-fits
+returns-in_err-staged-clause-fits c = none_ok _ c.from_residual.result _ c.from_residual.ensures.1
 
 pub returns-clause-fits : goal.returns-clause-fits
 returns-clause-fits c =
