@@ -6,8 +6,10 @@ pub mod ExpressionLaws
 pub mod Follow
 pub mod MomentLaws
 pub mod QueryLaws
+pub mod ReservedLaws
 pub mod RowStatementDepth
 pub mod RowStatementLaws
 pub mod TableLaws
 pub mod TreeLaws
 pub mod Turns
+pub mod WholeLaws

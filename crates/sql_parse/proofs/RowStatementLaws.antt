@@ -1,31 +1,34 @@
 -- A row statement and what is read.
-use Rattle.std.proofs.Common.{◌≡◌, ℕ, Bool, true, false, cond, ◌&&◌, List, [], ◌∷◌, Option, Some, None, refl, sym, ap, subst, ◌∙◌, inl, inr}
-use Rattle.std.specs.Prelude.{codes}
+use Rattle.std.proofs.Common.{◌≡◌, ℕ, Bool, true, false, ◌&&◌, List, ◌∷◌, Option, Some, refl, sym, ap, subst, ◌∙◌, inl, inr}
+use Rattle.std.specs.Prelude.{Result, codes}
+use Rattle.au_base.specs.declared.memory.Memory.{Memory}
+use Rattle.sql_parse.specs.declared.stop.Stop.{Stop}
 use Rattle.sql_lex.specs.declared.token.Kind.{Kind}
 use Rattle.sql_lex.specs.declared.token.Kind.TheVariants.{Word}
 use Rattle.sql_ast.specs.declared.expression.Expr.{Expr}
 use Rattle.sql_ast.specs.declared.statement.Statement.{Statement}
 use Rattle.sql_ast.specs.declared.statement.Statement.TheVariants as statement
-use Rattle.sql_parse.specs.Symbols.{sees, opening, semicolon}
-use Rattle.sql_parse.specs.Rules.{Maybe, without, written}
+use Rattle.sql_parse.specs.Symbols.{sees, opening}
 use Rattle.sql_parse.specs.Expressions.{Within}
 use Rattle.sql_parse.specs.Changes as change
 use Rattle.sql_parse.specs.Queries as query
 use Rattle.sql_parse.specs.RowStatements as g
 use Rattle.sql_parse.specs.descent.Reading as read
-use Rattle.sql_parse.specs.descent.Reading.{under, behind}
+use Rattle.sql_parse.specs.descent.Reading.{Gives, under, behind}
 use Rattle.sql_parse.specs.descent.ReadTables.{past}
 use Rattle.sql_parse.specs.descent.ReadChanges as changes
 use Rattle.sql_parse.specs.descent.ReadQueries as queries
 use Rattle.sql_parse.specs.descent.ReadStatements as statements
 use Rattle.sql_parse.specs.Conditions.{limit, opens_few}
-use Rattle.sql_parse.specs.descent.Answers.{row_statement}
+use Rattle.sql_parse.specs.Whole.{Finds}
+use Rattle.sql_parse.specs.descent.Ending.{Ends}
 use Rattle.sql_parse.proofs.Exact.{some_is, under_some, chosen, guard, sees_is, Exact, Above}
 use Rattle.sql_parse.proofs.Follow.{OneOf, unseen, LAST, past_sound, past_complete}
 use Rattle.sql_parse.proofs.ExpressionLaws.{inside_exact}
 use Rattle.sql_parse.proofs.ChangeLaws.{delete_sound, delete_complete, update_sound, update_complete, insert_sound, insert_complete}
 use Rattle.sql_parse.proofs.QueryLaws.{select_sound, select_complete, count_sound, count_complete, no_count}
 use Rattle.sql_parse.proofs.RowStatementDepth.{statement_at_limit}
+use Rattle.sql_parse.proofs.WholeLaws.{Reads, ended_gives, none_opens_many, one_whole, whole_found}
 
 -- ---- one statement
 
@@ -103,35 +106,24 @@ module _ (Inner : List Kind → Expr → List Kind → Type 0) (inner : List Kin
 
 -- ---- all tokens
 
-pub last : {A : Type 0} (r : List Kind) (x y : A) → read.whole (statements.past_end (Some (x, r))) ≡ Some y → Maybe semicolon r [] × (x ≡ y)
-last [] x y h = (without, some_is x y h)
-last (t ∷ r) x y h = go (sees semicolon (t ∷ r)) refl r refl h
-  where
-    go : (b : Bool) → sees semicolon (t ∷ r) ≡ b → (s : List Kind) → r ≡ s → read.whole (Some (x, cond b s (t ∷ s))) ≡ Some y → Maybe semicolon (t ∷ r) [] × (x ≡ y)
-    go true e [] same h = (subst (λ (o : List Kind). Maybe semicolon o []) (sym (sees_is semicolon (t ∷ r) e ∙ ap (λ (o : List Kind). semicolon ∷ o) same)) written, some_is x y h)
-    go true e (u ∷ s) same h = absurd cc
-    go false e s same h = absurd cc
+abbrev reader : List Kind → Option (Statement × List Kind)
+reader = statements.row_statement (read.inside limit)
 
-pub statement_is : (ts : List Kind) (x : Statement) → row_statement ts ≡ Some x → g.IsRowStatement ts x
-statement_is ts x h =
-    let t = guard (opens_few 0 ts) (read.whole (statements.past_end (statements.row_statement (read.inside limit) ts))) x h in go (statements.row_statement (read.inside limit) ts) refl t.1 t.0
-  where
-    go : (r : Option (Statement × List Kind)) → statements.row_statement (read.inside limit) ts ≡ r → read.whole (statements.past_end r) ≡ Some x → opens_few 0 ts ≡ true → g.IsRowStatement ts x
-    go None e w f = absurd cc
-    go (Some y) e w f =
-        let l = last y.1 y.0 x w in
-        let derived : g.RowStatement (Within limit) ts y.0 y.1 = statement_sound (Within limit) (read.inside limit) (inside_exact limit) ts y e in
-        record { few = f; depth = limit; behind = y.1; derived = subst (λ (z : Statement). g.RowStatement (Within limit) ts z y.1) l.1 derived; ends = l.0 }
+abbrev Rule : ℕ → List Kind → Statement → List Kind → Type 0
+Rule depth = g.RowStatement (Within depth)
 
-pub statement_read : (ts : List Kind) (x : Statement) → g.IsRowStatement ts x → row_statement ts ≡ Some x
-statement_read ts x s = go s.behind s.ends (statement_at_limit s.depth ts s.behind x s.derived s.few)
-  where
-    go : (o : List Kind) → Maybe semicolon o [] → g.RowStatement (Within limit) ts x o → row_statement ts ≡ Some x
-    go o without d = rw (s.few, statement_complete (Within limit) (read.inside limit) (inside_exact limit) ts [] x d tt) refl
-    go o written d = rw (s.few, statement_complete (Within limit) (read.inside limit) (inside_exact limit) ts LAST x d refl) refl
-
-pub no_statement : (ts : List Kind) → row_statement ts ≡ None → g.IsNoRowStatement ts
-no_statement ts h x s = let is : row_statement ts ≡ Some x = statement_read ts x s in cc
+rows_read : Reads (λ ks. ks) Rule reader
+rows_read = record {
+  sound = λ i y h. (limit, statement_sound (Within limit) (read.inside limit) (inside_exact limit) i y h);
+  complete = λ depth i o x few d f. statement_complete (Within limit) (read.inside limit) (inside_exact limit) i o x (statement_at_limit depth i o x d few) f;
+}
 
 pub one_way : (ts : List Kind) (x y : Statement) → g.IsRowStatement ts x → g.IsRowStatement ts y → x ≡ y
-one_way ts x y s t = some_is x y (sym (statement_read ts x s) ∙ statement_read ts y t)
+one_way = one_whole (λ ks. ks) Rule reader rows_read
+
+pub found : {X : Type 0} (ts : List Kind) (view : X → Statement × List Kind) (r : Result X Stop) (answer : Result (Option Statement) Memory)
+    → Gives view r (reader ts) → Ends view r answer → opens_few 0 ts ≡ true → Finds (g.IsRowStatement ts) answer
+found ts view r answer gives ends = whole_found (λ ks. ks) Rule reader rows_read ts answer (ended_gives (λ ks. ks) view r (reader ts) answer gives ends)
+
+pub too_many : (ts : List Kind) → opens_few 0 ts ≡ false → g.IsNoRowStatement ts
+too_many = none_opens_many (λ ks. ks) Rule reader rows_read

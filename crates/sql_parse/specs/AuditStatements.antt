@@ -1,6 +1,6 @@
 -- What a statement AUDIT, NOAUDIT or DROP AUDIT POLICY is (SQL Language Reference, "AUDIT (Unified Auditing)", "NOAUDIT
 -- (Unified Auditing)" and "DROP AUDIT POLICY (Unified Auditing)"; the choice of rules is this project's profile).
-use Rattle.std.specs.Prelude.{◌≡◌, ℕ, true, List, [], ◌∷◌, Option, codes}
+use Rattle.std.specs.Prelude.{ℕ, List, ◌∷◌, Option, codes}
 use Rattle.sql_lex.specs.declared.token.Kind.{Kind}
 use Rattle.sql_lex.specs.declared.token.Kind.TheVariants.{Word}
 use Rattle.sql_ast.specs.declared.administration.AuditedUsers.{AuditedUsers}
@@ -9,10 +9,9 @@ use Rattle.sql_ast.specs.declared.administration.Whenever.{Whenever}
 use Rattle.sql_ast.specs.declared.administration.Whenever.TheVariants as whenever
 use Rattle.sql_ast.specs.declared.statement.Statement.{Statement}
 use Rattle.sql_ast.specs.declared.statement.Statement.TheVariants as statement
-use Rattle.sql_parse.specs.Symbols.{semicolon}
-use Rattle.sql_parse.specs.Rules.{After, Maybe, Optional}
+use Rattle.sql_parse.specs.Rules.{After, Optional}
 use Rattle.sql_parse.specs.Tables.{Name}
-use Rattle.sql_parse.specs.Conditions.{opens_few}
+use Rattle.sql_parse.specs.Whole.{WholeOf}
 use Rattle.sql_parse.specs.Grants.{Names}
 
 -- BY name {, name} | EXCEPT name {, name}
@@ -25,6 +24,7 @@ pub data Outcome : List Kind → Whenever → List Kind → Type 0 where
   successful : {o : List Kind} → Outcome (Word (codes "SUCCESSFUL") ∷ o) whenever.Successful o
   not_successful : {o : List Kind} → Outcome (Word (codes "NOT") ∷ Word (codes "SUCCESSFUL") ∷ o) whenever.NotSuccessful o
 
+-- a statement of these, without the `;` behind it
 pub data AuditStatement : List Kind → Statement → List Kind → Type 0 where
   -- Audit = AUDIT POLICY name [BY name {, name} | EXCEPT name {, name}] [WHENEVER [NOT] SUCCESSFUL]
   audits : {i m n o : List Kind} {p : List ℕ} {u : Option AuditedUsers} {w : Option Whenever} → Name i p m → Optional AreUsers m u n → Optional (After (Word (codes "WHENEVER")) Outcome) n w o
@@ -36,11 +36,8 @@ pub data AuditStatement : List Kind → Statement → List Kind → Type 0 where
   drops : {i o : List Kind} {p : List ℕ} → Name i p o → AuditStatement (Word (codes "DROP") ∷ Word (codes "AUDIT") ∷ Word (codes "POLICY") ∷ i) (statement.DropPolicy p) o
 
 -- the tokens are this statement, with `;` behind it or without
-pub record IsAuditStatement (ts : List Kind) (x : Statement) : Type 0 where
-  pub few : opens_few 0 ts ≡ true
-  pub behind : List Kind
-  pub derived : AuditStatement ts x behind
-  pub ends : Maybe semicolon behind []
+abbrev pub IsAuditStatement : List Kind → Statement → Type 0
+IsAuditStatement = WholeOf AuditStatement
 
 -- the tokens are no such statement
 abbrev pub IsNoAuditStatement : List Kind → Type 0

@@ -1,5 +1,6 @@
 -- What a condition's text is.
 use Rattle.std.specs.Prelude.{◌≡◌, ℕ, ◌+◌, ◌-◌, Bool, true, ◌&&◌, nat_lt, List, [], ◌∷◌}
+use Rattle.au_base.specs.Limits.{OPEN_PARENTHESES}
 use Rattle.sql_lex.specs.declared.token.Kind.{Kind}
 use Rattle.sql_lex.specs.declared.token.Kind.TheVariants.{Mark}
 use Rattle.sql_lex.specs.declared.token.Mark.TheVariants as mark
@@ -11,7 +12,7 @@ use Rattle.sql_parse.specs.Expressions.{Cond, Within}
 
 -- how many parentheses may be open at once
 abbrev pub limit : ℕ
-limit = 100
+limit = OPEN_PARENTHESES
 
 -- No more than the limit of parentheses are open at once, where this many are open already. A closing one closes nothing
 -- where none is open.

@@ -28,6 +28,7 @@ abbrev pub joined : (List Expr → Expr) → List Expr → Expr
 joined make (x ∷ []) = x
 joined make xs = make xs
 
+-- `x {k x}`, as one part alone or as all of them under one node
 pub data Joined (k : Kind) (make : List Expr → Expr) (Item : List Kind → Expr → List Kind → Type 0) : List Kind → Expr → List Kind → Type 0 where
   joins : {i o : List Kind} {xs : List Expr} → Parted k Item i xs o → Joined k make Item i (joined make xs) o
 
@@ -84,6 +85,7 @@ module _ (Inner : List Kind → Expr → List Kind → Type 0) where
   abbrev pub Term : List Kind → Expr → List Kind → Type 0
   Term = Joined star e.Product Factor
 
+  -- (+ | -) term, and whether it is taken away
   pub data Summand : List Kind → Bool × Expr → List Kind → Type 0 where
     added : {i o : List Kind} {x : Expr} → Term i x o → Summand (plus ∷ i) (false, x) o
     subtracted : {i o : List Kind} {x : Expr} → Term i x o → Summand (minus ∷ i) (true, x) o

@@ -16,4 +16,5 @@ pub mod TableStatements
 pub mod Tables
 pub mod Trees
 pub mod UserStatements
+pub mod Whole
 pub mod descent

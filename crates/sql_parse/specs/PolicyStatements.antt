@@ -13,12 +13,12 @@ use Rattle.sql_ast.specs.declared.administration.Evaluation.TheVariants as evalu
 use Rattle.sql_ast.specs.declared.administration.PolicyCondition.{PolicyCondition}
 use Rattle.sql_ast.specs.declared.statement.Statement.{Statement}
 use Rattle.sql_ast.specs.declared.statement.Statement.TheVariants as statement
-use Rattle.sql_parse.specs.Symbols.{comma, semicolon}
-use Rattle.sql_parse.specs.Rules.{After, Maybe, Optional, Parted}
+use Rattle.sql_parse.specs.Symbols.{comma}
+use Rattle.sql_parse.specs.Rules.{After, Optional, Parted}
 use Rattle.sql_parse.specs.Tables.{Name, Table}
 use Rattle.sql_parse.specs.Grants.{Names}
 use Rattle.sql_parse.specs.Privileges.{IsPrivilege, tokens_of}
-use Rattle.sql_parse.specs.Conditions.{opens_few}
+use Rattle.sql_parse.specs.Whole.{WholeOf}
 
 -- the words of an action
 abbrev pub words_of_action : Action → List (List ℕ)
@@ -46,6 +46,7 @@ words_of_action actions.Execute = codes "EXECUTE" ∷ []
 words_of_action actions.Logon = codes "LOGON" ∷ []
 words_of_action actions.Logoff = codes "LOGOFF" ∷ []
 
+-- action = the words of an action, one behind the other
 pub data IsAction : List Kind → Action → List Kind → Type 0 where
   action : {a : Action} {o : List Kind} → IsAction (tokens_of (words_of_action a) ++ o) a o
 
@@ -84,11 +85,8 @@ pub data PolicyStatement : List Kind → Statement → List Kind → Type 0 wher
       (statement.CreatePolicy (record { policy = p; privileges = ps; actions = parts; roles = rs; condition = c })) o
 
 -- the tokens are this statement, with `;` behind it or without
-pub record IsPolicyStatement (ts : List Kind) (x : Statement) : Type 0 where
-  pub few : opens_few 0 ts ≡ true
-  pub behind : List Kind
-  pub derived : PolicyStatement ts x behind
-  pub ends : Maybe semicolon behind []
+abbrev pub IsPolicyStatement : List Kind → Statement → Type 0
+IsPolicyStatement = WholeOf PolicyStatement
 
 -- the tokens are no such statement
 abbrev pub IsNoPolicyStatement : List Kind → Type 0

@@ -35,6 +35,7 @@ words_of privileges.UpdateAnyTable = codes "UPDATE" ∷ codes "ANY" ∷ codes "T
 abbrev pub tokens_of : List (List ℕ) → List Kind
 tokens_of words = map (λ word. Word word) words
 
+-- privilege = the words of a system privilege, one behind the other
 pub data IsPrivilege : List Kind → Privilege → List Kind → Type 0 where
   privilege : {p : Privilege} {o : List Kind} → IsPrivilege (tokens_of (words_of p) ++ o) p o
 

@@ -1,5 +1,5 @@
 -- What a row statement is (SQL Language Reference, "SQL Statements"; the choice of rules is this project's profile).
-use Rattle.std.specs.Prelude.{◌≡◌, ℕ, true, List, [], ◌∷◌, codes}
+use Rattle.std.specs.Prelude.{List, ◌∷◌, codes}
 use Rattle.sql_lex.specs.declared.token.Kind.{Kind}
 use Rattle.sql_lex.specs.declared.token.Kind.TheVariants.{Word}
 use Rattle.sql_ast.specs.declared.expression.Expr.{Expr}
@@ -10,12 +10,11 @@ use Rattle.sql_ast.specs.declared.rows.Insert.{Insert}
 use Rattle.sql_ast.specs.declared.rows.Update.{Update}
 use Rattle.sql_ast.specs.declared.statement.Statement.{Statement}
 use Rattle.sql_ast.specs.declared.statement.Statement.TheVariants as statement
-use Rattle.sql_parse.specs.Symbols.{semicolon}
 use Rattle.sql_parse.specs.Rules.{Maybe}
 use Rattle.sql_parse.specs.Expressions.{Within}
 use Rattle.sql_parse.specs.Changes.{IsDelete, IsInsert, IsUpdate}
 use Rattle.sql_parse.specs.Queries.{IsCount, IsSelect}
-use Rattle.sql_parse.specs.Conditions.{opens_few}
+use Rattle.sql_parse.specs.Whole.{Whole}
 
 -- `Inner` is the rule of a condition within parentheses.
 module _ (Inner : List Kind → Expr → List Kind → Type 0) where
@@ -30,12 +29,8 @@ module _ (Inner : List Kind → Expr → List Kind → Type 0) where
     rolls_back : {i o : List Kind} → Maybe (Word (codes "WORK")) i o → RowStatement (Word (codes "ROLLBACK") ∷ i) statement.Rollback o
 
 -- the tokens are this row statement, with `;` behind it or without, however deep it nests
-pub record IsRowStatement (ts : List Kind) (x : Statement) : Type 0 where
-  pub few : opens_few 0 ts ≡ true
-  pub depth : ℕ
-  pub behind : List Kind
-  pub derived : RowStatement (Within depth) ts x behind
-  pub ends : Maybe semicolon behind []
+abbrev pub IsRowStatement : List Kind → Statement → Type 0
+IsRowStatement = Whole (λ ks. ks) (λ depth. RowStatement (Within depth))
 
 -- the tokens are no row statement
 abbrev pub IsNoRowStatement : List Kind → Type 0

@@ -3,6 +3,7 @@
 use Rattle.std.specs.Prelude.{ℕ, Bool, false, not, ◌&&◌, ◌==◌, nat_le, if◌then◌else◌, List, [], ◌∷◌, length, map, codes}
 use Rattle.std.specs.Str.{bytes_eq}
 use Rattle.std.specs.List.{list_any}
+use Rattle.au_base.specs.Limits.{NAME_BYTES}
 use Rattle.sql_lex.specs.declared.token.Kind.{Kind}
 use Rattle.sql_lex.specs.declared.token.Kind.TheVariants.{Word, Mark}
 use Rattle.sql_lex.specs.declared.token.Mark.{Mark as MarkName}
@@ -21,12 +22,13 @@ reserved = codes "ACTIONS" ∷ codes "ALL" ∷ codes "ALTER" ∷ codes "AND" ∷
     ∷ codes "PRIVILEGES" ∷ codes "REVOKE" ∷ codes "ROLES" ∷ codes "ROLLBACK" ∷ codes "SELECT" ∷ codes "SET" ∷ codes "SYSTIMESTAMP" ∷ codes "TABLE" ∷ codes "TIMESTAMP" ∷ codes "TO" ∷ codes "TRUE"
     ∷ codes "UPDATE" ∷ codes "USER" ∷ codes "VALUES" ∷ codes "VARCHAR2" ∷ codes "WHEN" ∷ codes "WHENEVER" ∷ codes "WHERE" ∷ codes "WITH" ∷ []
 
+-- whether the word is one of them
 unfoldable pub is_reserved : List ℕ → Bool
 is_reserved word = list_any (bytes_eq word) reserved
 
 -- a word that can be a name without quotes
 abbrev pub is_free : List ℕ → Bool
-is_free word = not (is_reserved word) && (nat_le 1 (length word) && nat_le (length word) 128)
+is_free word = not (is_reserved word) && (nat_le 1 (length word) && nat_le (length word) NAME_BYTES)
 
 -- one number a mark
 abbrev pub mark_number : MarkName → ℕ
@@ -58,30 +60,39 @@ abbrev pub sees : Kind → List Kind → Bool
 sees k [] = false
 sees k (t ∷ ts) = same k t
 
+-- `(`
 abbrev pub opening : Kind
 opening = Mark mark.OpenParenthesis
 
+-- `)`
 abbrev pub closing : Kind
 closing = Mark mark.CloseParenthesis
 
+-- `*`
 abbrev pub star : Kind
 star = Mark mark.Asterisk
 
+-- `+`
 abbrev pub plus : Kind
 plus = Mark mark.Plus
 
+-- `,`
 abbrev pub comma : Kind
 comma = Mark mark.Comma
 
+-- `-`
 abbrev pub minus : Kind
 minus = Mark mark.Minus
 
+-- `.`
 abbrev pub dot : Kind
 dot = Mark mark.Period
 
+-- `=`
 abbrev pub equal : Kind
 equal = Mark mark.Equal
 
+-- `;`
 abbrev pub semicolon : Kind
 semicolon = Mark mark.Semicolon
 
@@ -105,17 +116,21 @@ level_of_mark mark.Comma = 7
 level_of_mark mark.Semicolon = 7
 level_of_mark mark.Arrow = 7
 
+-- the words that go on with a sum to a test
 abbrev pub test_words : List (List ℕ)
 test_words = codes "IS" ∷ codes "NOT" ∷ codes "LIKE" ∷ codes "IN" ∷ codes "BETWEEN" ∷ []
 
+-- the same of a word
 abbrev pub level_of_word : List ℕ → ℕ
 level_of_word w = if bytes_eq w (codes "AND") then 5 else (if bytes_eq w (codes "OR") then 6 else (if list_any (bytes_eq w) test_words then 4 else 7))
 
+-- the same of a token
 abbrev pub level : Kind → ℕ
 level (Word w) = level_of_word w
 level (Mark m) = level_of_mark m
 level _ = 7
 
+-- The same of what comes next. At the end nothing goes on.
 abbrev pub level_at : List Kind → ℕ
 level_at [] = 7
 level_at (t ∷ ts) = level t

@@ -12,6 +12,7 @@ use Rattle.sql_parse.specs.descent.Answers.{condition}
 unfoldable pub tree_of : List ℕ → Option Expr
 tree_of text = tokens_of text >>= λ ts. condition (kinds ts)
 
+-- the tree, or NULL where there is none
 abbrev pub or_null : Option Expr → Expr
 or_null (Some x) = x
 or_null None = Null

@@ -1,15 +1,14 @@
 -- What a statement CREATE USER or ALTER USER is (SQL Language Reference, "CREATE USER" and "ALTER USER"; the choice of
 -- rules is this project's profile). It speaks of tokens with their places, since a word is a password as it is written.
-use Rattle.std.specs.Prelude.{◌≡◌, ℕ, ◌-◌, ◌≤◌, true, List, [], ◌∷◌, drop, length, take, codes, IsUtf8}
+use Rattle.std.specs.Prelude.{◌≡◌, ℕ, ◌-◌, ◌≤◌, List, ◌∷◌, drop, length, take, codes, IsUtf8}
 use Rattle.sql_lex.specs.declared.token.Kind.TheVariants.{Word, Quoted}
 use Rattle.sql_lex.specs.declared.token.Token.{Token}
 use Rattle.sql_ast.specs.declared.administration.Password.{Password}
 use Rattle.sql_ast.specs.declared.statement.Statement.{Statement}
 use Rattle.sql_ast.specs.declared.statement.Statement.TheVariants as statement
-use Rattle.sql_parse.specs.Symbols.{kinds, semicolon}
-use Rattle.sql_parse.specs.Rules.{Maybe}
+use Rattle.sql_parse.specs.Symbols.{kinds}
 use Rattle.sql_parse.specs.Expressions.{IsName}
-use Rattle.sql_parse.specs.Conditions.{opens_few}
+use Rattle.sql_parse.specs.Whole.{Whole}
 
 -- the bytes of a text from a place on, before another
 abbrev pub part : List ℕ → ℕ → ℕ → List ℕ
@@ -32,11 +31,8 @@ pub data UserStatement (text : List ℕ) : List Token → Statement → List Tok
       → UserStatement text (a ∷ b ∷ c ∷ d ∷ e ∷ t ∷ o) (statement.AlterUser n p) o
 
 -- the tokens of the text are this statement, with `;` behind it or without
-pub record IsUserStatement (text : List ℕ) (ts : List Token) (x : Statement) : Type 0 where
-  pub few : opens_few 0 (kinds ts) ≡ true
-  pub behind : List Token
-  pub derived : UserStatement text ts x behind
-  pub ends : Maybe semicolon (kinds behind) []
+abbrev pub IsUserStatement : List ℕ → List Token → Statement → Type 0
+IsUserStatement text = Whole kinds (λ depth. UserStatement text)
 
 -- the tokens are no such statement
 abbrev pub IsNoUserStatement : List ℕ → List Token → Type 0

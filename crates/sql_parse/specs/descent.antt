@@ -1,7 +1,9 @@
 pub mod Answers
+pub mod Ending
 pub mod MomentReading
 pub mod ReadChanges
 pub mod ReadQueries
 pub mod ReadStatements
 pub mod ReadTables
 pub mod Reading
+pub mod ReservedWords

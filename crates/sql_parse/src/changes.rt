@@ -5,6 +5,7 @@ ghost use Rattle.sql_parse.specs.descent.ReadChanges as spec;
 
 use crate::cursor::{behind, expect_mark, expect_word, past_word, sees_mark, sees_word};
 use crate::expression::{cond, sum, sums};
+use crate::lists::{Part, parted};
 use crate::names::name;
 use crate::stop::Stop;
 use crate::tables::{names, table};
@@ -83,7 +84,7 @@ pub fn update(alloc: Global, depth: u32, tokens: &[Token]) -> Result<(Update, &[
     Ok((found, rest))
 }
 
-#[tactic(auto, using(crate::proofs::Turns::turns), unfolding(crate::specs::descent::ReadChanges::assignments, crate::specs::descent::Reading::parted))]
+#[tactic(auto, unfolding(crate::specs::descent::ReadChanges::assignments))]
 fn assignments(
     alloc: Global,
     depth: u32,
@@ -91,18 +92,26 @@ fn assignments(
 ) -> Result<(List<Assignment>, &[Token]), Stop>
     ensures { Gives (λ x. (x.0, kinds x.1.now)) result (spec.assignments (inside depth) (kinds tokens.now)) }
 {
-    let (first, mut rest) = assignment(alloc, depth, tokens)?;
-    let mut parts = List::new(alloc);
-    parts.push(first)?;
-    for _turn in 0..rest.len() {
-        if !sees_mark(rest, Mark::Comma) {
-            break;
-        }
-        let (part, after) = assignment(alloc, depth, behind(rest))?;
-        parts.push(part)?;
-        rest = after;
+    parted(alloc, &AssignmentPart { depth }, tokens)
+}
+
+#[derive(Drop)]
+struct AssignmentPart {
+    depth: u32,
+}
+
+impl Part for AssignmentPart {
+    type Tree = Assignment;
+
+    ghost reading = { λ part. spec.assignment (inside part.depth) };
+
+    fn read<'t>(
+        &self,
+        alloc: Global,
+        tokens: &'t [Token],
+    ) -> Result<(Assignment, &'t [Token]), Stop> {
+        assignment(alloc, self.depth, tokens)
     }
-    Ok((parts, rest))
 }
 
 #[tactic(auto, unfolding(crate::specs::descent::ReadChanges::assignment))]

@@ -6,6 +6,7 @@ mod atom;
 mod changes;
 mod conditions;
 pub mod cursor;
+pub mod endings;
 mod expression;
 pub mod lists;
 pub mod literals;

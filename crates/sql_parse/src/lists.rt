@@ -18,13 +18,17 @@ pub trait Part {
     ghost reading: { Self → Sequence Kind → Option (Self.Tree × Sequence Kind) };
 
     /// What comes next, and the tokens behind it.
-    fn read<'t>(&self, alloc: Global, tokens: &'t [Token]) -> Result<(Self::Tree, &'t [Token]), Stop>
+    fn read<'t>(
+        &self,
+        alloc: Global,
+        tokens: &'t [Token],
+    ) -> Result<(Self::Tree, &'t [Token]), Stop>
         ensures { Gives (λ x. (x.0, kinds x.1.now)) result (reading self.now (kinds tokens.now)) };
 }
 
 /// `part {, part}`
 #[tactic(auto, using(crate::proofs::Turns::turns), unfolding(crate::specs::descent::Reading::parted))]
-pub fn list<'t, P: Part>(
+pub fn parted<'t, P: Part>(
     alloc: Global,
     part: &P,
     tokens: &'t [Token],

@@ -3,6 +3,7 @@ ghost use Rattle.std.specs.Prelude.{◌≡◌, map};
 ghost use Rattle.std.specs.Str.{bytes_eq};
 ghost use Rattle.std.specs.List.{list_any};
 ghost use Rattle.sql_parse.specs.Symbols.{kinds, is_free, is_reserved};
+ghost use Rattle.sql_parse.specs.descent.ReservedWords.{AreReservedFrom};
 ghost use Rattle.sql_parse.specs.descent.Reading.{Gives};
 ghost use Rattle.sql_parse.specs.descent.Reading as spec;
 
@@ -14,77 +15,51 @@ use sql_ast::Expr;
 use sql_lex::{Kind, Mark, Token};
 use std::alloc::Global;
 
-// The words that can't be names without quotes.
-const RESERVED: [&[u8]; 56] = [
-    b"ACTIONS",
-    b"ALL",
-    b"ALTER",
-    b"AND",
-    b"AS",
-    b"ASC",
-    b"AUDIT",
-    b"BEGIN",
-    b"BETWEEN",
-    b"BY",
-    b"CALL",
-    b"COMMIT",
-    b"CREATE",
-    b"DELETE",
-    b"DESC",
-    b"DROP",
-    b"END",
-    b"EXCEPT",
-    b"FALSE",
-    b"FROM",
-    b"GRANT",
-    b"IDENTIFIED",
-    b"IN",
-    b"INNER",
-    b"INSERT",
-    b"INTO",
-    b"IS",
-    b"JOIN",
-    b"LIKE",
-    b"NOAUDIT",
-    b"NOT",
-    b"NULL",
-    b"NUMBER",
-    b"ON",
-    b"OR",
-    b"ORDER",
-    b"PRIMARY",
-    b"PRIVILEGES",
-    b"REVOKE",
-    b"ROLES",
-    b"ROLLBACK",
-    b"SELECT",
-    b"SET",
-    b"SYSTIMESTAMP",
-    b"TABLE",
-    b"TIMESTAMP",
-    b"TO",
-    b"TRUE",
-    b"UPDATE",
-    b"USER",
-    b"VALUES",
-    b"VARCHAR2",
-    b"WHEN",
-    b"WHENEVER",
-    b"WHERE",
-    b"WITH",
-];
-
 fn is_free(word: &[u8]) -> bool
     ensures { result ≡ is_free word.now }
 {
     !is_reserved(word) && 1 <= word.len() && word.len() <= NAME_BYTES
 }
 
-#[tactic(auto, unfolding(crate::specs::Symbols::is_reserved))]
+#[tactic(auto, unfolding(crate::specs::descent::ReservedWords::AreReservedFrom))]
 fn is_reserved(word: &[u8]) -> bool
     ensures { result ≡ is_reserved word.now }
 {
-    is_among(&RESERVED, word)
+    match word {
+        [first, ..] => is_among(words_from(*first), word),
+        [] => false,
+    }
+}
+
+// The words that begin with this byte and can't be names without quotes.
+#[tactic(auto, unfolding(crate::specs::Symbols::is_reserved, crate::specs::descent::ReservedWords::AreReservedFrom))]
+fn words_from(first: u8) -> &'static [&'static [u8]]
+    ensures { AreReservedFrom first (map (λ word. word.now) result.now) }
+{
+    match first {
+        b'A' => &[
+            b"ACTIONS", b"ALL", b"ALTER", b"AND", b"AS", b"ASC", b"AUDIT",
+        ],
+        b'B' => &[b"BEGIN", b"BETWEEN", b"BY"],
+        b'C' => &[b"CALL", b"COMMIT", b"CREATE"],
+        b'D' => &[b"DELETE", b"DESC", b"DROP"],
+        b'E' => &[b"END", b"EXCEPT"],
+        b'F' => &[b"FALSE", b"FROM"],
+        b'G' => &[b"GRANT"],
+        b'I' => &[b"IDENTIFIED", b"IN", b"INNER", b"INSERT", b"INTO", b"IS"],
+        b'J' => &[b"JOIN"],
+        b'L' => &[b"LIKE"],
+        b'N' => &[b"NOAUDIT", b"NOT", b"NULL", b"NUMBER"],
+        b'O' => &[b"ON", b"OR", b"ORDER"],
+        b'P' => &[b"PRIMARY", b"PRIVILEGES"],
+        b'R' => &[b"REVOKE", b"ROLES", b"ROLLBACK"],
+        b'S' => &[b"SELECT", b"SET", b"SYSTIMESTAMP"],
+        b'T' => &[b"TABLE", b"TIMESTAMP", b"TO", b"TRUE"],
+        b'U' => &[b"UPDATE", b"USER"],
+        b'V' => &[b"VALUES", b"VARCHAR2"],
+        b'W' => &[b"WHEN", b"WHENEVER", b"WHERE", b"WITH"],
+        _ => &[],
+    }
 }
 
 fn is_among(mut words: &[&[u8]], word: &[u8]) -> bool

@@ -7,6 +7,7 @@ ghost use Rattle.sql_parse.specs.descent.ReadQueries as spec;
 use crate::changes::filter;
 use crate::cursor::{behind, expect_mark, expect_word, past_word, sees_mark, sees_word};
 use crate::expression::{cond, sum};
+use crate::lists::{Part, parted};
 use crate::names::name;
 use crate::stop::Stop;
 use crate::tables::{alias, aliased, qualified};
@@ -54,25 +55,30 @@ pub fn count(alloc: Global, depth: u32, tokens: &[Token]) -> Result<(Count, &[To
     Ok((Count { table, condition }, rest))
 }
 
-#[tactic(auto, using(crate::proofs::Turns::turns), unfolding(crate::specs::descent::ReadQueries::items_at, crate::specs::descent::Reading::parted))]
+#[tactic(auto, unfolding(crate::specs::descent::ReadQueries::items_at))]
 fn items(alloc: Global, depth: u32, tokens: &[Token]) -> Result<(Items, &[Token]), Stop>
     ensures { Gives (λ x. (x.0, kinds x.1.now)) result (spec.items_at (inside depth) (kinds tokens.now)) }
 {
     if sees_mark(tokens, Mark::Asterisk) {
         return Ok((Items::All, behind(tokens)));
     }
-    let (first, mut rest) = item(alloc, depth, tokens)?;
-    let mut parts = List::new(alloc);
-    parts.push(first)?;
-    for _turn in 0..rest.len() {
-        if !sees_mark(rest, Mark::Comma) {
-            break;
-        }
-        let (part, after) = item(alloc, depth, behind(rest))?;
-        parts.push(part)?;
-        rest = after;
+    let (found, rest) = parted(alloc, &ItemPart { depth }, tokens)?;
+    Ok((Items::Listed(found), rest))
+}
+
+#[derive(Drop)]
+struct ItemPart {
+    depth: u32,
+}
+
+impl Part for ItemPart {
+    type Tree = Item;
+
+    ghost reading = { λ part. spec.item (inside part.depth) };
+
+    fn read<'t>(&self, alloc: Global, tokens: &'t [Token]) -> Result<(Item, &'t [Token]), Stop> {
+        item(alloc, self.depth, tokens)
     }
-    Ok((Items::Listed(parts), rest))
 }
 
 #[tactic(auto, unfolding(crate::specs::descent::ReadQueries::item))]
@@ -160,23 +166,24 @@ fn sorted(alloc: Global, tokens: &[Token]) -> Result<(Option<List<SortKey>>, &[T
 }
 
 // The keys whose ORDER came before.
-#[tactic(auto, using(crate::proofs::Turns::turns), unfolding(crate::specs::descent::ReadQueries::orders, crate::specs::descent::Reading::parted))]
+#[tactic(auto, unfolding(crate::specs::descent::ReadQueries::orders))]
 fn orders(alloc: Global, tokens: &[Token]) -> Result<(List<SortKey>, &[Token]), Stop>
     ensures { Gives (λ x. (x.0, kinds x.1.now)) result (spec.orders (kinds tokens.now)) }
 {
     let rest = expect_word(tokens, b"BY").ok_or(Stop::Unread)?;
-    let (first, mut rest) = order(alloc, rest)?;
-    let mut parts = List::new(alloc);
-    parts.push(first)?;
-    for _turn in 0..rest.len() {
-        if !sees_mark(rest, Mark::Comma) {
-            break;
-        }
-        let (part, after) = order(alloc, behind(rest))?;
-        parts.push(part)?;
-        rest = after;
+    parted(alloc, &SortKeyPart, rest)
+}
+
+struct SortKeyPart;
+
+impl Part for SortKeyPart {
+    type Tree = SortKey;
+
+    ghost reading = { λ _. spec.order };
+
+    fn read<'t>(&self, alloc: Global, tokens: &'t [Token]) -> Result<(SortKey, &'t [Token]), Stop> {
+        order(alloc, tokens)
     }
-    Ok((parts, rest))
 }
 
 #[tactic(auto, unfolding(crate::specs::descent::ReadQueries::order))]

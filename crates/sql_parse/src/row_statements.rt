@@ -1,21 +1,23 @@
 //! Statements that read and change rows.
-ghost use Rattle.std.specs.Prelude.{◌≡◌, List, IfOk, MatchOption};
+ghost use Rattle.std.specs.Prelude.{◌≡◌, true, List, IfOk, MatchOption};
 ghost use Rattle.sql_lex.specs.declared.token.Kind.{Kind as TokenKind};
 ghost use Rattle.sql_ast.specs.declared.statement.Statement.{Statement as Tree};
 ghost use Rattle.sql_parse.specs.Symbols.{kinds};
 ghost use Rattle.sql_parse.specs.descent.Reading.{Gives, inside};
 ghost use Rattle.sql_parse.specs.descent.ReadStatements as spec;
 ghost use Rattle.sql_parse.specs.RowStatements.{IsNoRowStatement, IsRowStatement};
-ghost use Rattle.sql_parse.specs.descent.Answers as answers;
+ghost use Rattle.sql_parse.specs.Conditions.{opens_few};
+ghost use Rattle.sql_parse.specs.Whole.{Finds};
 
 use crate::changes::{delete, insert, update};
 use crate::conditions::{LIMIT, opens_few};
-use crate::cursor::{all_of, behind, past_mark, past_word, sees_word};
+use crate::cursor::{behind, past_word, sees_word};
+use crate::endings::whole;
 use crate::queries::{count, counts, select};
 use crate::stop::Stop;
 use au_base::Memory;
 use sql_ast::Statement;
-use sql_lex::{Mark, Token};
+use sql_lex::Token;
 use std::alloc::Global;
 
 /// The SELECT, INSERT, UPDATE, DELETE, COMMIT or ROLLBACK that the tokens are, with `;` behind it
@@ -23,27 +25,23 @@ use std::alloc::Global;
 pub fn row_statement(alloc: Global, tokens: &[Token]) -> Result<Option<Statement>, Memory>
     ensures { IfOk result (λ found. MatchOption found (IsNoRowStatement (kinds tokens.now)) (IsRowStatement (kinds tokens.now))) }
 {
-    match read(alloc, tokens) {
-        Ok(found) => Ok(Some(found)),
-        Err(Stop::Unread) => Ok(None),
-        Err(Stop::Memory) => Err(Memory),
+    if !opens_few(tokens) {
+        return Ok(None);
     }
+    shallow_row_statement(alloc, tokens)
+}
+
+/// The same of tokens that open no more than 100 parentheses at once, which it doesn't ask.
+pub fn shallow_row_statement(alloc: Global, tokens: &[Token]) -> Result<Option<Statement>, Memory>
+    ensures { opens_few 0 (kinds tokens.now) ≡ true → Finds (IsRowStatement (kinds tokens.now)) result }
+{
+    whole(statement(alloc, LIMIT, tokens))
 }
 
 /// Tokens are one row statement at most.
 pub fn one_row_statement()
     ensures { (ts : List TokenKind) (x y : Tree) → IsRowStatement ts x → IsRowStatement ts y → x ≡ y }
 {}
-
-fn read(alloc: Global, tokens: &[Token]) -> Result<Statement, Stop>
-    ensures { Gives (λ x. x) result (answers.row_statement (kinds tokens.now)) }
-{
-    if !opens_few(tokens) {
-        return Err(Stop::Unread);
-    }
-    let (found, rest) = statement(alloc, LIMIT, tokens)?;
-    all_of(found, past_mark(rest, Mark::Semicolon)).ok_or(Stop::Unread)
-}
 
 #[tactic(auto, unfolding(crate::specs::descent::ReadStatements::row_statement))]
 fn statement(alloc: Global, depth: u32, tokens: &[Token]) -> Result<(Statement, &[Token]), Stop>

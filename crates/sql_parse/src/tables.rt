@@ -1,9 +1,11 @@
 //! Tables, their aliases, and lists of names.
 ghost use Rattle.sql_parse.specs.Symbols.{kinds};
 ghost use Rattle.sql_parse.specs.descent.Reading.{Gives};
+ghost use Rattle.sql_parse.specs.descent.Reading as reading;
 ghost use Rattle.sql_parse.specs.descent.ReadTables as spec;
 
 use crate::cursor::{behind, sees_mark};
+use crate::lists::{Part, parted};
 use crate::names::name;
 use crate::stop::Stop;
 use au_base::{List, Name, TableReference};
@@ -55,20 +57,21 @@ pub fn aliased(alloc: Global, tokens: &[Token]) -> Result<(AliasedTable, &[Token
 }
 
 /// `name {, name}`
-#[tactic(auto, using(crate::proofs::Turns::turns), unfolding(crate::specs::descent::ReadTables::names, crate::specs::descent::Reading::parted))]
+#[tactic(auto, unfolding(crate::specs::descent::ReadTables::names))]
 pub fn names(alloc: Global, tokens: &[Token]) -> Result<(List<Name>, &[Token]), Stop>
     ensures { Gives (λ x. (x.0, kinds x.1.now)) result (spec.names (kinds tokens.now)) }
 {
-    let (first, mut rest) = name(alloc, tokens)?;
-    let mut parts = List::new(alloc);
-    parts.push(first)?;
-    for _turn in 0..rest.len() {
-        if !sees_mark(rest, Mark::Comma) {
-            break;
-        }
-        let (part, after) = name(alloc, behind(rest))?;
-        parts.push(part)?;
-        rest = after;
+    parted(alloc, &NamePart, tokens)
+}
+
+struct NamePart;
+
+impl Part for NamePart {
+    type Tree = Name;
+
+    ghost reading = { λ _. reading.name };
+
+    fn read<'t>(&self, alloc: Global, tokens: &'t [Token]) -> Result<(Name, &'t [Token]), Stop> {
+        name(alloc, tokens)
     }
-    Ok((parts, rest))
 }

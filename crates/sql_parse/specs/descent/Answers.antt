@@ -2,13 +2,8 @@
 use Rattle.std.specs.Prelude.{List, Option, None, if◌then◌else◌}
 use Rattle.sql_lex.specs.declared.token.Kind.{Kind}
 use Rattle.sql_ast.specs.declared.expression.Expr.{Expr}
-use Rattle.sql_ast.specs.declared.statement.Statement.{Statement}
 use Rattle.sql_parse.specs.descent.Reading.{whole, cond, inside}
-use Rattle.sql_parse.specs.descent.ReadStatements as statements
 use Rattle.sql_parse.specs.Conditions.{limit, opens_few}
 
 abbrev pub condition : List Kind → Option Expr
 condition ts = if opens_few 0 ts then whole (cond (inside limit) ts) else None
-
-abbrev pub row_statement : List Kind → Option Statement
-row_statement ts = if opens_few 0 ts then whole (statements.past_end (statements.row_statement (inside limit) ts)) else None

@@ -1,9 +1,6 @@
 use Rattle.sql_parse.specs.Symbols.{kinds}
-use Rattle.sql_parse.proofs.RowStatementLaws.{statement_is, no_statement}
+use Rattle.sql_parse.proofs.RowStatementLaws.{too_many}
 use Rattle.sql_parse.proofs.row_statements.row_statement.Goals as goal
 
-pub returns-in-Ok : goal.returns-in-Ok
-returns-in-Ok c = statement_is (kinds c.args.tokens.now) _ c.in-Ok.ensures
-
-pub returns-in-Err-Unread : goal.returns-in-Err-Unread
-returns-in-Err-Unread c = no_statement (kinds c.args.tokens.now) (rw c.in-Err-Unread.field-0-is at c.in-Err-Unread.ensures)
+pub returns-then-not-opens_few : goal.returns-then-not-opens_few
+returns-then-not-opens_few c = too_many (kinds c.args.tokens.now) (cc)

@@ -1,7 +1,7 @@
 use Rattle.std.proofs.Common.{◌≡◌, ◌-◌}
 use Rattle.sql_parse.specs.Symbols.{kinds, sees, comma}
 use Rattle.sql_parse.specs.descent.Reading.{many, after, parted}
-use Rattle.sql_parse.proofs.lists.list.Given as goal
+use Rattle.sql_parse.proofs.lists.parted.Given as goal
 
 abbrev pub invariant-loop-turn : goal.invariant-loop-turn
 invariant-loop-turn g l =
