@@ -19,7 +19,7 @@ use Rattle.sql_parse.specs.Privileges.{IsPrivilege, tokens_of}
 use Rattle.sql_parse.specs.Privileges as rights
 use Rattle.sql_parse.specs.PolicyStatements as g
 use Rattle.sql_parse.specs.PolicyStatements.{words_of_action}
-use Rattle.sql_parse_admin.specs.ReadGrants.{past_words, privilege}
+use Rattle.sql_parse_admin.specs.descent.ReadGrants.{past_words, privilege}
 use Rattle.sql_parse_admin.specs.ReadPolicies as policies
 use Rattle.sql_parse_admin.proofs.PrivilegeLaws as privileges
 

@@ -1,6 +1,8 @@
 -- AUDIT, NOAUDIT and DROP AUDIT POLICY are read exactly by their rules.
-use Rattle.std.proofs.Common.{◌≡◌, ℕ, ◌<◌, true, List, [], ◌∷◌, length, Option, Some, None, refl, sym, ap, subst, ◌∙◌, arith, inl, inr}
-use Rattle.std.specs.Prelude.{codes}
+use Rattle.std.proofs.Common.{◌≡◌, ℕ, ◌<◌, true, List, ◌∷◌, length, Option, Some, None, refl, sym, ap, subst, ◌∙◌, arith, inl, inr}
+use Rattle.std.specs.Prelude.{Result, codes}
+use Rattle.au_base.specs.declared.memory.Memory.{Memory}
+use Rattle.sql_parse.specs.declared.stop.Stop.{Stop}
 use Rattle.sql_lex.specs.declared.token.Kind.{Kind}
 use Rattle.sql_lex.specs.declared.token.Kind.TheVariants.{Word}
 use Rattle.sql_ast.specs.declared.administration.AuditedUsers.{AuditedUsers}
@@ -8,21 +10,22 @@ use Rattle.sql_ast.specs.declared.administration.Whenever.{Whenever}
 use Rattle.sql_ast.specs.declared.administration.Whenever.TheVariants as whenever
 use Rattle.sql_ast.specs.declared.statement.Statement.{Statement}
 use Rattle.sql_ast.specs.declared.statement.Statement.TheVariants as statement
-use Rattle.sql_parse.specs.Symbols.{sees, comma, semicolon}
-use Rattle.sql_parse.specs.Rules.{Maybe, without, written, Optional, absent, present}
+use Rattle.sql_parse.specs.Symbols.{sees, comma}
+use Rattle.sql_parse.specs.Rules.{Optional, absent, present}
 use Rattle.sql_parse.specs.Tables.{Name}
 use Rattle.sql_parse.specs.descent.Reading as read
-use Rattle.sql_parse.specs.descent.Reading.{◌>>=◌, under, behind, expect}
+use Rattle.sql_parse.specs.descent.Reading.{Gives, ◌>>=◌, under, behind, expect}
 use Rattle.sql_parse.specs.descent.ReadTables as tables
-use Rattle.sql_parse.specs.descent.ReadStatements.{past_end}
 use Rattle.sql_parse.specs.Conditions.{opens_few}
-use Rattle.sql_parse.proofs.Exact.{bind_some, under_some, some_is, chosen, guard, sees_is, expect_is, Exact}
+use Rattle.sql_parse.proofs.Exact.{bind_some, under_some, some_is, chosen, sees_is, expect_is, Exact}
 use Rattle.sql_parse.proofs.Follow.{OneOf, unseen, LAST, Anywhere, clause_first, clause_sound, clause_complete}
 use Rattle.sql_parse.proofs.TableLaws.{name_exact, names_exact, NoComma}
-use Rattle.sql_parse.proofs.RowStatementLaws.{last}
+use Rattle.sql_parse.specs.Whole.{Finds}
+use Rattle.sql_parse.specs.descent.Ending.{Ends}
+use Rattle.sql_parse.proofs.WholeLaws.{Reads, ended_gives, one_whole, whole_found}
 use Rattle.sql_parse.specs.Grants.{Names}
 use Rattle.sql_parse.specs.AuditStatements as g
-use Rattle.sql_parse_admin.specs.ReadAudits as audits
+use Rattle.sql_parse_admin.specs.descent.ReadAudits as audits
 
 abbrev BY : Kind
 BY = Word (codes "BY")
@@ -164,25 +167,12 @@ statement_complete i o x (g.drops {i = j} {p = p} d) f = rw (policy_complete j o
 
 -- ---- all tokens
 
-pub statement_is : (ts : List Kind) (x : Statement) → audits.whole_audit ts ≡ Some x → g.IsAuditStatement ts x
-statement_is ts x h =
-    let t = guard (opens_few 0 ts) (read.whole (past_end (audits.audit_statement ts))) x h in go (audits.audit_statement ts) refl t.1 t.0
-  where
-    go : (r : Option (Statement × List Kind)) → audits.audit_statement ts ≡ r → read.whole (past_end r) ≡ Some x → opens_few 0 ts ≡ true → g.IsAuditStatement ts x
-    go None e w f = absurd cc
-    go (Some y) e w f =
-        let l = last y.1 y.0 x w in
-        record { few = f; behind = y.1; derived = subst (λ (z : Statement). g.AuditStatement ts z y.1) l.1 (statement_sound ts y e); ends = l.0 }
-
-pub statement_read : (ts : List Kind) (x : Statement) → g.IsAuditStatement ts x → audits.whole_audit ts ≡ Some x
-statement_read ts x s = go s.behind s.ends s.derived
-  where
-    go : (o : List Kind) → Maybe semicolon o [] → g.AuditStatement ts x o → audits.whole_audit ts ≡ Some x
-    go o without d = rw (s.few, statement_complete ts [] x d tt) refl
-    go o written d = rw (s.few, statement_complete ts LAST x d refl) refl
-
-pub no_statement : (ts : List Kind) → audits.whole_audit ts ≡ None → g.IsNoAuditStatement ts
-no_statement ts h x s = let is : audits.whole_audit ts ≡ Some x = statement_read ts x s in cc
+whole_reads : Reads (λ ks. ks) (λ depth. g.AuditStatement) audits.audit_statement
+whole_reads = record { sound = λ i y h. (0, statement_sound i y h); complete = λ depth i o x few d f. statement_complete i o x d f }
 
 pub one_way : (ts : List Kind) (x y : Statement) → g.IsAuditStatement ts x → g.IsAuditStatement ts y → x ≡ y
-one_way ts x y s t = some_is x y (sym (statement_read ts x s) ∙ statement_read ts y t)
+one_way = one_whole (λ ks. ks) (λ depth. g.AuditStatement) audits.audit_statement whole_reads
+
+pub found : {X : Type 0} (ts : List Kind) (view : X → Statement × List Kind) (r : Result X Stop) (answer : Result (Option Statement) Memory)
+    → Gives view r (audits.audit_statement ts) → Ends view r answer → opens_few 0 ts ≡ true → Finds (g.IsAuditStatement ts) answer
+found ts view r answer gives ends = whole_found (λ ks. ks) (λ depth. g.AuditStatement) audits.audit_statement whole_reads ts answer (ended_gives (λ ks. ks) view r (audits.audit_statement ts) answer gives ends)

@@ -19,7 +19,7 @@ use Rattle.sql_parse.proofs.Follow.{OneOf, unseen, LAST}
 use Rattle.sql_parse.proofs.TableLaws.{names_exact, NoComma, table_exact}
 use Rattle.sql_parse.specs.Grants as g
 use Rattle.sql_parse.specs.Privileges.{IsObjectRight, IsRight}
-use Rattle.sql_parse_admin.specs.ReadGrants as grants
+use Rattle.sql_parse_admin.specs.descent.ReadGrants as grants
 use Rattle.sql_parse_admin.proofs.PrivilegeLaws.{rights_exact, object_rights_exact, object_first, right_first, ON}
 
 -- ---- WITH ADMIN OPTION

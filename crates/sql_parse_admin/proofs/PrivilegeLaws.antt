@@ -22,7 +22,7 @@ use Rattle.sql_parse.proofs.TableLaws.{name_exact, NoComma, name_unseen}
 use Rattle.sql_parse.proofs.ExpressionLaws.{name_complete}
 use Rattle.sql_parse.specs.Privileges as g
 use Rattle.sql_parse.specs.Privileges.{words_of, tokens_of}
-use Rattle.sql_parse_admin.specs.ReadGrants as grants
+use Rattle.sql_parse_admin.specs.descent.ReadGrants as grants
 
 -- ---- system privileges
 

@@ -1,24 +1,27 @@
 -- A statement about users, roles and rights, and what is read.
-use Rattle.std.proofs.Common.{◌≡◌, ℕ, true, List, [], ◌∷◌, Option, Some, None, refl, sym, subst, ◌∙◌, inl, inr}
-use Rattle.std.specs.Prelude.{codes}
+use Rattle.std.proofs.Common.{◌≡◌, ℕ, true, List, ◌∷◌, Option, Some, refl, sym, subst, inl, inr}
+use Rattle.std.specs.Prelude.{Result, codes}
+use Rattle.au_base.specs.declared.memory.Memory.{Memory}
+use Rattle.sql_parse.specs.declared.stop.Stop.{Stop}
 use Rattle.sql_lex.specs.declared.token.Kind.{Kind}
 use Rattle.sql_lex.specs.declared.token.Kind.TheVariants.{Word}
 use Rattle.sql_ast.specs.declared.statement.Statement.{Statement}
 use Rattle.sql_ast.specs.declared.statement.Statement.TheVariants as statement
-use Rattle.sql_parse.specs.Symbols.{sees, dot, semicolon}
-use Rattle.sql_parse.specs.Rules.{after, Maybe, without, written}
+use Rattle.sql_parse.specs.Symbols.{sees, dot}
+use Rattle.sql_parse.specs.Rules.{after}
 use Rattle.sql_parse.specs.descent.Reading as read
-use Rattle.sql_parse.specs.descent.Reading.{◌>>=◌, under, behind, expect}
+use Rattle.sql_parse.specs.descent.Reading.{Gives, ◌>>=◌, under, behind, expect}
 use Rattle.sql_parse.specs.descent.ReadTables as tables
-use Rattle.sql_parse.specs.descent.ReadStatements.{past_end}
 use Rattle.sql_parse.specs.Conditions.{opens_few}
-use Rattle.sql_parse.proofs.Exact.{bind_some, under_some, some_is, chosen, guard, sees_is, expect_is}
+use Rattle.sql_parse.proofs.Exact.{bind_some, under_some, chosen, guard, sees_is, expect_is}
 use Rattle.sql_parse.proofs.Follow.{OneOf, unseen, LAST}
 use Rattle.sql_parse.proofs.TableLaws.{name_exact, table_exact}
-use Rattle.sql_parse.proofs.RowStatementLaws.{last}
+use Rattle.sql_parse.specs.Whole.{Finds}
+use Rattle.sql_parse.specs.descent.Ending.{Ends}
+use Rattle.sql_parse.proofs.WholeLaws.{Reads, ended_gives, one_whole, whole_found}
 use Rattle.sql_parse.specs.Grants as grant
-use Rattle.sql_parse_admin.specs.ReadGrants as grants
-use Rattle.sql_parse_admin.specs.ReadStatements as statements
+use Rattle.sql_parse_admin.specs.descent.ReadGrants as grants
+use Rattle.sql_parse_admin.specs.descent.ReadStatements as statements
 use Rattle.sql_parse.specs.RightsStatements as g
 use Rattle.sql_parse_admin.proofs.GrantLaws.{grant_sound, grant_complete, grant_object_complete, revoke_sound, revoke_complete, revoke_object_complete}
 
@@ -88,25 +91,12 @@ statement_complete i o x (g.grants (grant.revoke_object {i = h} {j = j} {m = m} 
 
 -- ---- all tokens
 
-pub statement_is : (ts : List Kind) (x : Statement) → statements.whole_statement ts ≡ Some x → g.IsRightsStatement ts x
-statement_is ts x h =
-    let t = guard (opens_few 0 ts) (read.whole (past_end (statements.rights_statement ts))) x h in go (statements.rights_statement ts) refl t.1 t.0
-  where
-    go : (r : Option (Statement × List Kind)) → statements.rights_statement ts ≡ r → read.whole (past_end r) ≡ Some x → opens_few 0 ts ≡ true → g.IsRightsStatement ts x
-    go None e w f = absurd cc
-    go (Some y) e w f =
-        let l = last y.1 y.0 x w in
-        record { few = f; behind = y.1; derived = subst (λ (z : Statement). g.RightsStatement ts z y.1) l.1 (statement_sound ts y e); ends = l.0 }
-
-pub statement_read : (ts : List Kind) (x : Statement) → g.IsRightsStatement ts x → statements.whole_statement ts ≡ Some x
-statement_read ts x s = go s.behind s.ends s.derived
-  where
-    go : (o : List Kind) → Maybe semicolon o [] → g.RightsStatement ts x o → statements.whole_statement ts ≡ Some x
-    go o without d = rw (s.few, statement_complete ts [] x d tt) refl
-    go o written d = rw (s.few, statement_complete ts LAST x d refl) refl
-
-pub no_statement : (ts : List Kind) → statements.whole_statement ts ≡ None → g.IsNoRightsStatement ts
-no_statement ts h x s = let is : statements.whole_statement ts ≡ Some x = statement_read ts x s in cc
+whole_reads : Reads (λ ks. ks) (λ depth. g.RightsStatement) statements.rights_statement
+whole_reads = record { sound = λ i y h. (0, statement_sound i y h); complete = λ depth i o x few d f. statement_complete i o x d f }
 
 pub one_way : (ts : List Kind) (x y : Statement) → g.IsRightsStatement ts x → g.IsRightsStatement ts y → x ≡ y
-one_way ts x y s t = some_is x y (sym (statement_read ts x s) ∙ statement_read ts y t)
+one_way = one_whole (λ ks. ks) (λ depth. g.RightsStatement) statements.rights_statement whole_reads
+
+pub found : {X : Type 0} (ts : List Kind) (view : X → Statement × List Kind) (r : Result X Stop) (answer : Result (Option Statement) Memory)
+    → Gives view r (statements.rights_statement ts) → Ends view r answer → opens_few 0 ts ≡ true → Finds (g.IsRightsStatement ts) answer
+found ts view r answer gives ends = whole_found (λ ks. ks) (λ depth. g.RightsStatement) statements.rights_statement whole_reads ts answer (ended_gives (λ ks. ks) view r (statements.rights_statement ts) answer gives ends)

@@ -1,33 +1,36 @@
 -- CREATE TABLE is read exactly by its rules.
-use Rattle.std.proofs.Common.{◌≡◌, ℕ, pos, negsuc, ◌<◌, ◌≤◌, Bool, true, false, ◌&&◌, ◌||◌, List, [], ◌∷◌, length, Option, Some, None, refl, sym, ap, subst, ◌∙◌, arith, inl, inr}
-use Rattle.std.specs.Prelude.{codes, nat_le}
+use Rattle.std.proofs.Common.{◌≡◌, ℕ, pos, negsuc, ◌<◌, ◌≤◌, Bool, true, false, ◌&&◌, ◌||◌, List, [], ◌∷◌, length, Option, Some, refl, sym, ap, subst, ◌∙◌, arith, inl, inr}
+use Rattle.std.specs.Prelude.{Result, codes, nat_le}
 use Rattle.std.specs.List.{list_any}
 use Rattle.std.proofs.lemmas.Bool.{leb-true, le-leb, and_parts}
 use Rattle.au_base.specs.declared.table.ColumnKind.{ColumnKind}
 use Rattle.au_base.specs.declared.table.ColumnKind.TheVariants as column_kind
 use Rattle.au_base.specs.declared.table.TableReference.{TableReference}
+use Rattle.au_base.specs.declared.memory.Memory.{Memory}
+use Rattle.sql_parse.specs.declared.stop.Stop.{Stop}
 use Rattle.sql_lex.specs.declared.token.Kind.{Kind}
 use Rattle.sql_lex.specs.declared.token.Kind.TheVariants.{Word, Quoted, Number, Text, Mark}
 use Rattle.sql_ast.specs.declared.statement.Statement.{Statement}
 use Rattle.sql_ast.specs.declared.statement.Statement.TheVariants as statement
 use Rattle.sql_ast.specs.declared.table.Element.{Element}
 use Rattle.sql_ast.specs.declared.table.Element.TheVariants as element
-use Rattle.sql_parse.specs.Symbols.{same, sees, opening, closing, comma, semicolon, is_reserved}
+use Rattle.sql_parse.specs.Symbols.{same, sees, opening, closing, comma, is_reserved}
 use Rattle.sql_parse.specs.Rules.{Before, before, Maybe, without, written, Parted}
 use Rattle.sql_parse.specs.Tables as rules
 use Rattle.sql_parse.specs.descent.Reading as read
-use Rattle.sql_parse.specs.descent.Reading.{◌>>=◌, under, behind, expect}
+use Rattle.sql_parse.specs.descent.Reading.{Gives, ◌>>=◌, under, behind, expect}
 use Rattle.sql_parse.specs.descent.ReadTables as tables
 use Rattle.sql_parse.specs.descent.ReadTables.{closed, past}
-use Rattle.sql_parse.specs.descent.ReadStatements.{past_end}
 use Rattle.sql_parse.specs.Conditions.{opens_few}
 use Rattle.sql_parse.proofs.Exact.{bind_some, under_some, some_is, chosen, guard, sees_is, expect_is, Exact, parted_exact}
-use Rattle.sql_parse.proofs.Follow.{OneOf, unseen, LAST, Anywhere, past_sound, past_complete, closed_exact}
+use Rattle.sql_parse.proofs.Follow.{OneOf, unseen, Anywhere, past_sound, past_complete, closed_exact}
 use Rattle.sql_parse.proofs.TableLaws.{name_exact, names_exact, name_unseen, NoComma, table_exact}
-use Rattle.sql_parse.proofs.RowStatementLaws.{last}
+use Rattle.sql_parse.specs.Whole.{Finds}
+use Rattle.sql_parse.specs.descent.Ending.{Ends}
+use Rattle.sql_parse.proofs.WholeLaws.{Reads, ended_gives, one_whole, whole_found}
 use Rattle.sql_parse.specs.Grants.{Names}
 use Rattle.sql_parse.specs.TableStatements as g
-use Rattle.sql_parse_admin.specs.ReadTableDefinitions as definitions
+use Rattle.sql_parse_admin.specs.descent.ReadTableDefinitions as definitions
 
 abbrev NUMBER : Kind
 NUMBER = Word (codes "NUMBER")
@@ -340,25 +343,12 @@ statement_complete i o x (g.creates {i = j} {j = m} {t = t} {es = es} named d an
 
 -- ---- all tokens
 
-pub statement_is : (ts : List Kind) (x : Statement) → definitions.whole_table ts ≡ Some x → g.IsTableStatement ts x
-statement_is ts x h =
-    let t = guard (opens_few 0 ts) (read.whole (past_end (definitions.table_statement ts))) x h in go (definitions.table_statement ts) refl t.1 t.0
-  where
-    go : (r : Option (Statement × List Kind)) → definitions.table_statement ts ≡ r → read.whole (past_end r) ≡ Some x → opens_few 0 ts ≡ true → g.IsTableStatement ts x
-    go None e w f = absurd cc
-    go (Some y) e w f =
-        let l = last y.1 y.0 x w in
-        record { few = f; behind = y.1; derived = subst (λ (z : Statement). g.TableStatement ts z y.1) l.1 (statement_sound ts y e); ends = l.0 }
-
-pub statement_read : (ts : List Kind) (x : Statement) → g.IsTableStatement ts x → definitions.whole_table ts ≡ Some x
-statement_read ts x s = go s.behind s.ends s.derived
-  where
-    go : (o : List Kind) → Maybe semicolon o [] → g.TableStatement ts x o → definitions.whole_table ts ≡ Some x
-    go o without d = rw (s.few, statement_complete ts [] x d) refl
-    go o written d = rw (s.few, statement_complete ts LAST x d) refl
-
-pub no_statement : (ts : List Kind) → definitions.whole_table ts ≡ None → g.IsNoTableStatement ts
-no_statement ts h x s = let is : definitions.whole_table ts ≡ Some x = statement_read ts x s in cc
+whole_reads : Reads (λ ks. ks) (λ depth. g.TableStatement) definitions.table_statement
+whole_reads = record { sound = λ i y h. (0, statement_sound i y h); complete = λ depth i o x few d f. statement_complete i o x d }
 
 pub one_way : (ts : List Kind) (x y : Statement) → g.IsTableStatement ts x → g.IsTableStatement ts y → x ≡ y
-one_way ts x y s t = some_is x y (sym (statement_read ts x s) ∙ statement_read ts y t)
+one_way = one_whole (λ ks. ks) (λ depth. g.TableStatement) definitions.table_statement whole_reads
+
+pub found : {X : Type 0} (ts : List Kind) (view : X → Statement × List Kind) (r : Result X Stop) (answer : Result (Option Statement) Memory)
+    → Gives view r (definitions.table_statement ts) → Ends view r answer → opens_few 0 ts ≡ true → Finds (g.IsTableStatement ts) answer
+found ts view r answer gives ends = whole_found (λ ks. ks) (λ depth. g.TableStatement) definitions.table_statement whole_reads ts answer (ended_gives (λ ks. ks) view r (definitions.table_statement ts) answer gives ends)

@@ -1,27 +1,30 @@
 -- CREATE USER and ALTER USER are read exactly by their rules.
 use Rattle.std.proofs.Common.{◌≡◌, ℕ, Bool, true, false, cond, ◌&&◌, ◌≤◌, List, [], ◌∷◌, drop, length, Option, Some, None, refl, sym, ap, subst, ◌∙◌, inl, inr}
-use Rattle.std.specs.Prelude.{codes, nat_le, IsUtf8}
+use Rattle.std.specs.Prelude.{Result, codes, nat_le, IsUtf8}
 use Rattle.std.specs.Str.{bytes_eq, is_utf8}
 use Rattle.std.proofs.lemmas.Bool.{leb-true, le-leb, and_parts}
 use Rattle.std.proofs.lemmas.Str.{IsUtf8-from_is_utf8, is_utf8-from_IsUtf8}
+use Rattle.au_base.specs.declared.memory.Memory.{Memory}
+use Rattle.sql_parse.specs.declared.stop.Stop.{Stop}
 use Rattle.sql_lex.specs.declared.token.Kind.{Kind}
 use Rattle.sql_lex.specs.declared.token.Kind.TheVariants.{Word, Quoted, Number, Text, Mark}
 use Rattle.sql_lex.specs.declared.token.Token.{Token}
 use Rattle.sql_ast.specs.declared.administration.Password.{Password}
 use Rattle.sql_ast.specs.declared.statement.Statement.{Statement}
 use Rattle.sql_ast.specs.declared.statement.Statement.TheVariants as statement
-use Rattle.sql_parse.specs.Symbols.{kinds, sees, semicolon}
-use Rattle.sql_parse.specs.Rules.{Maybe, without, written}
+use Rattle.sql_parse.specs.Symbols.{kinds, sees}
+use Rattle.sql_parse.specs.Rules.{written}
 use Rattle.sql_parse.specs.Expressions.{IsName}
 use Rattle.sql_parse.specs.descent.Reading as read
-use Rattle.sql_parse.specs.descent.Reading.{◌>>=◌, behind, expect}
-use Rattle.sql_parse.specs.descent.ReadStatements.{past_end}
+use Rattle.sql_parse.specs.descent.Reading.{Gives, ◌>>=◌, expect}
 use Rattle.sql_parse.specs.Conditions.{opens_few}
 use Rattle.sql_parse.proofs.Exact.{bind_some, some_is, chosen, guard, expect_is}
 use Rattle.sql_parse.proofs.ExpressionLaws.{name_sound, name_complete}
-use Rattle.sql_parse.proofs.RowStatementLaws.{last}
+use Rattle.sql_parse.specs.Whole.{Finds}
+use Rattle.sql_parse.specs.descent.Ending.{Ends}
+use Rattle.sql_parse.proofs.WholeLaws.{Reads, ended_gives, one_whole, whole_found}
 use Rattle.sql_parse.specs.UserStatements as g
-use Rattle.sql_parse_admin.specs.ReadUsers as users
+use Rattle.sql_parse_admin.specs.descent.ReadUsers as users
 
 abbrev USER : Kind
 USER = Word (codes "USER")
@@ -176,25 +179,13 @@ user_complete text ts o x (g.alters {c = c} {t = t} {n = n} {p = p} first second
 
 -- ---- all tokens
 
-pub statement_is : (text : List ℕ) (ts : List Token) (x : Statement) → users.whole_user text ts ≡ Some x → g.IsUserStatement text ts x
-statement_is text ts x h =
-    let t = guard (opens_few 0 (kinds ts)) (users.ended (users.user text ts)) x h in go (users.user text ts) refl t.1 t.0
-  where
-    go : (r : Option (Statement × List Token)) → users.user text ts ≡ r → users.ended r ≡ Some x → opens_few 0 (kinds ts) ≡ true → g.IsUserStatement text ts x
-    go None e w f = absurd cc
-    go (Some y) e w f =
-        let l = last (kinds y.1) y.0 x w in
-        record { few = f; behind = y.1; derived = subst (λ (z : Statement). g.UserStatement text ts z y.1) l.1 (user_sound text ts y e); ends = l.0 }
-
-ends_read : (ks : List Kind) (x : Statement) → Maybe semicolon ks [] → read.whole (past_end (Some (x, ks))) ≡ Some x
-ends_read ks x without = refl
-ends_read ks x written = refl
-
-pub statement_read : (text : List ℕ) (ts : List Token) (x : Statement) → g.IsUserStatement text ts x → users.whole_user text ts ≡ Some x
-statement_read text ts x s = rw (s.few, user_complete text ts s.behind x s.derived) (ends_read (kinds s.behind) x s.ends)
-
-pub no_statement : (text : List ℕ) (ts : List Token) → users.whole_user text ts ≡ None → g.IsNoUserStatement text ts
-no_statement text ts h x s = let is : users.whole_user text ts ≡ Some x = statement_read text ts x s in cc
+whole_reads : (text : List ℕ) → Reads kinds (λ depth. g.UserStatement text) (users.user text)
+whole_reads text = record { sound = λ i y h. (0, user_sound text i y h); complete = λ depth i o x few d f. user_complete text i o x d }
 
 pub one_way : (text : List ℕ) (ts : List Token) (x y : Statement) → g.IsUserStatement text ts x → g.IsUserStatement text ts y → x ≡ y
-one_way text ts x y s t = some_is x y (sym (statement_read text ts x s) ∙ statement_read text ts y t)
+one_way text = one_whole kinds (λ depth. g.UserStatement text) (users.user text) (whole_reads text)
+
+pub found : {X : Type 0} (text : List ℕ) (ts : List Token) (view : X → Statement × List Token) (r : Result X Stop) (answer : Result (Option Statement) Memory)
+    → Gives view r (users.user text ts) → Ends (λ x. ((view x).0, kinds (view x).1)) r answer → opens_few 0 (kinds ts) ≡ true → Finds (g.IsUserStatement text ts) answer
+found text ts view r answer gives ends =
+    whole_found kinds (λ depth. g.UserStatement text) (users.user text) (whole_reads text) ts answer (ended_gives kinds view r (users.user text ts) answer gives ends)

@@ -19,7 +19,7 @@ use Rattle.sql_parse.specs.descent.Reading.{Reader, ◌>>=◌, under, behind, ex
 use Rattle.sql_parse.specs.descent.ReadTables.{clause, names, table}
 use Rattle.sql_parse.specs.descent.ReadStatements.{past_end}
 use Rattle.sql_parse.specs.Conditions.{opens_few}
-use Rattle.sql_parse_admin.specs.ReadGrants.{past_words, privilege}
+use Rattle.sql_parse_admin.specs.descent.ReadGrants.{past_words, privilege}
 
 abbrev pub found_or : Action → Option (List Kind) → Option (Action × List Kind) → Option (Action × List Kind)
 found_or a (Some o) others = Some (a, o)

@@ -7,7 +7,6 @@ mod arguments;
 mod audits;
 mod calls;
 mod grants;
-mod literals;
 mod passwords;
 mod policies;
 mod privileges;

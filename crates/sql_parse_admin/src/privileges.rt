@@ -3,7 +3,7 @@ ghost use Rattle.std.specs.Prelude.{◌≡◌, map};
 ghost use Rattle.sql_parse.specs.Symbols.{kinds};
 ghost use Rattle.sql_parse.specs.descent.Reading.{Gives};
 ghost use Rattle.sql_parse.specs.Privileges.{words_of};
-ghost use Rattle.sql_parse_admin.specs.ReadGrants as spec;
+ghost use Rattle.sql_parse_admin.specs.descent.ReadGrants as spec;
 
 use au_base::{ObjectRight, Privilege, Right};
 use sql_lex::Token;
@@ -13,7 +13,7 @@ use sql_parse::names::name;
 use std::alloc::Global;
 
 /// `right = privilege | name`
-#[tactic(auto, unfolding(crate::specs::ReadGrants::right))]
+#[tactic(auto, unfolding(crate::specs::descent::ReadGrants::right))]
 pub fn right(alloc: Global, tokens: &[Token]) -> Result<(Right, &[Token]), Stop>
     ensures { Gives (λ x. (x.0, kinds x.1.now)) result (spec.right (kinds tokens.now)) }
 {
@@ -28,7 +28,7 @@ pub fn right(alloc: Global, tokens: &[Token]) -> Result<(Right, &[Token]), Stop>
 }
 
 /// `oright = SELECT | INSERT | UPDATE | DELETE | ALL [PRIVILEGES]`
-#[tactic(auto, unfolding(crate::specs::ReadGrants::object_right))]
+#[tactic(auto, unfolding(crate::specs::descent::ReadGrants::object_right))]
 pub fn object_right(tokens: &[Token]) -> Result<(ObjectRight, &[Token]), Stop>
     ensures { Gives (λ x. (x.0, kinds x.1.now)) result (spec.object_right (kinds tokens.now)) }
 {
@@ -65,7 +65,7 @@ fn is_action(tokens: &[Token]) -> bool
         || sees_word(tokens, b"DELETE")
 }
 
-#[tactic(auto, unfolding(crate::specs::ReadGrants::privilege))]
+#[tactic(auto, unfolding(crate::specs::descent::ReadGrants::privilege))]
 pub fn privilege(tokens: &[Token]) -> Result<(Privilege, &[Token]), Stop>
     ensures { Gives (λ x. (x.0, kinds x.1.now)) result (spec.privilege (kinds tokens.now)) }
 {

@@ -1,32 +1,32 @@
 //! Statements about users, roles and rights that set no password.
-ghost use Rattle.std.specs.Prelude.{◌≡◌, List, IfOk, MatchOption};
+ghost use Rattle.std.specs.Prelude.{◌≡◌, List, true};
 ghost use Rattle.sql_lex.specs.declared.token.Kind.{Kind};
 ghost use Rattle.sql_ast.specs.declared.statement.Statement.{Statement as Tree};
+ghost use Rattle.sql_parse.specs.Conditions.{opens_few};
 ghost use Rattle.sql_parse.specs.Symbols.{kinds};
+ghost use Rattle.sql_parse.specs.Whole.{Finds};
 ghost use Rattle.sql_parse.specs.descent.Reading.{Gives};
-ghost use Rattle.sql_parse_admin.specs.ReadStatements as spec;
-ghost use Rattle.sql_parse.specs.RightsStatements.{IsNoRightsStatement, IsRightsStatement};
+ghost use Rattle.sql_parse_admin.specs.descent.ReadStatements as spec;
+ghost use Rattle.sql_parse.specs.RightsStatements.{IsRightsStatement};
 
 use crate::grants::{grant, revoke};
 use au_base::Memory;
 use sql_ast::Statement;
-use sql_lex::{Mark, Token};
-use sql_parse::cursor::{all_of, behind, expect_word, past_mark, sees_word};
+use sql_lex::Token;
+use sql_parse::cursor::{behind, expect_word, sees_word};
+use sql_parse::endings::whole;
 use sql_parse::names::name;
 use sql_parse::tables::table;
-use sql_parse::{Stop, opens_few};
+use sql_parse::Stop;
 use std::alloc::Global;
 
 /// The GRANT, REVOKE, DROP TABLE, DROP USER, CREATE ROLE or DROP ROLE that the tokens are, with `;`
-/// behind it or without. `None` where they are none.
+/// behind it or without. `None` where they are none. It
+/// doesn't ask how many parentheses they open.
 pub fn rights_statement(alloc: Global, tokens: &[Token]) -> Result<Option<Statement>, Memory>
-    ensures { IfOk result (λ found. MatchOption found (IsNoRightsStatement (kinds tokens.now)) (IsRightsStatement (kinds tokens.now))) }
+    ensures { opens_few 0 (kinds tokens.now) ≡ true → Finds (IsRightsStatement (kinds tokens.now)) result }
 {
-    match read(alloc, tokens) {
-        Ok(found) => Ok(Some(found)),
-        Err(Stop::Unread) => Ok(None),
-        Err(Stop::Memory) => Err(Memory),
-    }
+    whole(statement(alloc, tokens))
 }
 
 /// Tokens are one such statement at most.
@@ -34,17 +34,7 @@ pub fn one_rights_statement()
     ensures { (ts : List Kind) (x y : Tree) → IsRightsStatement ts x → IsRightsStatement ts y → x ≡ y }
 {}
 
-fn read(alloc: Global, tokens: &[Token]) -> Result<Statement, Stop>
-    ensures { Gives (λ x. x) result (spec.whole_statement (kinds tokens.now)) }
-{
-    if !opens_few(tokens) {
-        return Err(Stop::Unread);
-    }
-    let (found, rest) = statement(alloc, tokens)?;
-    all_of(found, past_mark(rest, Mark::Semicolon))
-}
-
-#[tactic(auto, unfolding(crate::specs::ReadStatements::rights_statement))]
+#[tactic(auto, unfolding(crate::specs::descent::ReadStatements::rights_statement))]
 fn statement(alloc: Global, tokens: &[Token]) -> Result<(Statement, &[Token]), Stop>
     ensures { Gives (λ x. (x.0, kinds x.1.now)) result (spec.rights_statement (kinds tokens.now)) }
 {
@@ -58,7 +48,7 @@ fn statement(alloc: Global, tokens: &[Token]) -> Result<(Statement, &[Token]), S
     } else if sees_word(tokens, b"DROP") {
         drop(alloc, rest)
     } else if sees_word(tokens, b"CREATE") {
-        let ((), rest) = expect_word(rest, b"ROLE")?;
+        let rest = expect_word(rest, b"ROLE").ok_or(Stop::Unread)?;
         let (role, rest) = name(alloc, rest)?;
         Ok((Statement::CreateRole { role }, rest))
     } else {
@@ -67,7 +57,7 @@ fn statement(alloc: Global, tokens: &[Token]) -> Result<(Statement, &[Token]), S
 }
 
 // A DROP whose first word came before.
-#[tactic(auto, unfolding(crate::specs::ReadStatements::drop))]
+#[tactic(auto, unfolding(crate::specs::descent::ReadStatements::drop))]
 fn drop(alloc: Global, tokens: &[Token]) -> Result<(Statement, &[Token]), Stop>
     ensures { Gives (λ x. (x.0, kinds x.1.now)) result (spec.drop (kinds tokens.now)) }
 {

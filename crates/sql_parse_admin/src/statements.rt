@@ -1,9 +1,11 @@
 //! The statement that a text is.
-ghost use Rattle.std.specs.Prelude.{◌≡◌, List, ℕ, IfOk, MatchOption, MatchResult};
+ghost use Rattle.std.specs.Prelude.{◌≡◌, true, List, ℕ, IfOk, MatchResult};
 ghost use Rattle.au_base.specs.declared.code.Code.{Code as AnyCode};
 ghost use Rattle.sql_ast.specs.declared.statement.Statement.{Statement as Tree};
 ghost use Rattle.sql_lex.specs.declared.token.Token.{Token as Lexeme};
+ghost use Rattle.sql_parse.specs.Conditions.{opens_few};
 ghost use Rattle.sql_parse.specs.Symbols.{kinds};
+ghost use Rattle.sql_parse.specs.Whole.{Finds};
 ghost use Rattle.sql_parse.specs.Statements.{IsStatement, IsUnread, Reads};
 ghost use Rattle.sql_parse_admin.specs.Families.{IsOf, created, family_of};
 ghost use Rattle.sql_parse_admin.specs.Unread.{HasCode};
@@ -19,7 +21,7 @@ use au_base::{Code, Memory};
 use sql_ast::Statement;
 use sql_lex::{Token, one_way, tokens};
 use sql_parse::cursor::{behind, sees_word};
-use sql_parse::{one_row_statement, opens_few, row_statement};
+use sql_parse::{one_row_statement, opens_few, shallow_row_statement};
 use std::alloc::Global;
 
 /// What the first two words tell of a statement.
@@ -90,9 +92,7 @@ fn statement_or_code(
 }
 
 fn statement(alloc: Global, text: &[u8], tokens: &[Token]) -> Result<Option<Statement>, Memory>
-    ensures { IfOk result (λ found. MatchOption found
-        ((x : Tree) → ¬ IsStatement text.now tokens.now x)
-        (IsStatement text.now tokens.now)) }
+    ensures { opens_few 0 (kinds tokens.now) ≡ true → Finds (IsStatement text.now tokens.now) result }
 {
     statement_of(alloc, family_of(tokens), text, tokens)
 }
@@ -103,12 +103,10 @@ fn statement_of(
     text: &[u8],
     tokens: &[Token],
 ) -> Result<Option<Statement>, Memory>
-    ensures { IfOk result (λ found. MatchOption found
-        ((x : Tree) → ¬ IsOf family text.now tokens.now x)
-        (IsOf family text.now tokens.now)) }
+    ensures { opens_few 0 (kinds tokens.now) ≡ true → Finds (IsOf family text.now tokens.now) result }
 {
     match family {
-        Family::Rows => row_statement(alloc, tokens),
+        Family::Rows => shallow_row_statement(alloc, tokens),
         Family::Table => table_statement(alloc, tokens),
         Family::User => user_statement(alloc, text, tokens),
         Family::Rights => rights_statement(alloc, tokens),

@@ -1,34 +1,33 @@
 //! CREATE USER and ALTER USER.
-ghost use Rattle.std.specs.Prelude.{◌≡◌, List, ℕ, drop, IfOk, MatchOption};
+ghost use Rattle.std.specs.Prelude.{◌≡◌, List, ℕ, drop, true};
 ghost use Rattle.sql_lex.specs.declared.token.Token.{Token as Lexeme};
 ghost use Rattle.sql_ast.specs.declared.statement.Statement.{Statement as Tree};
+ghost use Rattle.sql_parse.specs.Conditions.{opens_few};
 ghost use Rattle.sql_parse.specs.Symbols.{kinds};
+ghost use Rattle.sql_parse.specs.Whole.{Finds};
 ghost use Rattle.sql_parse.specs.descent.Reading.{Gives};
-ghost use Rattle.sql_parse_admin.specs.ReadUsers as spec;
-ghost use Rattle.sql_parse.specs.UserStatements.{IsNoUserStatement, IsUserStatement};
+ghost use Rattle.sql_parse_admin.specs.descent.ReadUsers as spec;
+ghost use Rattle.sql_parse.specs.UserStatements.{IsUserStatement};
 
 use au_base::{Memory, Name, Text};
 use sql_ast::{Password, Statement};
-use sql_lex::{Kind, Mark, Token};
-use sql_parse::cursor::{all_of, expect_word, past_mark, sees_word};
+use sql_lex::{Kind, Token};
+use sql_parse::cursor::{expect_word, sees_word};
+use sql_parse::endings::whole;
 use sql_parse::names::name;
-use sql_parse::{Stop, opens_few};
+use sql_parse::Stop;
 use std::alloc::Global;
 
 /// The CREATE USER or ALTER USER that the tokens of a text are, with `;` behind it or without.
-/// `None` where they are none.
+/// `None` where they are none. It doesn't ask how many parentheses they open.
 pub fn user_statement(
     alloc: Global,
     text: &[u8],
     tokens: &[Token],
 ) -> Result<Option<Statement>, Memory>
-    ensures { IfOk result (λ found. MatchOption found (IsNoUserStatement text.now tokens.now) (IsUserStatement text.now tokens.now)) }
+    ensures { opens_few 0 (kinds tokens.now) ≡ true → Finds (IsUserStatement text.now tokens.now) result }
 {
-    match read(alloc, text, tokens) {
-        Ok(found) => Ok(Some(found)),
-        Err(Stop::Unread) => Ok(None),
-        Err(Stop::Memory) => Err(Memory),
-    }
+    whole(user(alloc, text, tokens))
 }
 
 /// The tokens of a text are one such statement at most.
@@ -36,17 +35,7 @@ pub fn one_user_statement()
     ensures { (text : List ℕ) (ts : List Lexeme) (x y : Tree) → IsUserStatement text ts x → IsUserStatement text ts y → x ≡ y }
 {}
 
-fn read(alloc: Global, text: &[u8], tokens: &[Token]) -> Result<Statement, Stop>
-    ensures { Gives (λ x. x) result (spec.whole_user text.now tokens.now) }
-{
-    if !opens_few(tokens) {
-        return Err(Stop::Unread);
-    }
-    let (found, rest) = user(alloc, text, tokens)?;
-    all_of(found, past_mark(rest, Mark::Semicolon))
-}
-
-#[tactic(auto, unfolding(crate::specs::ReadUsers::user))]
+#[tactic(auto, unfolding(crate::specs::descent::ReadUsers::user))]
 fn user<'t>(
     alloc: Global,
     text: &[u8],
@@ -65,15 +54,15 @@ fn user<'t>(
 }
 
 // The word, USER, a name, IDENTIFIED and BY.
-#[tactic(auto, unfolding(crate::specs::ReadUsers::heading))]
+#[tactic(auto, unfolding(crate::specs::descent::ReadUsers::heading))]
 fn heading<'t>(alloc: Global, tokens: &'t [Token], word: &[u8]) -> Result<(Name, &'t [Token]), Stop>
     ensures { Gives (λ x. (x.0, kinds x.1.now)) result (spec.heading word.now (kinds tokens.now)) }
 {
-    let ((), rest) = expect_word(tokens, word)?;
-    let ((), rest) = expect_word(rest, b"USER")?;
+    let rest = expect_word(tokens, word).ok_or(Stop::Unread)?;
+    let rest = expect_word(rest, b"USER").ok_or(Stop::Unread)?;
     let (user, rest) = name(alloc, rest)?;
-    let ((), rest) = expect_word(rest, b"IDENTIFIED")?;
-    let ((), rest) = expect_word(rest, b"BY")?;
+    let rest = expect_word(rest, b"IDENTIFIED").ok_or(Stop::Unread)?;
+    let rest = expect_word(rest, b"BY").ok_or(Stop::Unread)?;
     Ok((user, rest))
 }
 

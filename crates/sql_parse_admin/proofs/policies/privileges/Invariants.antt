@@ -1,7 +1,7 @@
 use Rattle.std.proofs.Common.{◌≡◌, ◌-◌}
 use Rattle.sql_parse.specs.Symbols.{kinds, sees, comma}
 use Rattle.sql_parse.specs.descent.Reading.{many, after}
-use Rattle.sql_parse_admin.specs.ReadGrants as grants
+use Rattle.sql_parse_admin.specs.descent.ReadGrants as grants
 use Rattle.sql_parse_admin.specs.ReadPolicies as spec
 use Rattle.sql_parse_admin.proofs.policies.privileges.Given as goal
 

@@ -1,6 +1,6 @@
 use Rattle.std.proofs.Common.{◌≡◌, length}
 use Rattle.sql_parse.specs.Symbols.{kinds}
-use Rattle.sql_parse_admin.specs.ReadGrants as spec
+use Rattle.sql_parse_admin.specs.descent.ReadGrants as spec
 use Rattle.sql_parse_admin.proofs.privileges.first_of.Given as goal
 
 abbrev pub invariant-loop-privileges : goal.invariant-loop-privileges

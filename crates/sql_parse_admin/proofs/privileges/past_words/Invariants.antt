@@ -1,6 +1,6 @@
 use Rattle.std.proofs.Common.{◌≡◌, map, length}
 use Rattle.sql_parse.specs.Symbols.{kinds}
-use Rattle.sql_parse_admin.specs.ReadGrants as spec
+use Rattle.sql_parse_admin.specs.descent.ReadGrants as spec
 use Rattle.sql_parse_admin.proofs.privileges.past_words.Given as goal
 
 abbrev pub invariant-loop-words : goal.invariant-loop-words

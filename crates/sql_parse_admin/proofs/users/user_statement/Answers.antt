@@ -1,8 +1,5 @@
-use Rattle.sql_parse_admin.proofs.UserLaws.{statement_is, no_statement}
+use Rattle.sql_parse_admin.proofs.UserLaws.{found}
 use Rattle.sql_parse_admin.proofs.users.user_statement.Goals as goal
 
-pub returns-in-Ok : goal.returns-in-Ok
-returns-in-Ok c = statement_is c.args.text.now c.args.tokens.now _ c.in-Ok.ensures
-
-pub returns-in-Err-Unread : goal.returns-in-Err-Unread
-returns-in-Err-Unread c = no_statement c.args.text.now c.args.tokens.now (rw c.in-Err-Unread.field-0-is at c.in-Err-Unread.ensures)
+pub returns : goal.returns
+returns c = found c.args.text.now c.args.tokens.now (λ x. (x.0, x.1.now)) c.user.result c.whole.result c.user.ensures c.whole.ensures

@@ -1,6 +1,7 @@
 -- Reading CREATE TABLE by descent: what each function of the code answers.
 use Rattle.std.specs.Prelude.{ℕ, ℤ, pos, negsuc, Bool, true, false, nat_le, ◌&&◌, if◌then◌else◌, List, [], ◌∷◌, Option, Some, None, codes}
 use Rattle.std.specs.List.{list_any}
+use Rattle.au_base.specs.Limits.{MOMENT_DIGITS, NUMBER_DIGITS, TEXT_COLUMN_BYTES}
 use Rattle.au_base.specs.declared.table.ColumnKind.{ColumnKind}
 use Rattle.au_base.specs.declared.table.ColumnKind.TheVariants as column_kind
 use Rattle.au_base.specs.declared.table.TableReference.{TableReference}
@@ -11,10 +12,8 @@ use Rattle.sql_ast.specs.declared.statement.Statement.TheVariants as statement
 use Rattle.sql_ast.specs.declared.table.Element.{Element}
 use Rattle.sql_ast.specs.declared.table.Element.TheVariants as element
 use Rattle.sql_parse.specs.Symbols.{sees, opening, closing, comma}
-use Rattle.sql_parse.specs.descent.Reading.{Reader, ◌>>=◌, under, behind, expect, parted, name, whole}
+use Rattle.sql_parse.specs.descent.Reading.{Reader, ◌>>=◌, under, behind, expect, parted, name}
 use Rattle.sql_parse.specs.descent.ReadTables.{closed, names, past, table}
-use Rattle.sql_parse.specs.descent.ReadStatements.{past_end}
-use Rattle.sql_parse.specs.Conditions.{opens_few}
 use Rattle.sql_parse.specs.TableStatements.{is_column}
 
 -- the number, if it is one of these
@@ -37,16 +36,16 @@ size_or_most least most i = if sees opening i then closed (size least most) (beh
 
 -- behind VARCHAR2
 unfoldable pub bytes : Reader ℕ
-bytes i = expect opening i >>= λ j. size 1 4000 j >>= λ n. expect closing (past (Word (codes "BYTE")) n.1) >>= λ o. Some (n.0, o)
+bytes i = expect opening i >>= λ j. size 1 TEXT_COLUMN_BYTES j >>= λ n. expect closing (past (Word (codes "BYTE")) n.1) >>= λ o. Some (n.0, o)
 
 abbrev pub of_kind : ColumnKind → ℕ → ColumnKind × ℕ
 of_kind k n = (k, n)
 
 unfoldable pub column_type : Reader (ColumnKind × ℕ)
 column_type i =
-    if sees (Word (codes "NUMBER")) i then under (of_kind column_kind.Number) (size_or_most 1 18 (behind i))
+    if sees (Word (codes "NUMBER")) i then under (of_kind column_kind.Number) (size_or_most 1 NUMBER_DIGITS (behind i))
     else (if sees (Word (codes "VARCHAR2")) i then under (of_kind column_kind.Text) (bytes (behind i))
-    else (if sees (Word (codes "TIMESTAMP")) i then under (of_kind column_kind.Moment) (size_or_most 6 6 (behind i)) else None))
+    else (if sees (Word (codes "TIMESTAMP")) i then under (of_kind column_kind.Moment) (size_or_most MOMENT_DIGITS MOMENT_DIGITS (behind i)) else None))
 
 -- both words or nothing, and whether they stand there
 unfoldable pub both : List ℕ → List ℕ → Reader Bool
@@ -81,6 +80,3 @@ made t es = if list_any is_column es.0 then Some (statement.CreateTable (record 
 unfoldable pub table_statement : Reader Statement
 table_statement i =
     expect (Word (codes "CREATE")) i >>= λ j. expect (Word (codes "TABLE")) j >>= λ k. table k >>= λ t. expect opening t.1 >>= λ m. closed elements m >>= λ es. made t.0 es
-
-abbrev pub whole_table : List Kind → Option Statement
-whole_table ts = if opens_few 0 ts then whole (past_end (table_statement ts)) else None

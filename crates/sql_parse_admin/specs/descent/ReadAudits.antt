@@ -1,6 +1,5 @@
 -- Reading AUDIT, NOAUDIT and DROP AUDIT POLICY by descent: what each function of the code answers.
 use Rattle.std.specs.Prelude.{ℕ, if◌then◌else◌, List, Option, Some, None, codes}
-use Rattle.sql_lex.specs.declared.token.Kind.{Kind}
 use Rattle.sql_lex.specs.declared.token.Kind.TheVariants.{Word}
 use Rattle.sql_ast.specs.declared.administration.AuditedUsers.{AuditedUsers}
 use Rattle.sql_ast.specs.declared.administration.AuditedUsers.TheVariants as audited
@@ -9,10 +8,8 @@ use Rattle.sql_ast.specs.declared.administration.Whenever.TheVariants as wheneve
 use Rattle.sql_ast.specs.declared.statement.Statement.{Statement}
 use Rattle.sql_ast.specs.declared.statement.Statement.TheVariants as statement
 use Rattle.sql_parse.specs.Symbols.{sees}
-use Rattle.sql_parse.specs.descent.Reading.{Reader, ◌>>=◌, under, behind, expect, name, whole}
+use Rattle.sql_parse.specs.descent.Reading.{Reader, ◌>>=◌, under, behind, expect, name}
 use Rattle.sql_parse.specs.descent.ReadTables.{clause, names}
-use Rattle.sql_parse.specs.descent.ReadStatements.{past_end}
-use Rattle.sql_parse.specs.Conditions.{opens_few}
 
 abbrev pub by : List (List ℕ) → Option AuditedUsers
 by ns = Some (audited.By ns)
@@ -53,6 +50,3 @@ unfoldable pub audit_statement : Reader Statement
 audit_statement i =
     if sees (Word (codes "AUDIT")) i then audit (behind i) else (if sees (Word (codes "NOAUDIT")) i then noaudit (behind i)
     else (expect (Word (codes "DROP")) i >>= λ j. expect (Word (codes "AUDIT")) j >>= λ k. under statement.DropPolicy (policy k)))
-
-abbrev pub whole_audit : List Kind → Option Statement
-whole_audit ts = if opens_few 0 ts then whole (past_end (audit_statement ts)) else None

@@ -8,9 +8,7 @@ use Rattle.sql_ast.specs.declared.administration.Password.{Password}
 use Rattle.sql_ast.specs.declared.statement.Statement.{Statement}
 use Rattle.sql_ast.specs.declared.statement.Statement.TheVariants as statement
 use Rattle.sql_parse.specs.Symbols.{kinds, sees}
-use Rattle.sql_parse.specs.descent.Reading.{Reader, ◌>>=◌, expect, name, whole}
-use Rattle.sql_parse.specs.descent.ReadStatements.{past_end}
-use Rattle.sql_parse.specs.Conditions.{opens_few}
+use Rattle.sql_parse.specs.descent.Reading.{Reader, ◌>>=◌, expect, name}
 use Rattle.sql_parse.specs.UserStatements.{part}
 
 -- the word, USER, a name, IDENTIFIED and BY
@@ -36,11 +34,3 @@ unfoldable pub user : List ℕ → List Token → Option (Statement × List Toke
 user text ts =
     if sees (Word (codes "CREATE")) (kinds ts) then (heading (codes "CREATE") (kinds ts) >>= λ n. password text (drop 5 ts) >>= λ p. Some (statement.CreateUser n.0 p.0, p.1))
     else (heading (codes "ALTER") (kinds ts) >>= λ n. password text (drop 5 ts) >>= λ p. Some (statement.AlterUser n.0 p.0, p.1))
-
--- what was read, where at most a `;` follows
-abbrev pub ended : Option (Statement × List Token) → Option Statement
-ended None = None
-ended (Some x) = whole (past_end (Some (x.0, kinds x.1)))
-
-abbrev pub whole_user : List ℕ → List Token → Option Statement
-whole_user text ts = if opens_few 0 (kinds ts) then ended (user text ts) else None
