@@ -1,6 +1,6 @@
 -- The reading of a moment's text gives the moment that the text tells.
 use Rattle.std.proofs.Common.{◌≡◌, ℕ, ◌+◌, ◌-◌, ◌*◌, ◌/◌, ◌%◌, ◌<◌, ◌≤◌, Bool, true, false, cond, ◌&&◌, List, ◌++◌, drop, Option, Some, None, refl, sym, ap, ◌∙◌, arith}
-use Rattle.std.specs.Prelude.{nat_le, nat_lt}
+use Rattle.std.specs.Prelude.{MatchOption, nat_le, nat_lt}
 use Rattle.std.specs.Str.{bytes_eq}
 use Rattle.std.proofs.lemmas.Bool.Decides.{nat_tests}
 use Rattle.std.proofs.lemmas.Slice.Eq.{bytes_eq-Decides}
@@ -114,3 +114,8 @@ no_moment t none = go (moment_read t) refl
     go : (o : Option ℕ) → moment_read t ≡ o → o ≡ None
     go None e = refl
     go (Some m) e = let d = moment_sound t m e in absurd (none d.0 d.1 d.2)
+
+-- what is found of a text is what its reading gives
+pub moment_found : (t : List ℕ) (found : Option ℕ) → MatchOption found (TellsNoMoment t) (TellsMoment t) → found ≡ moment_read t
+moment_found t None h = sym (no_moment t h)
+moment_found t (Some m) h = sym (moment_complete t m h)

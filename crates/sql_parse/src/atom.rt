@@ -1,17 +1,18 @@
 //! What a word begins in an expression.
+ghost use Rattle.std.specs.Option.{option_map};
 ghost use Rattle.std.specs.Prelude.{◌≡◌, Some};
 ghost use Rattle.sql_parse.specs.Expressions.{upper};
-ghost use Rattle.sql_parse.specs.descent.MomentReading.{moment_read};
 ghost use Rattle.sql_parse.specs.Symbols.{kinds};
 ghost use Rattle.sql_parse.specs.descent.Reading.{Gives};
 ghost use Rattle.sql_parse.specs.descent.Reading as spec;
 
 use crate::cursor::{behind, expect_mark, sees_mark, sees_word};
+use crate::literals::{literal, moment_of};
 use crate::names::column;
 use crate::stop::Stop;
-use au_base::{Text, read_moment};
+use au_base::Text;
 use sql_ast::Expr;
-use sql_lex::{Kind, Mark, Token};
+use sql_lex::{Mark, Token};
 use std::alloc::Global;
 
 /// An atom that begins with a word.
@@ -27,7 +28,7 @@ pub fn worded_atom(alloc: Global, tokens: &[Token]) -> Result<(Expr, &[Token]), 
     } else if sees_word(tokens, b"SYSTIMESTAMP") {
         Ok((Expr::Now, rest))
     } else if sees_word(tokens, b"TIMESTAMP") {
-        moment(rest)
+        moment(rest).ok_or(Stop::Unread)
     } else if sees_word(tokens, b"SYS_CONTEXT") && sees_mark(rest, Mark::OpenParenthesis) {
         context(behind(rest))
     } else {
@@ -35,36 +36,13 @@ pub fn worded_atom(alloc: Global, tokens: &[Token]) -> Result<(Expr, &[Token]), 
     }
 }
 
-// The text literal that comes next.
-#[tactic(auto, unfolding(crate::specs::descent::Reading::literal))]
-fn literal(tokens: &[Token]) -> Result<(&Text, &[Token]), Stop>
-    ensures { Gives (λ x. (x.0.now, kinds x.1.now)) result (spec.literal (kinds tokens.now)) }
-{
-    match tokens {
-        [first, rest @ ..] => match &first.kind {
-            Kind::Text(text) => Ok((text, rest)),
-            _ => Err(Stop::Unread),
-        },
-        [] => Err(Stop::Unread),
-    }
-}
-
 // A moment whose TIMESTAMP came before.
 #[tactic(auto, unfolding(crate::specs::descent::Reading::moment))]
-fn moment(tokens: &[Token]) -> Result<(Expr, &[Token]), Stop>
-    ensures { Gives (λ x. (x.0, kinds x.1.now)) result (spec.moment (kinds tokens.now)) }
+fn moment(tokens: &[Token]) -> Option<(Expr, &[Token])>
+    ensures { option_map (λ x. (x.0, kinds x.1.now)) result ≡ spec.moment (kinds tokens.now) }
 {
     let (text, rest) = literal(tokens)?;
-    Ok((Expr::Moment(moment_of(text)?), rest))
-}
-
-fn moment_of(text: &Text) -> Result<u64, Stop>
-    ensures { Gives (λ x. x) result (moment_read text.now) }
-{
-    match read_moment(text.as_bytes()) {
-        Some(moment) => Ok(moment),
-        None => Err(Stop::Unread),
-    }
+    Some((Expr::Moment(moment_of(text)?), rest))
 }
 
 // A call of SYS_CONTEXT whose opening parenthesis came before.
@@ -72,10 +50,10 @@ fn moment_of(text: &Text) -> Result<u64, Stop>
 fn context(tokens: &[Token]) -> Result<(Expr, &[Token]), Stop>
     ensures { Gives (λ x. (x.0, kinds x.1.now)) result (spec.context (kinds tokens.now)) }
 {
-    let (namespace, rest) = literal(tokens)?;
-    let ((), rest) = expect_mark(rest, Mark::Comma)?;
-    let (parameter, rest) = literal(rest)?;
-    let ((), rest) = expect_mark(rest, Mark::CloseParenthesis)?;
+    let (namespace, rest) = literal(tokens).ok_or(Stop::Unread)?;
+    let rest = expect_mark(rest, Mark::Comma).ok_or(Stop::Unread)?;
+    let (parameter, rest) = literal(rest).ok_or(Stop::Unread)?;
+    let rest = expect_mark(rest, Mark::CloseParenthesis).ok_or(Stop::Unread)?;
     attribute_of(namespace, parameter, rest)
 }
 

@@ -29,11 +29,11 @@ pub fn filter(alloc: Global, depth: u32, tokens: &[Token]) -> Result<(Option<Exp
 pub fn insert(alloc: Global, depth: u32, tokens: &[Token]) -> Result<(Insert, &[Token]), Stop>
     ensures { Gives (λ x. (x.0, kinds x.1.now)) result (spec.insert (inside depth) (kinds tokens.now)) }
 {
-    let ((), rest) = expect_word(tokens, b"INTO")?;
+    let rest = expect_word(tokens, b"INTO").ok_or(Stop::Unread)?;
     let (table, rest) = table(alloc, rest)?;
     let (columns, rest) = columns(alloc, rest)?;
-    let ((), rest) = expect_word(rest, b"VALUES")?;
-    let ((), rest) = expect_mark(rest, Mark::OpenParenthesis)?;
+    let rest = expect_word(rest, b"VALUES").ok_or(Stop::Unread)?;
+    let rest = expect_mark(rest, Mark::OpenParenthesis).ok_or(Stop::Unread)?;
     let (values, rest) = values(alloc, depth, rest)?;
     let found = Insert {
         table,
@@ -52,7 +52,7 @@ fn columns(alloc: Global, tokens: &[Token]) -> Result<(Option<List<Name>>, &[Tok
         return Ok((None, tokens));
     }
     let (found, rest) = names(alloc, behind(tokens))?;
-    let ((), rest) = expect_mark(rest, Mark::CloseParenthesis)?;
+    let rest = expect_mark(rest, Mark::CloseParenthesis).ok_or(Stop::Unread)?;
     Ok((Some(found), rest))
 }
 
@@ -62,7 +62,7 @@ fn values(alloc: Global, depth: u32, tokens: &[Token]) -> Result<(List<Expr>, &[
     ensures { Gives (λ x. (x.0, kinds x.1.now)) result (spec.values (inside depth) (kinds tokens.now)) }
 {
     let (found, rest) = sums(alloc, depth, tokens)?;
-    let ((), rest) = expect_mark(rest, Mark::CloseParenthesis)?;
+    let rest = expect_mark(rest, Mark::CloseParenthesis).ok_or(Stop::Unread)?;
     Ok((found, rest))
 }
 
@@ -72,7 +72,7 @@ pub fn update(alloc: Global, depth: u32, tokens: &[Token]) -> Result<(Update, &[
     ensures { Gives (λ x. (x.0, kinds x.1.now)) result (spec.update (inside depth) (kinds tokens.now)) }
 {
     let (table, rest) = table(alloc, tokens)?;
-    let ((), rest) = expect_word(rest, b"SET")?;
+    let rest = expect_word(rest, b"SET").ok_or(Stop::Unread)?;
     let (assignments, rest) = assignments(alloc, depth, rest)?;
     let (condition, rest) = filter(alloc, depth, rest)?;
     let found = Update {
@@ -110,7 +110,7 @@ fn assignment(alloc: Global, depth: u32, tokens: &[Token]) -> Result<(Assignment
     ensures { Gives (λ x. (x.0, kinds x.1.now)) result (spec.assignment (inside depth) (kinds tokens.now)) }
 {
     let (column, rest) = name(alloc, tokens)?;
-    let ((), rest) = expect_mark(rest, Mark::Equal)?;
+    let rest = expect_mark(rest, Mark::Equal).ok_or(Stop::Unread)?;
     let (value, rest) = sum(alloc, depth, rest)?;
     Ok((Assignment { column, value }, rest))
 }

@@ -69,7 +69,7 @@ fn read(alloc: Global, tokens: &[Token]) -> Result<Expr, Stop>
         return Err(Stop::Unread);
     }
     let (found, rest) = cond(alloc, LIMIT, tokens)?;
-    all_of(found, rest)
+    all_of(found, rest).ok_or(Stop::Unread)
 }
 
 /// Whether no more than a hundred parentheses are open at once.

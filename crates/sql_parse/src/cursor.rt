@@ -1,11 +1,11 @@
 //! The tokens from a place on.
 
+ghost use Rattle.std.specs.Option.{option_map};
 ghost use Rattle.std.specs.Prelude.{◌≡◌, ◌==◌, Some};
 ghost use Rattle.sql_parse.specs.Symbols.{kinds, sees, mark_number};
-ghost use Rattle.sql_parse.specs.descent.Reading.{Gives, behind, expect, whole};
+ghost use Rattle.sql_parse.specs.descent.Reading.{behind, expect, whole};
 ghost use Rattle.sql_parse.specs.descent.ReadTables.{past};
 
-use crate::stop::Stop;
 use sql_lex::{Kind, Mark, Token};
 
 /// Whether this mark comes next.
@@ -66,37 +66,33 @@ pub fn past_mark(tokens: &[Token], mark: Mark) -> &[Token]
     }
 }
 
-/// The tokens behind this mark, which comes next.
-pub fn expect_mark(tokens: &[Token], mark: Mark) -> Result<((), &[Token]), Stop>
-    ensures { Gives (λ x. kinds x.1.now) result (expect (Kind.Mark mark) (kinds tokens.now)) }
+/// The tokens behind this mark. `None` where it doesn't come next.
+pub fn expect_mark(tokens: &[Token], mark: Mark) -> Option<&[Token]>
+    ensures { option_map (λ rest. kinds rest.now) result ≡ expect (Kind.Mark mark) (kinds tokens.now) }
 {
     if sees_mark(tokens, mark) {
-        Ok(((), behind(tokens)))
+        Some(behind(tokens))
     } else {
-        Err(Stop::Unread)
+        None
     }
 }
 
-/// The tokens behind this word, which comes next.
-pub fn expect_word<'t>(tokens: &'t [Token], word: &[u8]) -> Result<((), &'t [Token]), Stop>
-    ensures { Gives (λ x. kinds x.1.now) result (expect (Kind.Word word.now) (kinds tokens.now)) }
+/// The tokens behind this word. `None` where it doesn't come next.
+pub fn expect_word<'t>(tokens: &'t [Token], word: &[u8]) -> Option<&'t [Token]>
+    ensures { option_map (λ rest. kinds rest.now) result ≡ expect (Kind.Word word.now) (kinds tokens.now) }
 {
     if sees_word(tokens, word) {
-        Ok(((), behind(tokens)))
+        Some(behind(tokens))
     } else {
-        Err(Stop::Unread)
+        None
     }
 }
 
 /// What was read, where that is all.
-pub fn all_of<T: Drop>(found: T, rest: &[Token]) -> Result<T, Stop>
-    ensures { Gives (λ x. x) result (whole (Some (found, kinds rest.now))) }
+pub fn all_of<T: Drop>(found: T, rest: &[Token]) -> Option<T>
+    ensures { result ≡ whole (Some (found, kinds rest.now)) }
 {
-    if rest.is_empty() {
-        Ok(found)
-    } else {
-        Err(Stop::Unread)
-    }
+    if rest.is_empty() { Some(found) } else { None }
 }
 
 fn is_same(left: Mark, right: Mark) -> bool

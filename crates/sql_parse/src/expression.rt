@@ -92,7 +92,7 @@ fn atom(alloc: Global, depth: u32, tokens: &[Token]) -> Result<(Expr, &[Token]),
         Kind::Text(text) => Ok((Expr::Literal(text.clone()?), rest)),
         Kind::Mark(Mark::OpenParenthesis) => {
             let (found, rest) = inside(alloc, depth, rest)?;
-            let ((), rest) = expect_mark(rest, Mark::CloseParenthesis)?;
+            let rest = expect_mark(rest, Mark::CloseParenthesis).ok_or(Stop::Unread)?;
             Ok((found, rest))
         }
         Kind::Mark(_) => Err(Stop::Unread),
@@ -119,6 +119,9 @@ fn term(alloc: Global, depth: u32, tokens: &[Token]) -> Result<(Expr, &[Token]),
     ensures { Gives (λ x. (x.0, kinds x.1.now)) result (spec.term (spec.inside depth) (kinds tokens.now)) }
 {
     let (first, mut rest) = factor(alloc, depth, tokens)?;
+    if !sees_mark(rest, Mark::Asterisk) {
+        return Ok((first, rest));
+    }
     let mut parts = List::new(alloc);
     parts.push(first)?;
     for _turn in 0..rest.len() {
@@ -141,6 +144,9 @@ pub fn sum(alloc: Global, depth: u32, tokens: &[Token]) -> Result<(Expr, &[Token
     ensures { Gives (λ x. (x.0, kinds x.1.now)) result (spec.sum (spec.inside depth) (kinds tokens.now)) }
 {
     let (first, mut rest) = term(alloc, depth, tokens)?;
+    if !sees_mark(rest, Mark::Plus) && !sees_mark(rest, Mark::Minus) {
+        return Ok((first, rest));
+    }
     let mut parts = List::new(alloc);
     parts.push((false, first))?;
     for _turn in 0..rest.len() {
@@ -190,7 +196,7 @@ fn tested(alloc: Global, depth: u32, left: Expr, tokens: &[Token]) -> Result<(Ex
     }
     if sees_word(tokens, b"IS") {
         let (negates, rest) = negation(behind(tokens));
-        let ((), rest) = expect_word(rest, b"NULL")?;
+        let rest = expect_word(rest, b"NULL").ok_or(Stop::Unread)?;
         return Ok((Expr::IsNull(Boxed::new(alloc, left)?, negates), rest));
     }
     let (negates, next) = negation(tokens);
@@ -200,14 +206,14 @@ fn tested(alloc: Global, depth: u32, left: Expr, tokens: &[Token]) -> Result<(Ex
         return Ok((Expr::Like(left, right, negates), rest));
     }
     if sees_word(next, b"IN") {
-        let ((), rest) = expect_mark(behind(next), Mark::OpenParenthesis)?;
+        let rest = expect_mark(behind(next), Mark::OpenParenthesis).ok_or(Stop::Unread)?;
         let (among, rest) = sums(alloc, depth, rest)?;
-        let ((), rest) = expect_mark(rest, Mark::CloseParenthesis)?;
+        let rest = expect_mark(rest, Mark::CloseParenthesis).ok_or(Stop::Unread)?;
         return Ok((Expr::In(Boxed::new(alloc, left)?, among, negates), rest));
     }
     if sees_word(next, b"BETWEEN") {
         let (low, rest) = sum(alloc, depth, behind(next))?;
-        let ((), rest) = expect_word(rest, b"AND")?;
+        let rest = expect_word(rest, b"AND").ok_or(Stop::Unread)?;
         let (high, rest) = sum(alloc, depth, rest)?;
         let (left, low) = (Boxed::new(alloc, left)?, Boxed::new(alloc, low)?);
         return Ok((
@@ -241,6 +247,9 @@ fn conj(alloc: Global, depth: u32, tokens: &[Token]) -> Result<(Expr, &[Token]),
     ensures { Gives (λ x. (x.0, kinds x.1.now)) result (spec.conj (spec.inside depth) (kinds tokens.now)) }
 {
     let (first, mut rest) = unit(alloc, depth, tokens)?;
+    if !sees_word(rest, b"AND") {
+        return Ok((first, rest));
+    }
     let mut parts = List::new(alloc);
     parts.push(first)?;
     for _turn in 0..rest.len() {
@@ -263,6 +272,9 @@ pub fn cond(alloc: Global, depth: u32, tokens: &[Token]) -> Result<(Expr, &[Toke
     ensures { Gives (λ x. (x.0, kinds x.1.now)) result (spec.cond (spec.inside depth) (kinds tokens.now)) }
 {
     let (first, mut rest) = conj(alloc, depth, tokens)?;
+    if !sees_word(rest, b"OR") {
+        return Ok((first, rest));
+    }
     let mut parts = List::new(alloc);
     parts.push(first)?;
     for _turn in 0..rest.len() {

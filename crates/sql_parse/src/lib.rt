@@ -7,6 +7,8 @@ mod changes;
 mod conditions;
 pub mod cursor;
 mod expression;
+pub mod lists;
+pub mod literals;
 pub mod names;
 mod queries;
 mod row_statements;

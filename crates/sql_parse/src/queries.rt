@@ -21,7 +21,7 @@ pub fn select(alloc: Global, depth: u32, tokens: &[Token]) -> Result<(Select, &[
     ensures { Gives (λ x. (x.0, kinds x.1.now)) result (spec.select (inside depth) (kinds tokens.now)) }
 {
     let (items, rest) = items(alloc, depth, tokens)?;
-    let ((), rest) = expect_word(rest, b"FROM")?;
+    let rest = expect_word(rest, b"FROM").ok_or(Stop::Unread)?;
     let (from, rest) = from_clause(alloc, depth, rest)?;
     let (condition, rest) = filter(alloc, depth, rest)?;
     let (order, rest) = sorted(alloc, rest)?;
@@ -46,9 +46,9 @@ pub fn counts(tokens: &[Token]) -> bool
 pub fn count(alloc: Global, depth: u32, tokens: &[Token]) -> Result<(Count, &[Token]), Stop>
     ensures { Gives (λ x. (x.0, kinds x.1.now)) result (spec.count (inside depth) (kinds tokens.now)) }
 {
-    let ((), rest) = expect_mark(tokens, Mark::Asterisk)?;
-    let ((), rest) = expect_mark(rest, Mark::CloseParenthesis)?;
-    let ((), rest) = expect_word(rest, b"FROM")?;
+    let rest = expect_mark(tokens, Mark::Asterisk).ok_or(Stop::Unread)?;
+    let rest = expect_mark(rest, Mark::CloseParenthesis).ok_or(Stop::Unread)?;
+    let rest = expect_word(rest, b"FROM").ok_or(Stop::Unread)?;
     let (table, rest) = aliased(alloc, rest)?;
     let (condition, rest) = filter(alloc, depth, rest)?;
     Ok((Count { table, condition }, rest))
@@ -133,7 +133,7 @@ fn further(alloc: Global, depth: u32, tokens: &[Token]) -> Result<(Join, &[Token
         let (table, rest) = aliased(alloc, behind(tokens))?;
         return Ok((Join { table, on: None }, rest));
     }
-    let ((), rest) = expect_word(past_word(tokens, b"INNER"), b"JOIN")?;
+    let rest = expect_word(past_word(tokens, b"INNER"), b"JOIN").ok_or(Stop::Unread)?;
     joined(alloc, depth, rest)
 }
 
@@ -143,7 +143,7 @@ fn joined(alloc: Global, depth: u32, tokens: &[Token]) -> Result<(Join, &[Token]
     ensures { Gives (λ x. (x.0, kinds x.1.now)) result (spec.joined (inside depth) (kinds tokens.now)) }
 {
     let (table, rest) = aliased(alloc, tokens)?;
-    let ((), rest) = expect_word(rest, b"ON")?;
+    let rest = expect_word(rest, b"ON").ok_or(Stop::Unread)?;
     let (on, rest) = cond(alloc, depth, rest)?;
     let on = Some(on);
     Ok((Join { table, on }, rest))
@@ -164,7 +164,7 @@ fn sorted(alloc: Global, tokens: &[Token]) -> Result<(Option<List<SortKey>>, &[T
 fn orders(alloc: Global, tokens: &[Token]) -> Result<(List<SortKey>, &[Token]), Stop>
     ensures { Gives (λ x. (x.0, kinds x.1.now)) result (spec.orders (kinds tokens.now)) }
 {
-    let ((), rest) = expect_word(tokens, b"BY")?;
+    let rest = expect_word(tokens, b"BY").ok_or(Stop::Unread)?;
     let (first, mut rest) = order(alloc, rest)?;
     let mut parts = List::new(alloc);
     parts.push(first)?;

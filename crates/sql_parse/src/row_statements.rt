@@ -42,7 +42,7 @@ fn read(alloc: Global, tokens: &[Token]) -> Result<Statement, Stop>
         return Err(Stop::Unread);
     }
     let (found, rest) = statement(alloc, LIMIT, tokens)?;
-    all_of(found, past_mark(rest, Mark::Semicolon))
+    all_of(found, past_mark(rest, Mark::Semicolon)).ok_or(Stop::Unread)
 }
 
 #[tactic(auto, unfolding(crate::specs::descent::ReadStatements::row_statement))]
