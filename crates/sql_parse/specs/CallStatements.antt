@@ -18,9 +18,9 @@ use Rattle.sql_ast.specs.declared.statement.Statement.TheVariants as statement
 pub use Rattle.sql_ast.specs.Procedures.{needed_by, optional_of, package_of, parameter_name, procedure_name}
 use Rattle.au_base.specs.Moments.{TellsMoment}
 use Rattle.sql_parse.specs.Symbols.{opening, closing, comma, dot, semicolon}
-use Rattle.sql_parse.specs.Rules.{Maybe, Parted}
+use Rattle.sql_parse.specs.Rules.{Parted}
 use Rattle.sql_parse.specs.Tables.{Name}
-use Rattle.sql_parse.specs.Conditions.{opens_few}
+use Rattle.sql_parse.specs.Whole.{WholeOf}
 
 -- one number a parameter
 abbrev pub parameter_number : Parameter → ℕ
@@ -82,11 +82,8 @@ pub data CallStatement : List Kind → Statement → List Kind → Type 0 where
   calls : {i o : List Kind} {x : Call} → IsCall i x o → CallStatement (Word (codes "CALL") ∷ i) (statement.Call x) o
 
 -- the tokens are this statement, with `;` behind it or without
-pub record IsCallStatement (ts : List Kind) (x : Statement) : Type 0 where
-  pub few : opens_few 0 ts ≡ true
-  pub behind : List Kind
-  pub derived : CallStatement ts x behind
-  pub ends : Maybe semicolon behind []
+abbrev pub IsCallStatement : List Kind → Statement → Type 0
+IsCallStatement = WholeOf CallStatement
 
 -- the tokens are no such statement
 abbrev pub IsNoCallStatement : List Kind → Type 0

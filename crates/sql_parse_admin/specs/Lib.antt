@@ -1,10 +1,9 @@
 pub mod Families
 pub mod Passwords
 pub mod ReadAudits
-pub mod ReadCalls
 pub mod ReadGrants
-pub mod ReadPolicies
 pub mod ReadStatements
 pub mod ReadTableDefinitions
 pub mod ReadUsers
 pub mod Unread
+pub mod descent

@@ -1,0 +1,4 @@
+pub mod ReadCalls
+pub mod ReadPolicies
+pub mod ReadPrivileges
+pub mod ReadWords
