@@ -15,67 +15,12 @@ use Rattle.sql_ast.specs.declared.call.Value.{Value}
 use Rattle.sql_ast.specs.declared.call.Value.TheVariants as value
 use Rattle.sql_ast.specs.declared.statement.Statement.{Statement}
 use Rattle.sql_ast.specs.declared.statement.Statement.TheVariants as statement
+pub use Rattle.sql_ast.specs.Procedures.{needed_by, optional_of, package_of, parameter_name, procedure_name}
 use Rattle.au_base.specs.Moments.{TellsMoment}
 use Rattle.sql_parse.specs.Symbols.{opening, closing, comma, dot, semicolon}
-use Rattle.sql_parse.specs.Rules.{Maybe, Parted}
+use Rattle.sql_parse.specs.Rules.{Parted}
 use Rattle.sql_parse.specs.Tables.{Name}
-use Rattle.sql_parse.specs.Conditions.{opens_few}
-
--- the package and the name of a procedure
-abbrev pub package_of : Procedure → List ℕ
-package_of procedure.AddPolicy = codes "DBMS_FGA"
-package_of procedure.DropPolicy = codes "DBMS_FGA"
-package_of procedure.EnablePolicy = codes "DBMS_FGA"
-package_of procedure.DisablePolicy = codes "DBMS_FGA"
-package_of procedure.SetLastArchiveTimestamp = codes "DBMS_AUDIT_MGMT"
-package_of procedure.ClearLastArchiveTimestamp = codes "DBMS_AUDIT_MGMT"
-package_of procedure.CleanAuditTrail = codes "DBMS_AUDIT_MGMT"
-
-abbrev pub procedure_name : Procedure → List ℕ
-procedure_name procedure.AddPolicy = codes "ADD_POLICY"
-procedure_name procedure.DropPolicy = codes "DROP_POLICY"
-procedure_name procedure.EnablePolicy = codes "ENABLE_POLICY"
-procedure_name procedure.DisablePolicy = codes "DISABLE_POLICY"
-procedure_name procedure.SetLastArchiveTimestamp = codes "SET_LAST_ARCHIVE_TIMESTAMP"
-procedure_name procedure.ClearLastArchiveTimestamp = codes "CLEAR_LAST_ARCHIVE_TIMESTAMP"
-procedure_name procedure.CleanAuditTrail = codes "CLEAN_AUDIT_TRAIL"
-
-abbrev pub parameter_name : Parameter → List ℕ
-parameter_name parameter.ObjectSchema = codes "OBJECT_SCHEMA"
-parameter_name parameter.ObjectName = codes "OBJECT_NAME"
-parameter_name parameter.PolicyName = codes "POLICY_NAME"
-parameter_name parameter.AuditCondition = codes "AUDIT_CONDITION"
-parameter_name parameter.AuditColumn = codes "AUDIT_COLUMN"
-parameter_name parameter.HandlerSchema = codes "HANDLER_SCHEMA"
-parameter_name parameter.HandlerModule = codes "HANDLER_MODULE"
-parameter_name parameter.Enable = codes "ENABLE"
-parameter_name parameter.StatementTypes = codes "STATEMENT_TYPES"
-parameter_name parameter.AuditColumnOpts = codes "AUDIT_COLUMN_OPTS"
-parameter_name parameter.AuditTrailType = codes "AUDIT_TRAIL_TYPE"
-parameter_name parameter.LastArchiveTime = codes "LAST_ARCHIVE_TIME"
-parameter_name parameter.UseLastArchTimestamp = codes "USE_LAST_ARCH_TIMESTAMP"
-
--- the parameters that have no default, and must be given
-abbrev pub needed_by : Procedure → List Parameter
-needed_by procedure.AddPolicy = parameter.ObjectName ∷ parameter.PolicyName ∷ []
-needed_by procedure.DropPolicy = parameter.ObjectName ∷ parameter.PolicyName ∷ []
-needed_by procedure.EnablePolicy = parameter.ObjectName ∷ parameter.PolicyName ∷ []
-needed_by procedure.DisablePolicy = parameter.ObjectName ∷ parameter.PolicyName ∷ []
-needed_by procedure.SetLastArchiveTimestamp = parameter.AuditTrailType ∷ parameter.LastArchiveTime ∷ []
-needed_by procedure.ClearLastArchiveTimestamp = parameter.AuditTrailType ∷ []
-needed_by procedure.CleanAuditTrail = parameter.AuditTrailType ∷ []
-
--- the parameters that have a default, and may be given
-abbrev pub optional_of : Procedure → List Parameter
-optional_of procedure.AddPolicy =
-    parameter.ObjectSchema ∷ parameter.AuditCondition ∷ parameter.AuditColumn ∷ parameter.HandlerSchema ∷ parameter.HandlerModule ∷ parameter.Enable ∷ parameter.StatementTypes
-    ∷ parameter.AuditColumnOpts ∷ []
-optional_of procedure.DropPolicy = parameter.ObjectSchema ∷ []
-optional_of procedure.EnablePolicy = parameter.ObjectSchema ∷ parameter.Enable ∷ []
-optional_of procedure.DisablePolicy = parameter.ObjectSchema ∷ []
-optional_of procedure.SetLastArchiveTimestamp = []
-optional_of procedure.ClearLastArchiveTimestamp = []
-optional_of procedure.CleanAuditTrail = parameter.UseLastArchTimestamp ∷ []
+use Rattle.sql_parse.specs.Whole.{WholeOf}
 
 -- one number a parameter
 abbrev pub parameter_number : Parameter → ℕ
@@ -137,11 +82,8 @@ pub data CallStatement : List Kind → Statement → List Kind → Type 0 where
   calls : {i o : List Kind} {x : Call} → IsCall i x o → CallStatement (Word (codes "CALL") ∷ i) (statement.Call x) o
 
 -- the tokens are this statement, with `;` behind it or without
-pub record IsCallStatement (ts : List Kind) (x : Statement) : Type 0 where
-  pub few : opens_few 0 ts ≡ true
-  pub behind : List Kind
-  pub derived : CallStatement ts x behind
-  pub ends : Maybe semicolon behind []
+abbrev pub IsCallStatement : List Kind → Statement → Type 0
+IsCallStatement = WholeOf CallStatement
 
 -- the tokens are no such statement
 abbrev pub IsNoCallStatement : List Kind → Type 0

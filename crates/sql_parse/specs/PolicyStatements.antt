@@ -5,6 +5,7 @@ use Rattle.au_base.specs.declared.action.Action.{Action}
 use Rattle.au_base.specs.declared.action.Action.TheVariants as actions
 use Rattle.au_base.specs.declared.privilege.Privilege.{Privilege}
 use Rattle.au_base.specs.declared.table.TableReference.{TableReference}
+use Rattle.au_base.specs.Actions.{name_of}
 use Rattle.sql_lex.specs.declared.token.Kind.{Kind}
 use Rattle.sql_lex.specs.declared.token.Kind.TheVariants.{Word, Text}
 use Rattle.sql_ast.specs.declared.administration.ActionPart.{ActionPart}
@@ -17,34 +18,12 @@ use Rattle.sql_parse.specs.Symbols.{comma}
 use Rattle.sql_parse.specs.Rules.{After, Optional, Parted}
 use Rattle.sql_parse.specs.Tables.{Name, Table}
 use Rattle.sql_parse.specs.Grants.{Names}
-use Rattle.sql_parse.specs.Privileges.{IsPrivilege, tokens_of}
+use Rattle.sql_parse.specs.Privileges.{IsPrivilege, tokens_of, words}
 use Rattle.sql_parse.specs.Whole.{WholeOf}
 
--- the words of an action
+-- the words that an action's name has
 abbrev pub words_of_action : Action → List (List ℕ)
-words_of_action actions.All = codes "ALL" ∷ []
-words_of_action actions.Select = codes "SELECT" ∷ []
-words_of_action actions.Insert = codes "INSERT" ∷ []
-words_of_action actions.Update = codes "UPDATE" ∷ []
-words_of_action actions.Delete = codes "DELETE" ∷ []
-words_of_action actions.Commit = codes "COMMIT" ∷ []
-words_of_action actions.Rollback = codes "ROLLBACK" ∷ []
-words_of_action actions.CreateTable = codes "CREATE" ∷ codes "TABLE" ∷ []
-words_of_action actions.DropTable = codes "DROP" ∷ codes "TABLE" ∷ []
-words_of_action actions.CreateUser = codes "CREATE" ∷ codes "USER" ∷ []
-words_of_action actions.AlterUser = codes "ALTER" ∷ codes "USER" ∷ []
-words_of_action actions.DropUser = codes "DROP" ∷ codes "USER" ∷ []
-words_of_action actions.CreateRole = codes "CREATE" ∷ codes "ROLE" ∷ []
-words_of_action actions.DropRole = codes "DROP" ∷ codes "ROLE" ∷ []
-words_of_action actions.Grant = codes "GRANT" ∷ []
-words_of_action actions.Revoke = codes "REVOKE" ∷ []
-words_of_action actions.CreateAuditPolicy = codes "CREATE" ∷ codes "AUDIT" ∷ codes "POLICY" ∷ []
-words_of_action actions.DropAuditPolicy = codes "DROP" ∷ codes "AUDIT" ∷ codes "POLICY" ∷ []
-words_of_action actions.Audit = codes "AUDIT" ∷ []
-words_of_action actions.Noaudit = codes "NOAUDIT" ∷ []
-words_of_action actions.Execute = codes "EXECUTE" ∷ []
-words_of_action actions.Logon = codes "LOGON" ∷ []
-words_of_action actions.Logoff = codes "LOGOFF" ∷ []
+words_of_action action = words (name_of action)
 
 -- action = the words of an action, one behind the other
 pub data IsAction : List Kind → Action → List Kind → Type 0 where

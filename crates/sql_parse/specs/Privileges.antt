@@ -1,39 +1,28 @@
 -- The grammar of what is granted (SQL Language Reference, "GRANT"; the choice of rules is this project's profile).
-use Rattle.std.specs.Prelude.{ℕ, List, [], ◌∷◌, ◌++◌, map, codes}
+use Rattle.std.specs.Prelude.{ℕ, ◌==◌, List, ◌∷◌, ◌++◌, map, codes}
+use Rattle.std.specs.List.{slice_split}
 use Rattle.au_base.specs.declared.privilege.Privilege.{Privilege}
-use Rattle.au_base.specs.declared.privilege.Privilege.TheVariants as privileges
 use Rattle.au_base.specs.declared.grant.ObjectRight.{ObjectRight}
 use Rattle.au_base.specs.declared.grant.ObjectRight.TheVariants as on
 use Rattle.au_base.specs.declared.grant.Right.{Right}
 use Rattle.au_base.specs.declared.grant.Right.TheVariants as kind
+use Rattle.au_base.specs.Privileges.{name_of}
 use Rattle.sql_lex.specs.declared.token.Kind.{Kind}
 use Rattle.sql_lex.specs.declared.token.Kind.TheVariants.{Word}
 use Rattle.sql_parse.specs.Rules.{Maybe}
 use Rattle.sql_parse.specs.Tables.{Name}
 
+-- the words of a name, which blanks (byte 32) part
+abbrev pub words : List ℕ → List (List ℕ)
+words name = slice_split (λ byte. byte == 32) name
+
 -- the words that a privilege's name has
 abbrev pub words_of : Privilege → List (List ℕ)
-words_of privileges.AlterUser = codes "ALTER" ∷ codes "USER" ∷ []
-words_of privileges.AuditSystem = codes "AUDIT" ∷ codes "SYSTEM" ∷ []
-words_of privileges.CreateAnyTable = codes "CREATE" ∷ codes "ANY" ∷ codes "TABLE" ∷ []
-words_of privileges.CreateRole = codes "CREATE" ∷ codes "ROLE" ∷ []
-words_of privileges.CreateSession = codes "CREATE" ∷ codes "SESSION" ∷ []
-words_of privileges.CreateTable = codes "CREATE" ∷ codes "TABLE" ∷ []
-words_of privileges.CreateUser = codes "CREATE" ∷ codes "USER" ∷ []
-words_of privileges.DeleteAnyTable = codes "DELETE" ∷ codes "ANY" ∷ codes "TABLE" ∷ []
-words_of privileges.DropAnyRole = codes "DROP" ∷ codes "ANY" ∷ codes "ROLE" ∷ []
-words_of privileges.DropAnyTable = codes "DROP" ∷ codes "ANY" ∷ codes "TABLE" ∷ []
-words_of privileges.DropUser = codes "DROP" ∷ codes "USER" ∷ []
-words_of privileges.GrantAnyObjectPrivilege = codes "GRANT" ∷ codes "ANY" ∷ codes "OBJECT" ∷ codes "PRIVILEGE" ∷ []
-words_of privileges.GrantAnyPrivilege = codes "GRANT" ∷ codes "ANY" ∷ codes "PRIVILEGE" ∷ []
-words_of privileges.GrantAnyRole = codes "GRANT" ∷ codes "ANY" ∷ codes "ROLE" ∷ []
-words_of privileges.InsertAnyTable = codes "INSERT" ∷ codes "ANY" ∷ codes "TABLE" ∷ []
-words_of privileges.SelectAnyTable = codes "SELECT" ∷ codes "ANY" ∷ codes "TABLE" ∷ []
-words_of privileges.UpdateAnyTable = codes "UPDATE" ∷ codes "ANY" ∷ codes "TABLE" ∷ []
+words_of privilege = words (name_of privilege)
 
 -- as tokens
 abbrev pub tokens_of : List (List ℕ) → List Kind
-tokens_of words = map (λ word. Word word) words
+tokens_of each = map (λ word. Word word) each
 
 -- privilege = the words of a system privilege, one behind the other
 pub data IsPrivilege : List Kind → Privilege → List Kind → Type 0 where

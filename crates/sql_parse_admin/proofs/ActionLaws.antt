@@ -1,8 +1,9 @@
 -- Each reader of the parts of an audit policy reads exactly its rule.
-use Rattle.std.proofs.Common.{◌≡◌, ◌<◌, true, false, cond, List, [], ◌∷◌, ◌++◌, length, Option, Some, None, refl, sym, subst, arith, inl, inr}
+use Rattle.std.proofs.Common.{◌≡◌, ◌<◌, true, false, cond, List, ◌∷◌, ◌++◌, length, Option, Some, None, refl, sym, subst, arith, inl, inr}
 use Rattle.std.specs.Prelude.{codes}
 use Rattle.au_base.specs.declared.action.Action.{Action}
 use Rattle.au_base.specs.declared.action.Action.TheVariants as a
+use Rattle.au_base.specs.Actions.{each_action}
 use Rattle.au_base.specs.declared.privilege.Privilege.{Privilege}
 use Rattle.au_base.specs.declared.table.TableReference.{TableReference}
 use Rattle.sql_lex.specs.declared.token.Kind.{Kind}
@@ -19,9 +20,11 @@ use Rattle.sql_parse.specs.Privileges.{IsPrivilege, tokens_of}
 use Rattle.sql_parse.specs.Privileges as rights
 use Rattle.sql_parse.specs.PolicyStatements as g
 use Rattle.sql_parse.specs.PolicyStatements.{words_of_action}
-use Rattle.sql_parse_admin.specs.descent.ReadGrants.{past_words, privilege}
-use Rattle.sql_parse_admin.specs.ReadPolicies as policies
+use Rattle.sql_parse_admin.specs.descent.ReadPolicies as policies
+use Rattle.sql_parse_admin.specs.descent.ReadPrivileges as reads
+use Rattle.sql_parse_admin.specs.descent.ReadPrivileges.{privilege}
 use Rattle.sql_parse_admin.proofs.PrivilegeLaws as privileges
+use Rattle.sql_parse_admin.proofs.WordLaws.{first_sound}
 
 -- ---- privileges
 
@@ -34,24 +37,15 @@ privilege_exact = record { sound = privileges.privilege_sound; complete = comple
     shorter : (i o : List Kind) (x : Privilege) → IsPrivilege i x o → length o < length i
     shorter i o x rights.privilege = privileges.each_longer x o
 
-pub privileges_exact : Exact (Parted comma IsPrivilege) policies.privileges NoComma
-unfolding policies.privileges
+pub privileges_exact : Exact (Parted comma IsPrivilege) reads.privileges NoComma
+unfolding reads.privileges
 privileges_exact = parted_exact comma IsPrivilege privilege Anywhere privilege_exact refl (λ i. tt) NoComma (λ o f. tt) (λ o f. f)
 
 -- ---- actions
 
-first_sound : (qs : List Action) (i : List Kind) (y : Action × List Kind) → policies.first_of qs i ≡ Some y → g.IsAction i y.0 y.1
-first_sound [] i y h = absurd cc
-first_sound (q ∷ qs) i y h = go (first_sound qs i y) (past_words (words_of_action q) i) refl h
-  where
-    go : (policies.first_of qs i ≡ Some y → g.IsAction i y.0 y.1) → (o : Option (List Kind)) → past_words (words_of_action q) i ≡ o → policies.found_or q o (policies.first_of qs i) ≡ Some y → g.IsAction i y.0 y.1
-    go others (Some o) at h =
-        subst (λ (z : Action × List Kind). g.IsAction i z.0 z.1) (some_is (q, o) y h) (subst (λ (j : List Kind). g.IsAction j q o) (sym (privileges.words_sound (words_of_action q) i o at)) g.action)
-    go others None at h = others h
-
 action_sound : (i : List Kind) (y : Action × List Kind) → policies.action i ≡ Some y → g.IsAction i y.0 y.1
 unfolding policies.action
-action_sound i y h = first_sound policies.each i y h
+action_sound i y h = subst (λ (j : List Kind). g.IsAction j y.0 y.1) (sym (first_sound words_of_action each_action i y h)) g.action
 
 -- no action's words are the first of another's
 each_read : (q : Action) (o : List Kind) → policies.action (tokens_of (words_of_action q) ++ o) ≡ Some (q, o)

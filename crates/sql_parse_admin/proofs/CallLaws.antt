@@ -1,6 +1,6 @@
 -- Calls are read exactly by their rules.
-use Rattle.std.proofs.Common.{◌≡◌, true, List, [], ◌∷◌, Option, Some, None, refl, sym, ap, subst, ◌∙◌, inl, inr}
-use Rattle.std.specs.Prelude.{codes, map}
+use Rattle.std.proofs.Common.{◌≡◌, true, List, ◌∷◌, Option, Some, refl, sym, ap, subst, ◌∙◌, inl, inr}
+use Rattle.std.specs.Prelude.{Result, codes, map}
 use Rattle.sql_lex.specs.declared.token.Kind.{Kind}
 use Rattle.sql_lex.specs.declared.token.Kind.TheVariants.{Word}
 use Rattle.sql_ast.specs.declared.call.Argument.{Argument}
@@ -8,18 +8,19 @@ use Rattle.sql_ast.specs.declared.call.Call.{Call}
 use Rattle.sql_ast.specs.declared.statement.Statement.{Statement}
 use Rattle.sql_ast.specs.declared.statement.Statement.TheVariants as statement
 use Rattle.sql_parse.specs.Symbols.{sees, opening, closing, comma, semicolon}
-use Rattle.sql_parse.specs.Rules.{Maybe, without, written, Parted}
+use Rattle.sql_parse.specs.Rules.{Parted}
 use Rattle.sql_parse.specs.Tables.{Name}
-use Rattle.sql_parse.specs.descent.Reading as read
-use Rattle.sql_parse.specs.descent.Reading.{◌>>=◌, under, behind, expect}
-use Rattle.sql_parse.specs.descent.ReadStatements.{past_end}
+use Rattle.sql_parse.specs.descent.Reading.{◌>>=◌, Gives, under, behind, expect}
 use Rattle.sql_parse.specs.Conditions.{opens_few}
+use Rattle.sql_parse.specs.Whole.{Finds}
+use Rattle.sql_parse.specs.declared.stop.Stop.{Stop}
+use Rattle.sql_parse.specs.descent.Ending.{Ends}
+use Rattle.au_base.specs.declared.memory.Memory.{Memory}
 use Rattle.sql_parse.proofs.Exact.{bind_some, under_some, some_is, chosen, guard, sees_is, expect_is}
-use Rattle.sql_parse.proofs.Follow.{LAST}
-use Rattle.sql_parse.proofs.RowStatementLaws.{last}
+use Rattle.sql_parse.proofs.WholeLaws.{Reads, ended_gives, one_whole, whole_found}
 use Rattle.sql_parse.specs.CallStatements as g
 use Rattle.sql_parse.specs.CallStatements.{procedure_name, are_taken}
-use Rattle.sql_parse_admin.specs.ReadCalls as calls
+use Rattle.sql_parse_admin.specs.descent.ReadCalls as calls
 use Rattle.sql_parse_admin.proofs.ProcedureLaws.{procedure_sound, procedure_complete}
 use Rattle.sql_parse_admin.proofs.ArgumentLaws.{arguments_exact}
 
@@ -84,25 +85,12 @@ statement_complete i o x (g.CallStatement.calls {i = j} {x = y} d) = rw (call_co
 
 -- ---- all tokens
 
-pub statement_is : (ts : List Kind) (x : Statement) → calls.whole_call ts ≡ Some x → g.IsCallStatement ts x
-statement_is ts x h =
-    let t = guard (opens_few 0 ts) (read.whole (past_end (calls.call_statement ts))) x h in go (calls.call_statement ts) refl t.1 t.0
-  where
-    go : (r : Option (Statement × List Kind)) → calls.call_statement ts ≡ r → read.whole (past_end r) ≡ Some x → opens_few 0 ts ≡ true → g.IsCallStatement ts x
-    go None e w few = absurd cc
-    go (Some y) e w few =
-        let l = last y.1 y.0 x w in
-        record { few = few; behind = y.1; derived = subst (λ (z : Statement). g.CallStatement ts z y.1) l.1 (statement_sound ts y e); ends = l.0 }
-
-pub statement_read : (ts : List Kind) (x : Statement) → g.IsCallStatement ts x → calls.whole_call ts ≡ Some x
-statement_read ts x s = go s.behind s.ends s.derived
-  where
-    go : (o : List Kind) → Maybe semicolon o [] → g.CallStatement ts x o → calls.whole_call ts ≡ Some x
-    go o without d = rw (s.few, statement_complete ts [] x d) refl
-    go o written d = rw (s.few, statement_complete ts LAST x d) refl
-
-pub no_statement : (ts : List Kind) → calls.whole_call ts ≡ None → g.IsNoCallStatement ts
-no_statement ts h x s = let is : calls.whole_call ts ≡ Some x = statement_read ts x s in cc
+calls_read : Reads (λ ks. ks) (λ depth. g.CallStatement) calls.call_statement
+calls_read = record { sound = λ i y h. (0, statement_sound i y h); complete = λ depth i o x few d at. statement_complete i o x d }
 
 pub one_way : (ts : List Kind) (x y : Statement) → g.IsCallStatement ts x → g.IsCallStatement ts y → x ≡ y
-one_way ts x y s t = some_is x y (sym (statement_read ts x s) ∙ statement_read ts y t)
+one_way = one_whole (λ ks. ks) (λ depth. g.CallStatement) calls.call_statement calls_read
+
+pub found : {X : Type 0} (ts : List Kind) (view : X → Statement × List Kind) (r : Result X Stop) (answer : Result (Option Statement) Memory)
+    → Gives view r (calls.call_statement ts) → Ends view r answer → opens_few 0 ts ≡ true → Finds (g.IsCallStatement ts) answer
+found ts view r answer gives ends = whole_found (λ ks. ks) (λ depth. g.CallStatement) calls.call_statement calls_read ts answer (ended_gives (λ ks. ks) view r (calls.call_statement ts) answer gives ends)

@@ -11,3 +11,4 @@ pub mod ProcedureLaws
 pub mod StatementLaws
 pub mod TableDefinitionLaws
 pub mod UserLaws
+pub mod WordLaws

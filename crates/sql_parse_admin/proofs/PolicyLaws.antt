@@ -1,6 +1,6 @@
 -- CREATE AUDIT POLICY is read exactly by its rules.
 use Rattle.std.proofs.Common.{◌≡◌, ℕ, ◌<◌, true, cond, ◌||◌, List, [], ◌∷◌, length, Option, Some, None, refl, sym, ap, subst, ◌∙◌, arith, inl, inr}
-use Rattle.std.specs.Prelude.{codes, is_some}
+use Rattle.std.specs.Prelude.{Result, codes, is_some}
 use Rattle.sql_lex.specs.declared.token.Kind.{Kind}
 use Rattle.sql_lex.specs.declared.token.Kind.TheVariants.{Word, Quoted, Number, Text, Mark}
 use Rattle.sql_ast.specs.declared.administration.CreatePolicy.{CreatePolicy}
@@ -9,22 +9,26 @@ use Rattle.sql_ast.specs.declared.administration.Evaluation.TheVariants as evalu
 use Rattle.sql_ast.specs.declared.administration.PolicyCondition.{PolicyCondition}
 use Rattle.sql_ast.specs.declared.statement.Statement.{Statement}
 use Rattle.sql_ast.specs.declared.statement.Statement.TheVariants as statement
-use Rattle.sql_parse.specs.Symbols.{sees, comma, semicolon}
-use Rattle.sql_parse.specs.Rules.{Maybe, without, written, Parted}
+use Rattle.sql_parse.specs.Symbols.{sees, comma}
+use Rattle.sql_parse.specs.Rules.{Parted}
 use Rattle.sql_parse.specs.Tables.{Name}
 use Rattle.sql_parse.specs.Grants.{Names}
 use Rattle.sql_parse.specs.Privileges.{IsPrivilege}
 use Rattle.sql_parse.specs.descent.Reading as read
-use Rattle.sql_parse.specs.descent.Reading.{◌>>=◌, under, behind, expect}
+use Rattle.sql_parse.specs.descent.Reading.{◌>>=◌, Gives, under, behind, expect}
 use Rattle.sql_parse.specs.descent.ReadTables as tables
-use Rattle.sql_parse.specs.descent.ReadStatements.{past_end}
 use Rattle.sql_parse.specs.Conditions.{opens_few}
+use Rattle.sql_parse.specs.Whole.{Finds}
+use Rattle.sql_parse.specs.declared.stop.Stop.{Stop}
+use Rattle.sql_parse.specs.descent.Ending.{Ends}
+use Rattle.au_base.specs.declared.memory.Memory.{Memory}
 use Rattle.sql_parse.proofs.Exact.{bind_some, under_some, some_is, chosen, guard, sees_is, expect_is, Exact}
 use Rattle.sql_parse.proofs.Follow.{OneOf, unseen, LAST, Anywhere, clause_first, clause_sound, clause_complete}
 use Rattle.sql_parse.proofs.TableLaws.{name_exact, names_exact, NoComma}
-use Rattle.sql_parse.proofs.RowStatementLaws.{last}
+use Rattle.sql_parse.proofs.WholeLaws.{Reads, ended_gives, one_whole, whole_found}
 use Rattle.sql_parse.specs.PolicyStatements as g
-use Rattle.sql_parse_admin.specs.ReadPolicies as policies
+use Rattle.sql_parse_admin.specs.descent.ReadPolicies as policies
+use Rattle.sql_parse_admin.specs.descent.ReadPrivileges as rights
 use Rattle.sql_parse_admin.proofs.ActionLaws.{privileges_exact, parts_exact, ROLES, WHEN, BEHIND_PARTS}
 
 abbrev CREATE : Kind
@@ -141,7 +145,7 @@ clauses_sound p i j y named h t =
     let d = bind_some (policies.roles_clause b.0.1) (λ rs. under (λ c. record { policy = p; privileges = a.0.0; actions = b.0.0; roles = rs.0; condition = c }) (policies.condition_clause rs.1)) y b.2 in
     let u = under_some (λ (c : Option PolicyCondition). record { policy = p; privileges = a.0.0; actions = b.0.0; roles = d.0.0; condition = c }) (policies.condition_clause d.0.1) y d.2 in
     let some : (is_some a.0.0 || is_some b.0.0 || is_some d.0.0) ≡ true = subst (λ (z : CreatePolicy × List Kind). policies.audits_some z.0 ≡ true) (sym u.2) t in
-    let privileges = clause_sound PRIVILEGES (Parted comma IsPrivilege) policies.privileges NoComma privileges_exact refl j a.0 a.1 in
+    let privileges = clause_sound PRIVILEGES (Parted comma IsPrivilege) rights.privileges NoComma privileges_exact refl j a.0 a.1 in
     let actions = clause_sound ACTIONS (Parted comma g.IsPart) policies.parts (OneOf BEHIND_PARTS) parts_exact refl a.0.1 b.0 b.1 in
     let roles = clause_sound ROLES Names tables.names NoComma names_exact refl b.0.1 d.0 d.1 in
     let condition = clause_sound WHEN g.IsPolicyCondition policies.condition Anywhere condition_exact refl d.0.1 u.0 u.1 in
@@ -169,7 +173,7 @@ policy_complete i o x (g.creates {i = h} {j = j} {m = m} {n = n} {q = q} {p = p}
     let at_m : OneOf BEHIND_PRIVILEGES m = clause_first ACTIONS (Parted comma g.IsPart) BEHIND_PARTS m n parts refl actions at_n in
     rw (
       heading_complete h j p named,
-      clause_complete PRIVILEGES (Parted comma IsPrivilege) policies.privileges NoComma privileges_exact refl j m ps privileges (unseen comma BEHIND_PRIVILEGES m refl at_m) (unseen PRIVILEGES BEHIND_PRIVILEGES m refl at_m),
+      clause_complete PRIVILEGES (Parted comma IsPrivilege) rights.privileges NoComma privileges_exact refl j m ps privileges (unseen comma BEHIND_PRIVILEGES m refl at_m) (unseen PRIVILEGES BEHIND_PRIVILEGES m refl at_m),
       clause_complete ACTIONS (Parted comma g.IsPart) policies.parts (OneOf BEHIND_PARTS) parts_exact refl m n parts actions at_n (unseen ACTIONS BEHIND_PARTS n refl at_n),
       clause_complete ROLES Names tables.names NoComma names_exact refl n q rs roles (unseen comma (WHEN ∷ LAST) q refl at_q) (unseen ROLES (WHEN ∷ LAST) q refl at_q),
       clause_complete WHEN g.IsPolicyCondition policies.condition Anywhere condition_exact refl q o c condition tt (unseen WHEN LAST o refl f),
@@ -178,25 +182,12 @@ policy_complete i o x (g.creates {i = h} {j = j} {m = m} {n = n} {q = q} {p = p}
 
 -- ---- all tokens
 
-pub statement_is : (ts : List Kind) (x : Statement) → policies.whole_policy ts ≡ Some x → g.IsPolicyStatement ts x
-statement_is ts x h =
-    let t = guard (opens_few 0 ts) (read.whole (past_end (policies.policy ts))) x h in go (policies.policy ts) refl t.1 t.0
-  where
-    go : (r : Option (Statement × List Kind)) → policies.policy ts ≡ r → read.whole (past_end r) ≡ Some x → opens_few 0 ts ≡ true → g.IsPolicyStatement ts x
-    go None e w f = absurd cc
-    go (Some y) e w f =
-        let l = last y.1 y.0 x w in
-        record { few = f; behind = y.1; derived = subst (λ (z : Statement). g.PolicyStatement ts z y.1) l.1 (policy_sound ts y e); ends = l.0 }
-
-pub statement_read : (ts : List Kind) (x : Statement) → g.IsPolicyStatement ts x → policies.whole_policy ts ≡ Some x
-statement_read ts x s = go s.behind s.ends s.derived
-  where
-    go : (o : List Kind) → Maybe semicolon o [] → g.PolicyStatement ts x o → policies.whole_policy ts ≡ Some x
-    go o without d = rw (s.few, policy_complete ts [] x d tt) refl
-    go o written d = rw (s.few, policy_complete ts LAST x d refl) refl
-
-pub no_statement : (ts : List Kind) → policies.whole_policy ts ≡ None → g.IsNoPolicyStatement ts
-no_statement ts h x s = let is : policies.whole_policy ts ≡ Some x = statement_read ts x s in cc
+policies_read : Reads (λ ks. ks) (λ depth. g.PolicyStatement) policies.policy
+policies_read = record { sound = λ i y h. (0, policy_sound i y h); complete = λ depth i o x few d at. policy_complete i o x d at }
 
 pub one_way : (ts : List Kind) (x y : Statement) → g.IsPolicyStatement ts x → g.IsPolicyStatement ts y → x ≡ y
-one_way ts x y s t = some_is x y (sym (statement_read ts x s) ∙ statement_read ts y t)
+one_way = one_whole (λ ks. ks) (λ depth. g.PolicyStatement) policies.policy policies_read
+
+pub found : {X : Type 0} (ts : List Kind) (view : X → Statement × List Kind) (r : Result X Stop) (answer : Result (Option Statement) Memory)
+    → Gives view r (policies.policy ts) → Ends view r answer → opens_few 0 ts ≡ true → Finds (g.IsPolicyStatement ts) answer
+found ts view r answer gives ends = whole_found (λ ks. ks) (λ depth. g.PolicyStatement) policies.policy policies_read ts answer (ended_gives (λ ks. ks) view r (policies.policy ts) answer gives ends)

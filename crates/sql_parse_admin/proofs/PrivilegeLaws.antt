@@ -1,5 +1,5 @@
--- Each reader of what is granted reads exactly its rule.
-use Rattle.std.proofs.Common.{◌≡◌, ℕ, ◌<◌, Bool, true, false, not, ◌&&◌, List, [], ◌∷◌, ◌++◌, length, Option, Some, None, refl, sym, ap, subst, ◌∙◌, arith, inl, inr}
+-- Each reader of what is granted privileges exactly its rule.
+use Rattle.std.proofs.Common.{◌≡◌, ℕ, ◌<◌, Bool, true, false, not, ◌&&◌, List, [], ◌∷◌, ◌++◌, length, Option, Some, None, refl, sym, subst, arith, inl, inr}
 use Rattle.std.specs.Prelude.{codes}
 use Rattle.au_base.specs.declared.grant.ObjectRight.{ObjectRight}
 use Rattle.au_base.specs.declared.grant.ObjectRight.TheVariants as on
@@ -7,6 +7,7 @@ use Rattle.au_base.specs.declared.grant.Right.{Right}
 use Rattle.au_base.specs.declared.grant.Right.TheVariants as kind
 use Rattle.au_base.specs.declared.privilege.Privilege.{Privilege}
 use Rattle.au_base.specs.declared.privilege.Privilege.TheVariants as p
+use Rattle.au_base.specs.Privileges.{each_privilege}
 use Rattle.sql_lex.specs.declared.token.Kind.{Kind}
 use Rattle.sql_lex.specs.declared.token.Kind.TheVariants.{Word}
 use Rattle.sql_parse.specs.Symbols.{sees, comma, is_reserved}
@@ -22,32 +23,19 @@ use Rattle.sql_parse.proofs.TableLaws.{name_exact, NoComma, name_unseen}
 use Rattle.sql_parse.proofs.ExpressionLaws.{name_complete}
 use Rattle.sql_parse.specs.Privileges as g
 use Rattle.sql_parse.specs.Privileges.{words_of, tokens_of}
-use Rattle.sql_parse_admin.specs.descent.ReadGrants as grants
+use Rattle.sql_parse_admin.specs.descent.ReadPrivileges as privileges
+use Rattle.sql_parse_admin.specs.descent.ReadGrants as lists
+use Rattle.sql_parse_admin.proofs.WordLaws.{first_sound}
 
 -- ---- system privileges
 
-pub words_sound : (ws : List (List ℕ)) (i o : List Kind) → grants.past_words ws i ≡ Some o → i ≡ tokens_of ws ++ o
-words_sound [] i o h = some_is i o h
-words_sound (w ∷ ws) i o h =
-    let t = guard (sees (Word w) i) (grants.past_words ws (behind i)) o h in
-    sees_is (Word w) i t.0 ∙ ap (λ (j : List Kind). Word w ∷ j) (words_sound ws (behind i) o t.1)
-
-first_sound : (ps : List Privilege) (i : List Kind) (y : Privilege × List Kind) → grants.first_of ps i ≡ Some y → g.IsPrivilege i y.0 y.1
-first_sound [] i y h = absurd cc
-first_sound (q ∷ ps) i y h = go (first_sound ps i y) (grants.past_words (words_of q) i) refl h
-  where
-    go : (grants.first_of ps i ≡ Some y → g.IsPrivilege i y.0 y.1) → (o : Option (List Kind)) → grants.past_words (words_of q) i ≡ o → grants.found_or q o (grants.first_of ps i) ≡ Some y → g.IsPrivilege i y.0 y.1
-    go others (Some o) at h =
-        subst (λ (z : Privilege × List Kind). g.IsPrivilege i z.0 z.1) (some_is (q, o) y h) (subst (λ (j : List Kind). g.IsPrivilege j q o) (sym (words_sound (words_of q) i o at)) g.privilege)
-    go others None at h = others h
-
-pub privilege_sound : (i : List Kind) (y : Privilege × List Kind) → grants.privilege i ≡ Some y → g.IsPrivilege i y.0 y.1
-unfolding grants.privilege
-privilege_sound i y h = first_sound grants.each i y h
+pub privilege_sound : (i : List Kind) (y : Privilege × List Kind) → privileges.privilege i ≡ Some y → g.IsPrivilege i y.0 y.1
+unfolding privileges.privilege
+privilege_sound i y h = subst (λ (j : List Kind). g.IsPrivilege j y.0 y.1) (sym (first_sound words_of each_privilege i y h)) g.privilege
 
 -- no privilege's words are the first of another's
-pub each_read : (q : Privilege) (o : List Kind) → grants.privilege (tokens_of (words_of q) ++ o) ≡ Some (q, o)
-unfolding grants.privilege
+pub each_read : (q : Privilege) (o : List Kind) → privileges.privilege (tokens_of (words_of q) ++ o) ≡ Some (q, o)
+unfolding privileges.privilege
 each_read p.AlterUser o = refl
 each_read p.AuditSystem o = refl
 each_read p.CreateAnyTable o = refl
@@ -86,8 +74,8 @@ each_longer p.SelectAnyTable o = omega arith
 each_longer p.UpdateAnyTable o = omega arith
 
 -- each privilege begins with a reserved word
-no_privilege : (k : Kind) (n : List ℕ) (o : List Kind) → IsName k n → grants.privilege (k ∷ o) ≡ None
-unfolding grants.privilege is_reserved
+no_privilege : (k : Kind) (n : List ℕ) (o : List Kind) → IsName k n → privileges.privilege (k ∷ o) ≡ None
+unfolding privileges.privilege is_reserved
 no_privilege k n o d =
     rw (
       name_unseen (codes "ALTER") k n o refl d,
@@ -103,18 +91,18 @@ no_privilege k n o d =
 
 -- ---- rights without a table
 
-right_exact : Exact g.IsRight grants.right Anywhere
-unfolding grants.right
+right_exact : Exact g.IsRight privileges.right Anywhere
+unfolding privileges.right
 right_exact = record { sound = sound; complete = complete; shorter = shorter }
   where
-    sound : (i : List Kind) (y : Right × List Kind) → grants.right i ≡ Some y → g.IsRight i y.0 y.1
-    sound i y h = go (grants.privilege i) refl h
+    sound : (i : List Kind) (y : Right × List Kind) → privileges.right i ≡ Some y → g.IsRight i y.0 y.1
+    sound i y h = go (privileges.privilege i) refl h
       where
-        go : (x : Option (Privilege × List Kind)) → grants.privilege i ≡ x → grants.role_unless i x ≡ Some y → g.IsRight i y.0 y.1
+        go : (x : Option (Privilege × List Kind)) → privileges.privilege i ≡ x → privileges.role_unless i x ≡ Some y → g.IsRight i y.0 y.1
         go (Some x) at h = subst (λ (z : Right × List Kind). g.IsRight i z.0 z.1) (some_is (kind.Privilege x.0, x.1) y h) (g.system (privilege_sound i x at))
         go None at h = let u = under_some kind.Role (read.name i) y h in subst (λ (z : Right × List Kind). g.IsRight i z.0 z.1) u.2 (g.role (name_exact.sound i u.0 u.1))
 
-    complete : (i o : List Kind) (x : Right) → g.IsRight i x o → Anywhere o → grants.right i ≡ Some (x, o)
+    complete : (i o : List Kind) (x : Right) → g.IsRight i x o → Anywhere o → privileges.right i ≡ Some (x, o)
     complete i o x (g.system (g.privilege {p = q})) f = rw (each_read q o) refl
     complete i o x (g.role (rules.name {k = k} {n = n} d)) f = rw (no_privilege k n o d, name_complete k n o d) refl
 
@@ -122,9 +110,9 @@ right_exact = record { sound = sound; complete = complete; shorter = shorter }
     shorter i o x (g.system (g.privilege {p = q})) = each_longer q o
     shorter i o x (g.role {n = n} d) = name_exact.shorter i o n d
 
-pub rights_exact : Exact (Parted comma g.IsRight) grants.rights NoComma
-unfolding grants.rights
-rights_exact = parted_exact comma g.IsRight grants.right Anywhere right_exact refl (λ i. tt) NoComma (λ o f. tt) (λ o f. f)
+pub rights_exact : Exact (Parted comma g.IsRight) lists.rights NoComma
+unfolding lists.rights
+rights_exact = parted_exact comma g.IsRight privileges.right Anywhere right_exact refl (λ i. tt) NoComma (λ o f. tt) (λ o f. f)
 
 -- ---- rights on a table
 
@@ -134,11 +122,11 @@ PRIVILEGES = Word (codes "PRIVILEGES")
 NoPrivileges : List Kind → Type 0
 NoPrivileges o = sees PRIVILEGES o ≡ false
 
-object_right_exact : Exact g.IsObjectRight grants.object_right NoPrivileges
-unfolding grants.object_right NoPrivileges
+object_right_exact : Exact g.IsObjectRight privileges.object_right NoPrivileges
+unfolding privileges.object_right NoPrivileges
 object_right_exact = record { sound = sound; complete = complete; shorter = shorter }
   where
-    sound : (i : List Kind) (y : ObjectRight × List Kind) → grants.object_right i ≡ Some y → g.IsObjectRight i y.0 y.1
+    sound : (i : List Kind) (y : ObjectRight × List Kind) → privileges.object_right i ≡ Some y → g.IsObjectRight i y.0 y.1
     sound i y h =
         elim (chosen (sees (Word (codes "SELECT")) i) (Some (on.Select, behind i)) _ (Some y) h) [
           | inl t ↦ seen (codes "SELECT") on.Select (behind i) t.0 t.1 g.select
@@ -160,7 +148,7 @@ object_right_exact = record { sound = sound; complete = complete; shorter = shor
         seen w x o s same d =
             subst (λ (z : ObjectRight × List Kind). g.IsObjectRight i z.0 z.1) (some_is (x, o) y same) (subst (λ (j : List Kind). g.IsObjectRight j x o) (sym (sees_is (Word w) i s)) d)
 
-    complete : (i o : List Kind) (x : ObjectRight) → g.IsObjectRight i x o → NoPrivileges o → grants.object_right i ≡ Some (x, o)
+    complete : (i o : List Kind) (x : ObjectRight) → g.IsObjectRight i x o → NoPrivileges o → privileges.object_right i ≡ Some (x, o)
     complete i o x g.select f = refl
     complete i o x g.insert f = refl
     complete i o x g.update f = refl
@@ -178,10 +166,10 @@ object_right_exact = record { sound = sound; complete = complete; shorter = shor
 abbrev pub ON : Kind
 ON = Word (codes "ON")
 
-pub object_rights_exact : Exact (Parted comma g.IsObjectRight) grants.object_rights (OneOf (ON ∷ []))
-unfolding grants.object_rights NoPrivileges
+pub object_rights_exact : Exact (Parted comma g.IsObjectRight) lists.object_rights (OneOf (ON ∷ []))
+unfolding lists.object_rights NoPrivileges
 object_rights_exact =
-    parted_exact comma g.IsObjectRight grants.object_right NoPrivileges object_right_exact refl (λ i. refl) (OneOf (ON ∷ [])) (λ o f. unseen PRIVILEGES (ON ∷ []) o refl f) (λ o f. unseen comma (ON ∷ []) o refl f)
+    parted_exact comma g.IsObjectRight privileges.object_right NoPrivileges object_right_exact refl (λ i. refl) (OneOf (ON ∷ [])) (λ o f. unseen PRIVILEGES (ON ∷ []) o refl f) (λ o f. unseen comma (ON ∷ []) o refl f)
 
 -- ---- the first right tells which of both
 
@@ -189,14 +177,14 @@ abbrev ANY : Kind
 ANY = Word (codes "ANY")
 
 -- no ANY follows a right on a table
-pub object_first : (i o : List Kind) (x : ObjectRight) → g.IsObjectRight i x o → sees ANY o ≡ false → grants.is_object_right i ≡ true
+pub object_first : (i o : List Kind) (x : ObjectRight) → g.IsObjectRight i x o → sees ANY o ≡ false → privileges.is_object_right i ≡ true
 object_first i o x g.select f = rw f refl
 object_first i o x g.insert f = rw f refl
 object_first i o x g.update f = rw f refl
 object_first i o x g.delete f = rw f refl
 object_first i o x (g.all d) f = refl
 
-privilege_first : (q : Privilege) (o : List Kind) → grants.is_object_right (tokens_of (words_of q) ++ o) ≡ false
+privilege_first : (q : Privilege) (o : List Kind) → privileges.is_object_right (tokens_of (words_of q) ++ o) ≡ false
 privilege_first p.AlterUser o = refl
 privilege_first p.AuditSystem o = refl
 privilege_first p.CreateAnyTable o = refl
@@ -215,7 +203,7 @@ privilege_first p.InsertAnyTable o = refl
 privilege_first p.SelectAnyTable o = refl
 privilege_first p.UpdateAnyTable o = refl
 
-pub right_first : (i o : List Kind) (x : Right) → g.IsRight i x o → grants.is_object_right i ≡ false
+pub right_first : (i o : List Kind) (x : Right) → g.IsRight i x o → privileges.is_object_right i ≡ false
 unfolding is_reserved
 right_first i o x (g.system (g.privilege {p = q})) = privilege_first q o
 right_first i o x (g.role (rules.name {k = k} {n = n} d)) =

@@ -17,8 +17,9 @@ use Rattle.sql_parse.specs.descent.Reading.{◌>>=◌, under, behind, expect}
 use Rattle.sql_parse.proofs.Exact.{bind_some, under_some, some_is, chosen, sees_is, expect_is, Exact}
 use Rattle.sql_parse.proofs.Follow.{Anywhere}
 use Rattle.sql_parse.proofs.TableLaws.{name_exact}
-use Rattle.sql_parse.specs.CallStatements.{package_of, procedure_name, parameter_name, Owner, unqualified, sys}
-use Rattle.sql_parse_admin.specs.ReadCalls as calls
+use Rattle.sql_ast.specs.Procedures.{each_parameter, each_procedure, package_of, parameter_name, procedure_name}
+use Rattle.sql_parse.specs.CallStatements.{Owner, unqualified, sys}
+use Rattle.sql_parse_admin.specs.descent.ReadCalls as calls
 
 found : {A : Type 0} (test : A → Bool) (xs : List A) (x : A) → find test xs ≡ Some x → test x ≡ true
 found test [] x h = absurd cc
@@ -37,7 +38,7 @@ both false b h = absurd cc
 procedure_of_sound : (q n : List ℕ) (x : Procedure) → calls.procedure_of q n ≡ Some x → (q ≡ package_of x) × (n ≡ procedure_name x)
 unfolding calls.procedure_of
 procedure_of_sound q n x h =
-    let t = both (bytes_eq q (package_of x)) (bytes_eq n (procedure_name x)) (found (calls.is_called q n) calls.each_procedure x h) in
+    let t = both (bytes_eq q (package_of x)) (bytes_eq n (procedure_name x)) (found (calls.is_called q n) each_procedure x h) in
     ((bytes_eq-Decides q (package_of x)).0 t.0, (bytes_eq-Decides n (procedure_name x)).0 t.1)
 
 procedure_of_complete : (x : Procedure) → calls.procedure_of (package_of x) (procedure_name x) ≡ Some x
@@ -52,7 +53,7 @@ procedure_of_complete f.CleanAuditTrail = refl
 
 parameter_of_sound : (n : List ℕ) (x : Parameter) → calls.parameter_of n ≡ Some x → n ≡ parameter_name x
 unfolding calls.parameter_of calls.is_named
-parameter_of_sound n x h = (bytes_eq-Decides n (parameter_name x)).0 (found (calls.is_named n) calls.each_parameter x h)
+parameter_of_sound n x h = (bytes_eq-Decides n (parameter_name x)).0 (found (calls.is_named n) each_parameter x h)
 
 parameter_of_complete : (x : Parameter) → calls.parameter_of (parameter_name x) ≡ Some x
 unfolding calls.parameter_of calls.is_named

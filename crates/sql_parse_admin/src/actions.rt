@@ -1,31 +1,58 @@
 //! The actions of audit policies.
-ghost use Rattle.std.specs.Prelude.{◌≡◌, map};
+ghost use Rattle.std.specs.Option.{option_map};
+ghost use Rattle.std.specs.Prelude.{◌≡◌};
 ghost use Rattle.sql_parse.specs.Symbols.{kinds};
 ghost use Rattle.sql_parse.specs.descent.Reading.{Gives};
 ghost use Rattle.sql_parse.specs.PolicyStatements.{words_of_action};
-ghost use Rattle.sql_parse_admin.specs.ReadPolicies as spec;
+ghost use Rattle.sql_parse_admin.specs.descent.ReadPolicies as spec;
+ghost use Rattle.sql_parse_admin.specs.descent.ReadWords as words;
 
-use crate::privileges::past_words;
-use au_base::{Action, TableReference};
+use crate::words::past_name;
+use au_base::{Action, List, TableReference};
 use sql_ast::ActionPart;
 use sql_lex::Token;
 use sql_parse::Stop;
 use sql_parse::cursor::{behind, sees_word};
+use sql_parse::lists::{Part, parted};
 use sql_parse::tables::table;
 use std::alloc::Global;
 
-/// `part = action | (ALL | SELECT | INSERT | UPDATE | DELETE) ON table`
-#[tactic(auto, unfolding(crate::specs::ReadPolicies::part))]
-pub fn part(alloc: Global, tokens: &[Token]) -> Result<(ActionPart, &[Token]), Stop>
+/// `part {, part}`
+#[tactic(auto, unfolding(crate::specs::descent::ReadPolicies::parts))]
+pub fn parts(alloc: Global, tokens: &[Token]) -> Result<(List<ActionPart>, &[Token]), Stop>
+    ensures { Gives (λ x. (x.0, kinds x.1.now)) result (spec.parts (kinds tokens.now)) }
+{
+    parted(alloc, &PolicyPart, tokens)
+}
+
+struct PolicyPart;
+
+impl Part for PolicyPart {
+    type Tree = ActionPart;
+
+    ghost reading = { λ _. spec.part };
+
+    fn read<'t>(
+        &self,
+        alloc: Global,
+        tokens: &'t [Token],
+    ) -> Result<(ActionPart, &'t [Token]), Stop> {
+        part(alloc, tokens)
+    }
+}
+
+// `part = action | (ALL | SELECT | INSERT | UPDATE | DELETE) ON table`
+#[tactic(auto, unfolding(crate::specs::descent::ReadPolicies::part))]
+fn part(alloc: Global, tokens: &[Token]) -> Result<(ActionPart, &[Token]), Stop>
     ensures { Gives (λ x. (x.0, kinds x.1.now)) result (spec.part (kinds tokens.now)) }
 {
-    let (action, rest) = action(tokens)?;
+    let (action, rest) = action(tokens).ok_or(Stop::Unread)?;
     let (table, rest) = on_table(alloc, action, rest)?;
     Ok((ActionPart { action, table }, rest))
 }
 
 // [ON table] behind an action, where the action may have a table.
-#[tactic(auto, unfolding(crate::specs::ReadPolicies::on_table))]
+#[tactic(auto, unfolding(crate::specs::descent::ReadPolicies::on_table))]
 fn on_table(
     alloc: Global,
     action: Action,
@@ -52,54 +79,22 @@ fn may_have_table(action: Action) -> bool
     }
 }
 
-#[tactic(auto, unfolding(crate::specs::ReadPolicies::action))]
-fn action(tokens: &[Token]) -> Result<(Action, &[Token]), Stop>
-    ensures { Gives (λ x. (x.0, kinds x.1.now)) result (spec.action (kinds tokens.now)) }
+#[tactic(auto, unfolding(crate::specs::descent::ReadPolicies::action))]
+fn action(tokens: &[Token]) -> Option<(Action, &[Token])>
+    ensures { option_map (λ x. (x.0, kinds x.1.now)) result ≡ spec.action (kinds tokens.now) }
 {
     first_of(&Action::EACH, tokens)
 }
 
 // The first of the actions whose words come next.
-fn first_of<'t>(mut actions: &[Action], tokens: &'t [Token]) -> Result<(Action, &'t [Token]), Stop>
-    ensures { Gives (λ x. (x.0, kinds x.1.now)) result (spec.first_of actions.entry.now (kinds tokens.now)) }
+fn first_of<'t>(mut actions: &[Action], tokens: &'t [Token]) -> Option<(Action, &'t [Token])>
+    ensures { option_map (λ x. (x.0, kinds x.1.now)) result ≡ words.first_of words_of_action actions.entry.now (kinds tokens.now) }
 {
-    while let [action, rest @ ..] = actions {
-        match past_words(tokens, words_of(*action)) {
-            Ok(((), rest)) => return Ok((*action, rest)),
-            Err(Stop::Unread) => {}
-            Err(Stop::Memory) => return Err(Stop::Memory),
+    while let [action, others @ ..] = actions {
+        if let Some(rest) = past_name(tokens, action.name()) {
+            return Some((*action, rest));
         }
-        actions = rest;
+        actions = others;
     }
-    Err(Stop::Unread)
-}
-
-fn words_of(action: Action) -> &'static [&'static [u8]]
-    ensures { map (λ word. word.now) result.now ≡ words_of_action action }
-{
-    match action {
-        Action::All => &[b"ALL"],
-        Action::Select => &[b"SELECT"],
-        Action::Insert => &[b"INSERT"],
-        Action::Update => &[b"UPDATE"],
-        Action::Delete => &[b"DELETE"],
-        Action::Commit => &[b"COMMIT"],
-        Action::Rollback => &[b"ROLLBACK"],
-        Action::CreateTable => &[b"CREATE", b"TABLE"],
-        Action::DropTable => &[b"DROP", b"TABLE"],
-        Action::CreateUser => &[b"CREATE", b"USER"],
-        Action::AlterUser => &[b"ALTER", b"USER"],
-        Action::DropUser => &[b"DROP", b"USER"],
-        Action::CreateRole => &[b"CREATE", b"ROLE"],
-        Action::DropRole => &[b"DROP", b"ROLE"],
-        Action::Grant => &[b"GRANT"],
-        Action::Revoke => &[b"REVOKE"],
-        Action::CreateAuditPolicy => &[b"CREATE", b"AUDIT", b"POLICY"],
-        Action::DropAuditPolicy => &[b"DROP", b"AUDIT", b"POLICY"],
-        Action::Audit => &[b"AUDIT"],
-        Action::Noaudit => &[b"NOAUDIT"],
-        Action::Execute => &[b"EXECUTE"],
-        Action::Logon => &[b"LOGON"],
-        Action::Logoff => &[b"LOGOFF"],
-    }
+    None
 }

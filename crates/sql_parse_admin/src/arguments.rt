@@ -1,49 +1,56 @@
 //! The arguments of a call.
-ghost use Rattle.sql_parse.specs.descent.MomentReading.{moment_read};
+ghost use Rattle.std.specs.Option.{option_map};
+ghost use Rattle.std.specs.Prelude.{◌≡◌};
 ghost use Rattle.sql_parse.specs.Symbols.{kinds};
 ghost use Rattle.sql_parse.specs.descent.Reading.{Gives};
-ghost use Rattle.sql_parse_admin.specs.ReadCalls as spec;
+ghost use Rattle.sql_parse_admin.specs.descent.ReadCalls as spec;
 
-use crate::literals::literal;
 use crate::procedures::{dotted, parameter};
-use au_base::{List, Text, read_moment};
+use au_base::List;
 use sql_ast::{Argument, Value};
 use sql_lex::{Kind, Mark, Token};
 use sql_parse::Stop;
-use sql_parse::cursor::{behind, expect_mark, sees_mark, sees_word};
+use sql_parse::cursor::{behind, expect_mark, sees_word};
+use sql_parse::lists::{Part, parted};
+use sql_parse::literals::{literal, moment_of};
 use std::alloc::Global;
 
 /// `argument {, argument}`
-#[tactic(auto, using(sql_parse::proofs::Turns::turns), unfolding(crate::specs::ReadCalls::arguments, sql_parse::specs::descent::Reading::parted))]
+#[tactic(auto, unfolding(crate::specs::descent::ReadCalls::arguments))]
 pub fn arguments(alloc: Global, tokens: &[Token]) -> Result<(List<Argument>, &[Token]), Stop>
     ensures { Gives (λ x. (x.0, kinds x.1.now)) result (spec.arguments (kinds tokens.now)) }
 {
-    let (first, mut rest) = argument(alloc, tokens)?;
-    let mut parts = List::new(alloc);
-    parts.push(first)?;
-    for _turn in 0..rest.len() {
-        if !sees_mark(rest, Mark::Comma) {
-            break;
-        }
-        let (part, after) = argument(alloc, behind(rest))?;
-        parts.push(part)?;
-        rest = after;
+    parted(alloc, &ArgumentPart, tokens)
+}
+
+struct ArgumentPart;
+
+impl Part for ArgumentPart {
+    type Tree = Argument;
+
+    ghost reading = { λ _. spec.argument };
+
+    fn read<'t>(
+        &self,
+        alloc: Global,
+        tokens: &'t [Token],
+    ) -> Result<(Argument, &'t [Token]), Stop> {
+        argument(alloc, tokens)
     }
-    Ok((parts, rest))
 }
 
 // `name => value`
-#[tactic(auto, unfolding(crate::specs::ReadCalls::argument))]
+#[tactic(auto, unfolding(crate::specs::descent::ReadCalls::argument))]
 fn argument(alloc: Global, tokens: &[Token]) -> Result<(Argument, &[Token]), Stop>
     ensures { Gives (λ x. (x.0, kinds x.1.now)) result (spec.argument (kinds tokens.now)) }
 {
     let (parameter, rest) = parameter(alloc, tokens)?;
-    let ((), rest) = expect_mark(rest, Mark::Arrow)?;
+    let rest = expect_mark(rest, Mark::Arrow).ok_or(Stop::Unread)?;
     let (value, rest) = value(alloc, rest)?;
     Ok((Argument { parameter, value }, rest))
 }
 
-#[tactic(auto, unfolding(crate::specs::ReadCalls::value))]
+#[tactic(auto, unfolding(crate::specs::descent::ReadCalls::value))]
 fn value(alloc: Global, tokens: &[Token]) -> Result<(Value, &[Token]), Stop>
     ensures { Gives (λ x. (x.0, kinds x.1.now)) result (spec.value (kinds tokens.now)) }
 {
@@ -58,7 +65,7 @@ fn value(alloc: Global, tokens: &[Token]) -> Result<(Value, &[Token]), Stop>
 }
 
 // A value that begins with a word or a quoted name.
-#[tactic(auto, unfolding(crate::specs::ReadCalls::worded_value))]
+#[tactic(auto, unfolding(crate::specs::descent::ReadCalls::worded_value))]
 fn worded_value(alloc: Global, tokens: &[Token]) -> Result<(Value, &[Token]), Stop>
     ensures { Gives (λ x. (x.0, kinds x.1.now)) result (spec.worded_value (kinds tokens.now)) }
 {
@@ -72,14 +79,14 @@ fn worded_value(alloc: Global, tokens: &[Token]) -> Result<(Value, &[Token]), St
     } else if sees_word(tokens, b"SYSTIMESTAMP") {
         Ok((Value::Now, rest))
     } else if sees_word(tokens, b"TIMESTAMP") {
-        moment(rest)
+        moment(rest).ok_or(Stop::Unread)
     } else {
         constant(alloc, tokens)
     }
 }
 
 // A package's constant.
-#[tactic(auto, unfolding(crate::specs::ReadCalls::constant))]
+#[tactic(auto, unfolding(crate::specs::descent::ReadCalls::constant))]
 fn constant(alloc: Global, tokens: &[Token]) -> Result<(Value, &[Token]), Stop>
     ensures { Gives (λ x. (x.0, kinds x.1.now)) result (spec.constant (kinds tokens.now)) }
 {
@@ -88,19 +95,10 @@ fn constant(alloc: Global, tokens: &[Token]) -> Result<(Value, &[Token]), Stop>
 }
 
 // A moment whose TIMESTAMP came before.
-#[tactic(auto, unfolding(crate::specs::ReadCalls::moment))]
-fn moment(tokens: &[Token]) -> Result<(Value, &[Token]), Stop>
-    ensures { Gives (λ x. (x.0, kinds x.1.now)) result (spec.moment (kinds tokens.now)) }
+#[tactic(auto, unfolding(crate::specs::descent::ReadCalls::moment))]
+fn moment(tokens: &[Token]) -> Option<(Value, &[Token])>
+    ensures { option_map (λ x. (x.0, kinds x.1.now)) result ≡ spec.moment (kinds tokens.now) }
 {
     let (text, rest) = literal(tokens)?;
-    Ok((Value::Moment(moment_of(text)?), rest))
-}
-
-fn moment_of(text: &Text) -> Result<u64, Stop>
-    ensures { Gives (λ x. x) result (moment_read text.now) }
-{
-    match read_moment(text.as_bytes()) {
-        Some(moment) => Ok(moment),
-        None => Err(Stop::Unread),
-    }
+    Some((Value::Moment(moment_of(text)?), rest))
 }

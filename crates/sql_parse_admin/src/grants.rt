@@ -4,6 +4,7 @@ ghost use Rattle.std.specs.Prelude.{◌≡◌};
 ghost use Rattle.sql_parse.specs.Symbols.{kinds};
 ghost use Rattle.sql_parse.specs.descent.Reading.{Gives};
 ghost use Rattle.sql_parse_admin.specs.descent.ReadGrants as spec;
+ghost use Rattle.sql_parse_admin.specs.descent.ReadPrivileges as privileges;
 
 use crate::privileges::{is_object_right, object_right, right};
 use au_base::{GrantStatement, List, Name, ObjectRight, Right, TableReference};
@@ -119,7 +120,7 @@ struct RightPart;
 impl Part for RightPart {
     type Tree = Right;
 
-    ghost reading = { λ _. spec.right };
+    ghost reading = { λ _. privileges.right };
 
     fn read<'t>(&self, alloc: Global, tokens: &'t [Token]) -> Result<(Right, &'t [Token]), Stop> {
         right(alloc, tokens)
@@ -138,7 +139,7 @@ struct ObjectRightPart;
 impl Part for ObjectRightPart {
     type Tree = ObjectRight;
 
-    ghost reading = { λ _. spec.object_right };
+    ghost reading = { λ _. privileges.object_right };
 
     fn read<'t>(
         &self,

@@ -9,12 +9,15 @@ mod calls;
 mod grants;
 mod passwords;
 mod policies;
+mod policy_clauses;
+mod policy_conditions;
 mod privileges;
 mod procedures;
 mod rights_statements;
 mod statements;
 mod table_definitions;
 mod users;
+mod words;
 
 pub use passwords::passwords_are_placed;
 pub use statements::{one_reading, read};

@@ -1,50 +1,53 @@
 //! What is granted: system privileges, roles, and rights on a table.
-ghost use Rattle.std.specs.Prelude.{◌≡◌, map};
+ghost use Rattle.std.specs.Option.{option_map};
+ghost use Rattle.std.specs.Prelude.{◌≡◌};
 ghost use Rattle.sql_parse.specs.Symbols.{kinds};
 ghost use Rattle.sql_parse.specs.descent.Reading.{Gives};
 ghost use Rattle.sql_parse.specs.Privileges.{words_of};
-ghost use Rattle.sql_parse_admin.specs.descent.ReadGrants as spec;
+ghost use Rattle.sql_parse_admin.specs.descent.ReadPrivileges as spec;
+ghost use Rattle.sql_parse_admin.specs.descent.ReadWords as words;
 
-use au_base::{ObjectRight, Privilege, Right};
+use crate::words::past_name;
+use au_base::{List, ObjectRight, Privilege, Right};
 use sql_lex::Token;
 use sql_parse::Stop;
-use sql_parse::cursor::{behind, expect_word, past_word, sees_word};
+use sql_parse::cursor::{behind, past_word, sees_word};
+use sql_parse::lists::{Part, parted};
 use sql_parse::names::name;
 use std::alloc::Global;
 
 /// `right = privilege | name`
-#[tactic(auto, unfolding(crate::specs::descent::ReadGrants::right))]
+#[tactic(auto, unfolding(crate::specs::descent::ReadPrivileges::right))]
 pub fn right(alloc: Global, tokens: &[Token]) -> Result<(Right, &[Token]), Stop>
     ensures { Gives (λ x. (x.0, kinds x.1.now)) result (spec.right (kinds tokens.now)) }
 {
     match privilege(tokens) {
-        Ok((found, rest)) => Ok((Right::Privilege(found), rest)),
-        Err(Stop::Unread) => {
+        Some((found, rest)) => Ok((Right::Privilege(found), rest)),
+        None => {
             let (role, rest) = name(alloc, tokens)?;
             Ok((Right::Role(role), rest))
         }
-        Err(Stop::Memory) => Err(Stop::Memory),
     }
 }
 
 /// `oright = SELECT | INSERT | UPDATE | DELETE | ALL [PRIVILEGES]`
-#[tactic(auto, unfolding(crate::specs::descent::ReadGrants::object_right))]
-pub fn object_right(tokens: &[Token]) -> Result<(ObjectRight, &[Token]), Stop>
-    ensures { Gives (λ x. (x.0, kinds x.1.now)) result (spec.object_right (kinds tokens.now)) }
+#[tactic(auto, unfolding(crate::specs::descent::ReadPrivileges::object_right))]
+pub fn object_right(tokens: &[Token]) -> Option<(ObjectRight, &[Token])>
+    ensures { option_map (λ x. (x.0, kinds x.1.now)) result ≡ spec.object_right (kinds tokens.now) }
 {
     let rest = behind(tokens);
     if sees_word(tokens, b"SELECT") {
-        Ok((ObjectRight::Select, rest))
+        Some((ObjectRight::Select, rest))
     } else if sees_word(tokens, b"INSERT") {
-        Ok((ObjectRight::Insert, rest))
+        Some((ObjectRight::Insert, rest))
     } else if sees_word(tokens, b"UPDATE") {
-        Ok((ObjectRight::Update, rest))
+        Some((ObjectRight::Update, rest))
     } else if sees_word(tokens, b"DELETE") {
-        Ok((ObjectRight::Delete, rest))
+        Some((ObjectRight::Delete, rest))
     } else if sees_word(tokens, b"ALL") {
-        Ok((ObjectRight::All, past_word(rest, b"PRIVILEGES")))
+        Some((ObjectRight::All, past_word(rest, b"PRIVILEGES")))
     } else {
-        Err(Stop::Unread)
+        None
     }
 }
 
@@ -65,9 +68,33 @@ fn is_action(tokens: &[Token]) -> bool
         || sees_word(tokens, b"DELETE")
 }
 
-#[tactic(auto, unfolding(crate::specs::descent::ReadGrants::privilege))]
-pub fn privilege(tokens: &[Token]) -> Result<(Privilege, &[Token]), Stop>
-    ensures { Gives (λ x. (x.0, kinds x.1.now)) result (spec.privilege (kinds tokens.now)) }
+/// `privilege {, privilege}`
+#[tactic(auto, unfolding(crate::specs::descent::ReadPrivileges::privileges))]
+pub fn privileges(alloc: Global, tokens: &[Token]) -> Result<(List<Privilege>, &[Token]), Stop>
+    ensures { Gives (λ x. (x.0, kinds x.1.now)) result (spec.privileges (kinds tokens.now)) }
+{
+    parted(alloc, &PrivilegePart, tokens)
+}
+
+struct PrivilegePart;
+
+impl Part for PrivilegePart {
+    type Tree = Privilege;
+
+    ghost reading = { λ _. spec.privilege };
+
+    fn read<'t>(
+        &self,
+        _alloc: Global,
+        tokens: &'t [Token],
+    ) -> Result<(Privilege, &'t [Token]), Stop> {
+        privilege(tokens).ok_or(Stop::Unread)
+    }
+}
+
+#[tactic(auto, unfolding(crate::specs::descent::ReadPrivileges::privilege))]
+fn privilege(tokens: &[Token]) -> Option<(Privilege, &[Token])>
+    ensures { option_map (λ x. (x.0, kinds x.1.now)) result ≡ spec.privilege (kinds tokens.now) }
 {
     first_of(&Privilege::EACH, tokens)
 }
@@ -76,55 +103,14 @@ pub fn privilege(tokens: &[Token]) -> Result<(Privilege, &[Token]), Stop>
 fn first_of<'t>(
     mut privileges: &[Privilege],
     tokens: &'t [Token],
-) -> Result<(Privilege, &'t [Token]), Stop>
-    ensures { Gives (λ x. (x.0, kinds x.1.now)) result (spec.first_of privileges.entry.now (kinds tokens.now)) }
+) -> Option<(Privilege, &'t [Token])>
+    ensures { option_map (λ x. (x.0, kinds x.1.now)) result ≡ words.first_of words_of privileges.entry.now (kinds tokens.now) }
 {
-    while let [privilege, rest @ ..] = privileges {
-        match past_words(tokens, words_of(*privilege)) {
-            Ok(((), rest)) => return Ok((*privilege, rest)),
-            Err(Stop::Unread) => {}
-            Err(Stop::Memory) => return Err(Stop::Memory),
+    while let [privilege, others @ ..] = privileges {
+        if let Some(rest) = past_name(tokens, privilege.name()) {
+            return Some((*privilege, rest));
         }
-        privileges = rest;
+        privileges = others;
     }
-    Err(Stop::Unread)
-}
-
-/// The tokens behind all of the words, which come next.
-pub fn past_words<'t>(
-    mut tokens: &'t [Token],
-    mut words: &[&[u8]],
-) -> Result<((), &'t [Token]), Stop>
-    ensures { Gives (λ x. kinds x.1.now) result (spec.past_words (map (λ word. word.now) words.entry.now) (kinds tokens.entry.now)) }
-{
-    while let [word, rest @ ..] = words {
-        let ((), behind) = expect_word(tokens, word)?;
-        tokens = behind;
-        words = rest;
-    }
-    Ok(((), tokens))
-}
-
-fn words_of(privilege: Privilege) -> &'static [&'static [u8]]
-    ensures { map (λ word. word.now) result.now ≡ words_of privilege }
-{
-    match privilege {
-        Privilege::AlterUser => &[b"ALTER", b"USER"],
-        Privilege::AuditSystem => &[b"AUDIT", b"SYSTEM"],
-        Privilege::CreateAnyTable => &[b"CREATE", b"ANY", b"TABLE"],
-        Privilege::CreateRole => &[b"CREATE", b"ROLE"],
-        Privilege::CreateSession => &[b"CREATE", b"SESSION"],
-        Privilege::CreateTable => &[b"CREATE", b"TABLE"],
-        Privilege::CreateUser => &[b"CREATE", b"USER"],
-        Privilege::DeleteAnyTable => &[b"DELETE", b"ANY", b"TABLE"],
-        Privilege::DropAnyRole => &[b"DROP", b"ANY", b"ROLE"],
-        Privilege::DropAnyTable => &[b"DROP", b"ANY", b"TABLE"],
-        Privilege::DropUser => &[b"DROP", b"USER"],
-        Privilege::GrantAnyObjectPrivilege => &[b"GRANT", b"ANY", b"OBJECT", b"PRIVILEGE"],
-        Privilege::GrantAnyPrivilege => &[b"GRANT", b"ANY", b"PRIVILEGE"],
-        Privilege::GrantAnyRole => &[b"GRANT", b"ANY", b"ROLE"],
-        Privilege::InsertAnyTable => &[b"INSERT", b"ANY", b"TABLE"],
-        Privilege::SelectAnyTable => &[b"SELECT", b"ANY", b"TABLE"],
-        Privilege::UpdateAnyTable => &[b"UPDATE", b"ANY", b"TABLE"],
-    }
+    None
 }

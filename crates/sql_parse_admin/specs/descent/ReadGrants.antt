@@ -1,63 +1,15 @@
 -- Reading GRANT and REVOKE by descent: what each function of the code answers.
-use Rattle.std.specs.Prelude.{ℕ, Bool, true, false, not, ◌||◌, ◌&&◌, if◌then◌else◌, List, [], ◌∷◌, Option, Some, None, codes}
+use Rattle.std.specs.Prelude.{ℕ, Bool, true, false, if◌then◌else◌, List, Some, codes}
 use Rattle.au_base.specs.declared.grant.GrantStatement.{GrantStatement}
 use Rattle.au_base.specs.declared.grant.GrantStatement.TheVariants as statement
 use Rattle.au_base.specs.declared.grant.ObjectRight.{ObjectRight}
-use Rattle.au_base.specs.declared.grant.ObjectRight.TheVariants as on
 use Rattle.au_base.specs.declared.grant.Right.{Right}
-use Rattle.au_base.specs.declared.grant.Right.TheVariants as kind
-use Rattle.au_base.specs.declared.privilege.Privilege.{Privilege}
-use Rattle.au_base.specs.declared.privilege.Privilege.TheVariants as privileges
 use Rattle.au_base.specs.declared.table.TableReference.{TableReference}
-use Rattle.sql_lex.specs.declared.token.Kind.{Kind}
 use Rattle.sql_lex.specs.declared.token.Kind.TheVariants.{Word}
 use Rattle.sql_parse.specs.Symbols.{sees, comma}
-use Rattle.sql_parse.specs.descent.Reading.{Reader, ◌>>=◌, under, behind, expect, parted, name}
-use Rattle.sql_parse.specs.descent.ReadTables.{names, past, table}
-use Rattle.sql_parse.specs.Privileges.{words_of}
-
--- past all of the words, where they come next
-abbrev pub past_words : List (List ℕ) → List Kind → Option (List Kind)
-past_words [] i = Some i
-past_words (w ∷ ws) i = if sees (Word w) i then past_words ws (behind i) else None
-
-abbrev pub found_or : Privilege → Option (List Kind) → Option (Privilege × List Kind) → Option (Privilege × List Kind)
-found_or p (Some o) others = Some (p, o)
-found_or p None others = others
-
--- the first of the privileges whose words come next
-abbrev pub first_of : List Privilege → Reader Privilege
-first_of [] i = None
-first_of (p ∷ ps) i = found_or p (past_words (words_of p) i) (first_of ps i)
-
-abbrev pub each : List Privilege
-each = privileges.AlterUser ∷ privileges.AuditSystem ∷ privileges.CreateAnyTable ∷ privileges.CreateRole ∷ privileges.CreateSession ∷ privileges.CreateTable ∷ privileges.CreateUser
-    ∷ privileges.DeleteAnyTable ∷ privileges.DropAnyRole ∷ privileges.DropAnyTable ∷ privileges.DropUser ∷ privileges.GrantAnyObjectPrivilege ∷ privileges.GrantAnyPrivilege
-    ∷ privileges.GrantAnyRole ∷ privileges.InsertAnyTable ∷ privileges.SelectAnyTable ∷ privileges.UpdateAnyTable ∷ []
-
-unfoldable pub privilege : Reader Privilege
-privilege i = first_of each i
-
-abbrev pub role_unless : List Kind → Option (Privilege × List Kind) → Option (Right × List Kind)
-role_unless i None = under kind.Role (name i)
-role_unless i (Some x) = Some (kind.Privilege x.0, x.1)
-
-unfoldable pub right : Reader Right
-right i = role_unless i (privilege i)
-
-unfoldable pub object_right : Reader ObjectRight
-object_right i =
-    if sees (Word (codes "SELECT")) i then Some (on.Select, behind i) else (if sees (Word (codes "INSERT")) i then Some (on.Insert, behind i)
-    else (if sees (Word (codes "UPDATE")) i then Some (on.Update, behind i) else (if sees (Word (codes "DELETE")) i then Some (on.Delete, behind i)
-    else (if sees (Word (codes "ALL")) i then Some (on.All, past (Word (codes "PRIVILEGES")) (behind i)) else None))))
-
--- whether one of the four actions comes next
-abbrev pub is_action : List Kind → Bool
-is_action i = sees (Word (codes "SELECT")) i || sees (Word (codes "INSERT")) i || sees (Word (codes "UPDATE")) i || sees (Word (codes "DELETE")) i
-
--- whether a right on a table comes next
-abbrev pub is_object_right : List Kind → Bool
-is_object_right i = sees (Word (codes "ALL")) i || (not (sees (Word (codes "ANY")) (behind i)) && is_action i)
+use Rattle.sql_parse.specs.descent.Reading.{Reader, ◌>>=◌, under, behind, expect, parted}
+use Rattle.sql_parse.specs.descent.ReadTables.{names, table}
+use Rattle.sql_parse_admin.specs.descent.ReadPrivileges.{is_object_right, object_right, right}
 
 unfoldable pub rights : Reader (List Right)
 rights = parted comma right

@@ -1,10 +1,10 @@
 -- Reading CREATE AUDIT POLICY by descent: what each function of the code answers.
-use Rattle.std.specs.Prelude.{ℕ, Bool, true, false, ◌||◌, if◌then◌else◌, List, [], ◌∷◌, Option, Some, None, is_some, codes}
+use Rattle.std.specs.Prelude.{ℕ, Bool, true, false, ◌||◌, if◌then◌else◌, List, Option, Some, None, is_some, codes}
 use Rattle.au_base.specs.declared.action.Action.{Action}
 use Rattle.au_base.specs.declared.action.Action.TheVariants as actions
 use Rattle.au_base.specs.declared.privilege.Privilege.{Privilege}
 use Rattle.au_base.specs.declared.table.TableReference.{TableReference}
-use Rattle.sql_lex.specs.declared.token.Kind.{Kind}
+use Rattle.au_base.specs.Actions.{each_action}
 use Rattle.sql_lex.specs.declared.token.Kind.TheVariants.{Word}
 use Rattle.sql_ast.specs.declared.administration.ActionPart.{ActionPart}
 use Rattle.sql_ast.specs.declared.administration.CreatePolicy.{CreatePolicy}
@@ -15,28 +15,13 @@ use Rattle.sql_ast.specs.declared.statement.Statement.{Statement}
 use Rattle.sql_ast.specs.declared.statement.Statement.TheVariants as statement
 use Rattle.sql_parse.specs.Symbols.{sees, comma}
 use Rattle.sql_parse.specs.PolicyStatements.{words_of_action}
-use Rattle.sql_parse.specs.descent.Reading.{Reader, ◌>>=◌, under, behind, expect, parted, literal, name, whole}
+use Rattle.sql_parse.specs.descent.Reading.{Reader, ◌>>=◌, under, behind, expect, parted, literal, name}
 use Rattle.sql_parse.specs.descent.ReadTables.{clause, names, table}
-use Rattle.sql_parse.specs.descent.ReadStatements.{past_end}
-use Rattle.sql_parse.specs.Conditions.{opens_few}
-use Rattle.sql_parse_admin.specs.descent.ReadGrants.{past_words, privilege}
-
-abbrev pub found_or : Action → Option (List Kind) → Option (Action × List Kind) → Option (Action × List Kind)
-found_or a (Some o) others = Some (a, o)
-found_or a None others = others
-
--- the first of the actions whose words come next
-abbrev pub first_of : List Action → Reader Action
-first_of [] i = None
-first_of (a ∷ others) i = found_or a (past_words (words_of_action a) i) (first_of others i)
-
-abbrev pub each : List Action
-each = actions.All ∷ actions.Select ∷ actions.Insert ∷ actions.Update ∷ actions.Delete ∷ actions.Commit ∷ actions.Rollback ∷ actions.CreateTable ∷ actions.DropTable ∷ actions.CreateUser
-    ∷ actions.AlterUser ∷ actions.DropUser ∷ actions.CreateRole ∷ actions.DropRole ∷ actions.Grant ∷ actions.Revoke ∷ actions.CreateAuditPolicy ∷ actions.DropAuditPolicy ∷ actions.Audit
-    ∷ actions.Noaudit ∷ actions.Execute ∷ actions.Logon ∷ actions.Logoff ∷ []
+use Rattle.sql_parse_admin.specs.descent.ReadPrivileges.{privileges}
+use Rattle.sql_parse_admin.specs.descent.ReadWords.{first_of}
 
 unfoldable pub action : Reader Action
-action i = first_of each i
+action = first_of words_of_action each_action
 
 -- whether ON and a table may follow the action
 abbrev pub may_have_table : Action → Bool
@@ -53,9 +38,6 @@ on_table a i = if sees (Word (codes "ON")) i then (if may_have_table a then unde
 
 unfoldable pub part : Reader ActionPart
 part i = action i >>= λ a. under (λ t. record { action = a.0; table = t }) (on_table a.0 a.1)
-
-unfoldable pub privileges : Reader (List Privilege)
-privileges = parted comma privilege
 
 unfoldable pub parts : Reader (List ActionPart)
 parts = parted comma part
@@ -98,6 +80,3 @@ heading i = expect (Word (codes "CREATE")) i >>= λ j. expect (Word (codes "AUDI
 
 unfoldable pub policy : Reader Statement
 policy i = heading i >>= λ n. clauses n.0 n.1 >>= λ x. if audits_some x.0 then Some (statement.CreatePolicy x.0, x.1) else None
-
-abbrev pub whole_policy : List Kind → Option Statement
-whole_policy ts = if opens_few 0 ts then whole (past_end (policy ts)) else None

@@ -7,29 +7,18 @@ use Rattle.sql_lex.specs.declared.token.Mark.TheVariants as mark
 use Rattle.sql_ast.specs.declared.call.Argument.{Argument}
 use Rattle.sql_ast.specs.declared.call.Call.{Call}
 use Rattle.sql_ast.specs.declared.call.Parameter.{Parameter}
-use Rattle.sql_ast.specs.declared.call.Parameter.TheVariants as parameters
 use Rattle.sql_ast.specs.declared.call.Procedure.{Procedure}
-use Rattle.sql_ast.specs.declared.call.Procedure.TheVariants as procedures
 use Rattle.sql_ast.specs.declared.call.Value.{Value}
 use Rattle.sql_ast.specs.declared.call.Value.TheVariants as values
 use Rattle.sql_ast.specs.declared.statement.Statement.{Statement}
 use Rattle.sql_ast.specs.declared.statement.Statement.TheVariants as statement
+use Rattle.sql_ast.specs.Procedures.{each_parameter, each_procedure, package_of, parameter_name, procedure_name}
 use Rattle.sql_parse.specs.Symbols.{sees, opening, closing, comma, dot, semicolon}
-use Rattle.sql_parse.specs.descent.Reading.{Reader, ◌>>=◌, under, behind, expect, parted, name, literal, whole}
+use Rattle.sql_parse.specs.descent.Reading.{Reader, ◌>>=◌, under, behind, expect, parted, name, literal}
 use Rattle.sql_parse.specs.descent.MomentReading.{moment_read}
-use Rattle.sql_parse.specs.descent.ReadStatements.{past_end}
-use Rattle.sql_parse.specs.Conditions.{opens_few}
-use Rattle.sql_parse.specs.CallStatements.{package_of, procedure_name, parameter_name, are_taken}
+use Rattle.sql_parse.specs.CallStatements.{are_taken}
 
 -- ---- names
-
-abbrev pub each_procedure : List Procedure
-each_procedure = procedures.AddPolicy ∷ procedures.DropPolicy ∷ procedures.EnablePolicy ∷ procedures.DisablePolicy ∷ procedures.SetLastArchiveTimestamp ∷ procedures.ClearLastArchiveTimestamp
-    ∷ procedures.CleanAuditTrail ∷ []
-
-abbrev pub each_parameter : List Parameter
-each_parameter = parameters.ObjectSchema ∷ parameters.ObjectName ∷ parameters.PolicyName ∷ parameters.AuditCondition ∷ parameters.AuditColumn ∷ parameters.HandlerSchema ∷ parameters.HandlerModule
-    ∷ parameters.Enable ∷ parameters.StatementTypes ∷ parameters.AuditColumnOpts ∷ parameters.AuditTrailType ∷ parameters.LastArchiveTime ∷ parameters.UseLastArchTimestamp ∷ []
 
 -- whether the procedure is called by these names of a package and a procedure
 abbrev pub is_called : List ℕ → List ℕ → Procedure → Bool
@@ -106,6 +95,3 @@ block i = call i >>= λ x. expect semicolon x.1 >>= λ j. expect (Word (codes "E
 
 unfoldable pub call_statement : Reader Statement
 call_statement i = if sees (Word (codes "BEGIN")) i then block (behind i) else (expect (Word (codes "CALL")) i >>= λ j. under statement.Call (call j))
-
-abbrev pub whole_call : List Kind → Option Statement
-whole_call ts = if opens_few 0 ts then whole (past_end (call_statement ts)) else None
