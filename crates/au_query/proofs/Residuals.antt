@@ -1,6 +1,6 @@
 -- What is left of a comparison gives what the condition does.
-use Rattle.std.proofs.Common.{◌≡◌, ◌∙◌, refl, sym, ap, subst, ℕ, zero, suc, ℤ, pos, Bool, true, false, not, ◌&&◌, ◌||◌, ◌<◌, ◌+◌, List, [], ◌∷◌, ◌++◌, map, length, drop, get_or, add-one, ap₂, Option, Some, None, if◌then◌else◌, arith}
-use Rattle.std.specs.Prelude.{IfSome, filter}
+use Rattle.std.proofs.Common.{◌≡◌, ◌∙◌, refl, sym, ap, ℕ, zero, suc, ℤ, Bool, true, false, not, ◌&&◌, ◌<◌, ◌+◌, List, [], ◌∷◌, ◌++◌, length, drop, get_or, add-one, ap₂, Option, Some, None, if◌then◌else◌, arith}
+use Rattle.std.specs.Prelude.{IfSome}
 use Rattle.std.specs.Borrow.{Bor}
 use Rattle.std.specs.List.{flat_map, list_all, slice_get}
 use Rattle.au_base.specs.declared.numbers.RowNo.{RowNo}
