@@ -147,7 +147,7 @@ pub some_other : {X : Type 0} (P Q : X → Type 0) → ((x : X) → P x → Q x)
 some_other P Q f None e = e
 some_other P Q f (Some x) e = f x e
 
-filter_same : {X : Type 0} (p q : X → Bool) → ((x : X) → p x ≡ q x) → (xs : List X) → filter p xs ≡ filter q xs
+pub filter_same : {X : Type 0} (p q : X → Bool) → ((x : X) → p x ≡ q x) → (xs : List X) → filter p xs ≡ filter q xs
 filter_same p q e [] = refl
 filter_same p q e (x ∷ xs) = ap (λ b. if b then x ∷ filter p xs else filter p xs) (e x) ∙ ap (λ z. if q x then x ∷ z else z) (filter_same p q e xs)
 

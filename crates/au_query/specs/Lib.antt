@@ -8,3 +8,4 @@ pub mod Outputs
 pub mod Plans
 pub mod Queries
 pub mod Refusals
+pub mod Residuals

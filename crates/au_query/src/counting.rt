@@ -1,20 +1,23 @@
 //! SELECT COUNT(*).
-ghost use Rattle.std.specs.Prelude.{◌≡◌, ◌≤◌, ◌∷◌, [], IfOk, length, map};
+ghost use Rattle.std.specs.Prelude.{◌≡◌, ◌≤◌, ◌∷◌, [], IfOk, IfSome, filter, length, map};
 ghost use Rattle.std.specs.Option.{option_to_list};
 ghost use Rattle.au_base.specs.Codes.{DONE};
 ghost use Rattle.au_base.specs.Limits as limits;
 ghost use Rattle.au_expr.specs.Resolving.{placed};
 ghost use Rattle.au_query.specs.Answers.{Comes, named_by};
 ghost use Rattle.au_query.specs.Combos as combos;
-ghost use Rattle.au_query.specs.Combos.{AreSoundRows, lines, rows_of};
+ghost use Rattle.au_expr.specs.Values.{is_met};
+ghost use Rattle.au_query.specs.Combos.{AreSoundRows, Line, lines, rows_of};
 ghost use Rattle.au_query.specs.Counts as spec;
 ghost use Rattle.au_query.specs.Counts.{IsCounted, IsTally, numbers_of, passing_rows, tally_refusal, where_refusal};
 ghost use Rattle.au_query.specs.Plans.{Finds};
+ghost use Rattle.au_query.specs.Residuals.{AreLeft, IsResidual, residual_value};
 
 use crate::naming::named;
 use crate::planning::{Plan, with_where};
 use crate::query::conditions_overflow;
 use crate::refusing::condition_code;
+use crate::residual::{Residual, residual_of};
 use crate::scan::are_met;
 use crate::{Selected, Source};
 use au_base::{Cell, Code, Column, List, Memory, Name, Reply, RowNo, Text};
@@ -92,6 +95,53 @@ fn counted(
 
 // The numbers of the rows over which WHERE is Yes.
 fn passing(
+    alloc: Global,
+    rows: &[(RowNo, &[Cell])],
+    session: &SessionFacts,
+    conditions: &[Resolved],
+) -> Result<List<RowNo>, Memory>
+    ensures { IfOk result (λ numbers. numbers ≡ numbers_of (passing_rows session.now conditions.now (lines rows.now))) }
+{
+    match lone_comparison(conditions) {
+        Some(comparison) => compared(alloc, rows, comparison),
+        None => tested(alloc, rows, session, conditions),
+    }
+}
+
+// The one condition that there is, where it is a comparison of a number in a column.
+fn lone_comparison(conditions: &[Resolved]) -> Option<Residual>
+    ensures { IfSome result (AreLeft conditions.now) }
+{
+    match conditions {
+        [condition] => comparison_in(condition),
+        _ => None,
+    }
+}
+
+fn comparison_in(condition: &Resolved) -> Option<Residual>
+    ensures { IfSome result (IsResidual [] condition.now) }
+{
+    let row = Row::new();
+    residual_of(condition.tree(), &row)
+}
+
+fn compared(
+    alloc: Global,
+    rows: &[(RowNo, &[Cell])],
+    comparison: Residual,
+) -> Result<List<RowNo>, Memory>
+    ensures { IfOk result (λ numbers. numbers ≡ numbers_of (filter (λ (line : Line). is_met (residual_value comparison line.1)) (lines rows.now))) }
+{
+    let mut numbers = List::new(alloc);
+    for (number, cells) in rows {
+        if comparison.is_met(*cells) {
+            numbers.push(*number)?;
+        }
+    }
+    Ok(numbers)
+}
+
+fn tested(
     alloc: Global,
     rows: &[(RowNo, &[Cell])],
     session: &SessionFacts,

@@ -14,6 +14,7 @@ mod query;
 mod ranking;
 mod refusing;
 mod reply;
+mod residual;
 mod scan;
 mod selected;
 mod size;

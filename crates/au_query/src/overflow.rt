@@ -1,11 +1,16 @@
 //! Whether an expression overflows over some combination.
-ghost use Rattle.std.specs.Prelude.{◌≡◌, ◌≤◌, ◌+◌, length, take};
+ghost use Rattle.std.specs.Prelude.{◌≡◌, ◌≤◌, ◌+◌, ◌++◌, ◌∷◌, [], IfSome, List, length, take};
 ghost use Rattle.std.specs.List.{list_any};
 ghost use Rattle.au_base.specs.Limits as limits;
 ghost use Rattle.au_query.specs.Combos.{AreSoundRows, overflows_over, product, views};
+ghost use Rattle.au_base.specs.declared.cell.Cell.{Cell as AnyCell};
+ghost use Rattle.au_expr.specs.Sessions.{Session};
+ghost use Rattle.au_expr.specs.Values.{is_overflow};
 ghost use Rattle.au_query.specs.Inside.{cell_views, cells_in, found_in, names_in, overflows_in};
+ghost use Rattle.au_query.specs.Residuals.{IsResidual, residual_value};
 
 use crate::Source;
+use crate::residual::{Residual, residual_of};
 use crate::size::has_empty_table;
 use au_base::{Cell, RowNo};
 use au_expr::{
@@ -50,6 +55,9 @@ fn search<'a>(
             } else {
                 first_of(source.rows.as_slice())
             };
+            if let Some(residual) = last_residual(expr, row, rest) {
+                return one_overflows(residual, rows);
+            }
             for (_, cells) in rows {
                 row.push(*cells);
                 let found = search(expr, session, rest, row);
@@ -61,6 +69,38 @@ fn search<'a>(
             false
         }
     }
+}
+
+// What is left of the expression over the table before `rest`, where that is the last one.
+fn last_residual(expr: &Resolved, row: &Row<'_>, rest: &[Source<'_>]) -> Option<Residual>
+    ensures { IfSome result (λ residual. (session : Session) (cells : List AnyCell)
+        → found_in (overflows_in session expr.now) (names_in expr.now) (row.now ++ cells ∷ []) (cell_views rest.now) ≡ is_overflow (residual_value residual cells)) }
+{
+    match residual_if_last(expr, row, rest) {
+        Some(residual) => Some(residual),
+        None => None,
+    }
+}
+
+fn residual_if_last(expr: &Resolved, row: &Row<'_>, rest: &[Source<'_>]) -> Option<Residual>
+    ensures residual { IfSome result (IsResidual row.now expr.now) }
+    ensures last { IfSome result (λ residual. cell_views rest.now ≡ []) }
+{
+    match rest.split_first() {
+        None => residual_of(expr.tree(), row),
+        Some(_) => None,
+    }
+}
+
+fn one_overflows(residual: Residual, rows: &[(RowNo, &[Cell])]) -> bool
+    ensures { result ≡ list_any (λ cells. is_overflow (residual_value residual cells)) (cells_in rows.now) }
+{
+    for (_, cells) in rows {
+        if residual.overflows(*cells) {
+            return true;
+        }
+    }
+    false
 }
 
 fn overflows_here(expr: &Resolved, row: &Row<'_>, session: &SessionFacts) -> bool

@@ -1,5 +1,5 @@
 //! The scan of the combinations of rows.
-ghost use Rattle.std.specs.Prelude.{◌≡◌, ◌≤◌, ◌+◌, ◌++◌, [], true, IfOk, MatchOption, ◌<◌, length};
+ghost use Rattle.std.specs.Prelude.{◌≡◌, ◌≤◌, ◌+◌, ◌++◌, [], true, IfOk, IfSome, MatchOption, ◌<◌, length};
 ghost use Rattle.std.specs.List.{AllByRecursion, list_all};
 ghost use Rattle.au_base.specs.Limits as limits;
 ghost use Rattle.au_expr.specs.declared.placed.Placed.{Placed};
@@ -7,11 +7,13 @@ ghost use Rattle.au_expr.specs.Placing.{value_at};
 ghost use Rattle.au_expr.specs.Values as values;
 ghost use Rattle.au_query.specs.Combos as spec;
 ghost use Rattle.au_query.specs.Combos.{cells_of, passes, views};
+ghost use Rattle.au_query.specs.Residuals.{IsSieve};
 ghost use Rattle.au_query.specs.Inside.{IsKept, IsReach, gathered, trees_in_tests};
 
 use crate::Source;
 use crate::combo::Combo;
 use crate::cutting::{Test, are_passed, is_cut};
+use crate::residual::{Residual, is_left_out, sieve_of};
 use crate::size::has_empty_table;
 use au_base::limits::REPLY_ROWS;
 use au_base::{Memory, Truth};
@@ -73,7 +75,11 @@ fn scan<'a>(
     match sources.split_first() {
         None => keep(alloc, tests, session, front, row, kept),
         Some((source, rest)) => {
+            let sieve = last_sieve(tests, row, rest);
             for (number, cells) in source.rows.as_slice() {
+                if is_left_out(sieve, *cells) {
+                    continue;
+                }
                 front.push(*number, *cells)?;
                 row.push(*cells);
                 if !scan(alloc, tests, session, rest, front, row, kept)? {
@@ -84,6 +90,18 @@ fn scan<'a>(
             }
             Ok(true)
         }
+    }
+}
+
+// The first of the conditions of which a comparison is left over the last table: none where there are
+// further ones.
+fn last_sieve(tests: &[Test<'_>], row: &Row<'_>, rest: &[Source<'_>]) -> Option<Residual>
+    ensures sieve { IfSome result (IsSieve (trees_in_tests tests.now) row.now) }
+    ensures last { IfSome result (λ residual. views rest.now ≡ []) }
+{
+    match rest.split_first() {
+        None => sieve_of(tests, row),
+        Some(_) => None,
     }
 }
 

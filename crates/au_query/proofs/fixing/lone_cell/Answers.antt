@@ -1,5 +1,4 @@
 use Rattle.std.proofs.Common.{◌≡◌, ◌∙◌, ◌<◌, [], length, ℕ, false, ap, sym}
-use Rattle.std.specs.Prelude.{IsTrue}
 use Rattle.au_expr.specs.Placing.{value_at}
 use Rattle.au_expr.specs.Ranges.{names_range}
 use Rattle.au_expr.specs.Resolving.{placed}

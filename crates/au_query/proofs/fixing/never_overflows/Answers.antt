@@ -1,4 +1,4 @@
-use Rattle.std.proofs.Common.{◌∙◌, ◌++◌, ap, ap₂, sym, subst}
+use Rattle.std.proofs.Common.{◌∙◌, ◌++◌, ap₂, sym, subst}
 use Rattle.au_query.specs.Fixed.{NeverOverflows}
 use Rattle.au_query.specs.Outputs.{trees_in}
 use Rattle.au_query.proofs.Equalities.{never, not_false}

@@ -1,7 +1,7 @@
 use Rattle.std.proofs.Common.{◌≡◌, ◌++◌, [], drop}
 use Rattle.au_query.specs.Combos.{lines}
 use Rattle.au_query.specs.Counts.{numbers_of, passing_rows}
-use Rattle.au_query.proofs.counting.passing.Given as goal
+use Rattle.au_query.proofs.counting.tested.Given as goal
 
 abbrev pub invariant-loop-number : goal.invariant-loop-number
 invariant-loop-number l =
