@@ -3,7 +3,9 @@
 
 mod administration;
 mod call;
+mod context;
 mod expression;
+mod laws;
 mod query;
 mod rows;
 mod statement;
@@ -14,7 +16,9 @@ pub use administration::{
 };
 pub use au_base::{GrantStatement, ObjectRight, Right};
 pub use call::{Argument, Call, Parameter, Procedure, Value};
+pub use context::Attribute;
 pub use expression::{Expr, Relation};
+pub use laws::names_are_as_listed;
 pub use query::{AliasedTable, Count, FromClause, Item, Items, Join, Select, SortKey};
 pub use rows::{Assignment, Delete, Insert, Update};
 pub use statement::Statement;
