@@ -1,6 +1,6 @@
 -- What few changes of which none is of a row leave of what is kept, and that each can be tested before it is made.
 use Rattle.std.proofs.Common.{◌≡◌, ◌≢◌, ◌∙◌, ℕ, suc, ◌+◌, ◌≤◌, ◌<◌, Bool, true, false, not, cond, ◌⊎◌, inl, inr, List, [], ◌∷◌, ◌++◌, length, refl, sym, ap, subst, arith}
-use Rattle.std.specs.Prelude.{◌↔◌, ◌||◌, IsTrue, None}
+use Rattle.std.specs.Prelude.{◌↔◌, ◌||◌, IfOk, IsTrue, None, Result, Ok, Err}
 use Rattle.std.specs.List.{AllByRecursion, Contains, filter, list_any}
 use Rattle.std.specs.Str.{bytes_eq}
 use Rattle.std.specs.declared.cmp.Ordering.{Ordering}
@@ -33,7 +33,7 @@ use Rattle.au_grants.specs.declared.change.GrantChange.TheVariants as grant
 use Rattle.au_grants.specs.Changing.{applied, is_new, without}
 use Rattle.au_grants.specs.Rights.{Grants, IsChain, IsHolder, IsRoleGranted, RoleEntry, grant_count}
 use Rattle.au_kept.specs.Keeping.{Contents, desk_of}
-use Rattle.au_kept.specs.Quick.{AreApart, AreInPlace, HasGrantee, IsGrantApart, IsGrantOf, IsLone, IsNewRole, IsPlain, IsRoleMade, IsRoomy}
+use Rattle.au_kept.specs.Quick.{AreApart, AreInPlace, HasGrantee, HasNewGrantee, IsGrantApart, IsGrantOf, IsLone, IsNewRole, IsPlain, IsRoleMade, IsRoomy}
 use Rattle.au_kept.specs.Sound.{IsKept}
 use Rattle.au_kept.specs.Staging.{CanSettle, IsFree, IsOfRow}
 use Rattle.au_kept.proofs.Among.{all_at, any_from, any_to, here, split}
@@ -199,7 +199,7 @@ made_grant kept _ second made = absurd made
 role_rowless : (kept : Kept) (changes : List Change) → IsNewRole kept changes → AllByRecursion IsRowless changes
 role_rowless kept [] new = absurd new
 role_rowless kept (first ∷ []) new = absurd new
-role_rowless kept (first ∷ second ∷ []) new = (made_rowless kept first second new, made_grant kept first second new, tt)
+role_rowless kept (first ∷ second ∷ []) new = (made_rowless kept first second new, (made_grant kept first second new, tt))
 role_rowless kept (first ∷ second ∷ third ∷ changes) new = absurd new
 
 pub few_rowless : (kept : Kept) (changes : List Change) → AreInPlace kept changes → AllByRecursion IsRowless changes
@@ -210,8 +210,8 @@ few_rowless kept changes (inr (inr apart), roomy) = all_rowless kept changes apa
 -- ---- no row is put, and a table that is made is narrow
 
 or_false : (b c : Bool) → b ≡ false → c ≡ false → (b || c) ≡ false
-or_false true c is no = absurd (let e : true ≡ false = is in cc)
-or_false false c is no = no
+or_false true c is other = absurd (let e : true ≡ false = is in cc)
+or_false false c is other = other
 
 no_put : (table : TableName) (number : RowNo) (c : Change) → IsRowless c → puts_row table number c ≡ false
 no_put table number (change.Put other row cells) rowless = absurd (rowless tt)
@@ -250,11 +250,11 @@ all_none kept [] apart = tt
 all_none kept (c ∷ changes) apart = (apart_none kept c apart.0, all_none kept changes apart.1)
 
 role_none : (kept : Kept) (first second : Change) → IsRoleMade kept first second → AllByRecursion MakesNone (first ∷ second ∷ [])
-role_none kept (change.Role name) second made = ((λ table. refl), grant_none name second made.1, tt)
+role_none kept (change.Role name) second made = ((λ table. refl), (grant_none name second made.1, tt))
 role_none kept _ second made = absurd made
 
 is_false : (b : Bool) → b ≡ false → b ≡ true → ⊥
-is_false b no yes = let e : false ≡ true = sym no ∙ yes in cc
+is_false b is other = let e : false ≡ true = sym is ∙ other in cc
 
 -- ---- entries that are put and taken away
 
@@ -264,8 +264,8 @@ same_bool false true to from = absurd (let e : false ≡ true = from refl in cc)
 same_bool false false to from = refl
 
 not_true : (b : Bool) → (b ≡ true → ⊥) → not b ≡ true
-not_true true no = absurd (no refl)
-not_true false no = refl
+not_true true never = absurd (never refl)
+not_true false never = refl
 
 put_from : {X : Type 0} (order : X → Ordering) (entry : X) (xs : List X) (x : X) → Contains (put_in_order order entry xs) x → (entry ≡ x) ⊎ Contains xs x
 put_from {X} order entry xs x has = elim (Contains-append_cases (filter (λ (y : X). is_lt (order y)) xs) (entry ∷ filter (λ (y : X). is_gt (order y)) xs) x has) [
@@ -379,7 +379,7 @@ all_stay kept [] apart = tt
 all_stay kept (c ∷ changes) apart = (apart_stay kept c apart.0, all_stay kept changes apart.1)
 
 role_stay : (kept : Kept) (first second : Change) → IsRoleMade kept first second → AllByRecursion UsersStay (first ∷ second ∷ [])
-role_stay kept (change.Role name) second made = ((λ users. refl), grant_stay name second made.1, tt)
+role_stay kept (change.Role name) second made = ((λ users. refl), (grant_stay name second made.1, tt))
 role_stay kept _ second made = absurd made
 
 users_stay : (tree : List ℕ → Expr) (changes : List Change) (kept : Kept) → AllByRecursion UsersStay changes → has_user (changed_all tree changes kept) sys ≡ has_user kept sys
@@ -444,7 +444,7 @@ goes_same : (conditions : Conditions) (source target : Kept) → SameNames sourc
 goes_same conditions source target same founded (change.SysGrant grantee privilege admin) apart goes = grantee_same source target same grantee ∙ goes
 goes_same conditions source target same founded (change.ObjGrant grantee table action) apart goes = (grantee_same source target same grantee ∙ goes.0, table_there source target same table ∙ goes.1)
 goes_same conditions source target same founded (change.RoleGrant grantee role admin) apart goes =
-    let there = role_same source target same role ∙ goes.1.0 in
+    let there = role_same source target same role ∙ goes.1 in
     (grantee_same source target same grantee ∙ goes.0, there, no_role_held target role grantee founded apart there)
 goes_same conditions source target same founded _ apart goes = absurd apart
 
@@ -485,6 +485,11 @@ apart_goes stays conditions kept changes lawful (inr apart) =
     let same : SameNames kept kept = record { users = refl; roles = refl; tables = refl } in
     (λ goes. each_goes stays conditions changes kept kept same lawful apart goes, λ goes. each_back conditions changes kept kept same lawful.founded apart goes)
 
+-- an answer that tells the one tells the other
+pub told_by : {E : Type 0} (P Q : Type 0) → P ↔ Q → (answer : Result Bool E) → IfOk answer (λ goes. IsTrue goes ↔ P) → IfOk answer (λ goes. IsTrue goes ↔ Q)
+told_by P Q same (Ok b) told = (λ is. same.0 (told.0 is), λ q. told.1 (same.1 q))
+told_by P Q same (Err error) told = tt
+
 -- ---- a new role and its grant
 
 or_none : (b c : Bool) → (b || c) ≡ false → c ≡ false
@@ -511,21 +516,26 @@ made_goes : (conditions : Conditions) (kept : Kept) (name : List ℕ) (second : 
 made_goes conditions kept name (change.RoleGrant grantee role admin) founded none is = (
   λ has. (
     ap not (or_none (has_user kept name) (has_role kept name) none),
-    (
+    ((
       granted_before kept name grantee is.1 ∙ has,
       any_to (λ (other : List ℕ). bytes_eq other role) (put_in_order (λ (other : List ℕ). by_name other name) name kept.roles) name (put_there (λ (other : List ℕ). by_name other name) name kept.roles)
           ((bytes_eq-Decides name role).1 (sym is.0)),
       none_held kept role name grantee founded is.0 is.1 none,
-    ),
-    tt,
+    ), tt),
   ),
   λ goes. sym (granted_before kept name grantee is.1) ∙ goes.1.0.0,
 )
 made_goes conditions kept name _ founded none is = absurd is
 
-pub role_goes : (conditions : Conditions) (kept : Kept) (first second : Change) → IsFounded kept → IsRoleMade kept first second → HasGrantee kept second ↔ AllGoOn conditions false kept (first ∷ second ∷ [])
+role_goes : (conditions : Conditions) (kept : Kept) (first second : Change) → IsFounded kept → IsRoleMade kept first second → HasGrantee kept second ↔ AllGoOn conditions false kept (first ∷ second ∷ [])
 role_goes conditions kept (change.Role name) second founded made = made_goes conditions kept name second founded made.0 made.1
 role_goes conditions kept _ second founded made = absurd made
+
+pub new_goes : (conditions : Conditions) (kept : Kept) (changes : List Change) → IsFounded kept → IsNewRole kept changes → HasNewGrantee kept changes ↔ AllGoOn conditions false kept changes
+new_goes conditions kept [] founded new = absurd new
+new_goes conditions kept (first ∷ []) founded new = absurd new
+new_goes conditions kept (first ∷ second ∷ []) founded new = role_goes conditions kept first second founded new
+new_goes conditions kept (first ∷ second ∷ third ∷ changes) founded new = absurd new
 
 -- ---- the frame
 

@@ -62,6 +62,13 @@ IsNewRole kept (first ∷ []) = ⊥
 IsNewRole kept (first ∷ second ∷ []) = IsRoleMade kept first second
 IsNewRole kept (first ∷ second ∷ third ∷ changes) = ⊥
 
+-- there are two changes, and the grantee of the second is there
+abbrev pub HasNewGrantee : Kept → List Change → Type 0
+HasNewGrantee kept [] = ⊥
+HasNewGrantee kept (first ∷ []) = ⊥
+HasNewGrantee kept (first ∷ second ∷ []) = HasGrantee kept second
+HasNewGrantee kept (first ∷ second ∷ third ∷ changes) = ⊥
+
 -- so many more entries of each kind would be within the limits
 pub record IsRoomy (kept : Kept) (more : ℕ) : Type 0 where
   pub users : length kept.users + more ≤ CATALOG_OBJECTS

@@ -7,7 +7,7 @@ ghost use Rattle.au_base.specs.declared.numbers.ClientNo.{ClientNo as Client};
 ghost use Rattle.au_entries.specs.Frames.{PartsGoOn, after_parts};
 ghost use Rattle.au_entries.specs.Replaying.{AllGoOn, GoesOn, has_grantee, has_role};
 ghost use Rattle.au_kept.specs.Frames.{IsReplayable, after_frame};
-ghost use Rattle.au_kept.specs.Quick.{AreApart, AreInPlace, HasGrantee, IsGrantApart, IsGrantOf, IsInPlace, IsLone, IsNewRole, IsPlain, IsRoleMade, IsRoomy, changes_in};
+ghost use Rattle.au_kept.specs.Quick.{AreApart, AreInPlace, HasGrantee, HasNewGrantee, IsGrantApart, IsGrantOf, IsInPlace, IsLone, IsNewRole, IsPlain, IsRoleMade, IsRoomy, changes_in};
 ghost use Rattle.au_replay.specs.Reading.{HasShortText, conditions};
 ghost use Rattle.au_txn.specs.Logs.{changes_of};
 ghost use Rattle.rec_codec.specs.Changes.{IsChangeSpellable};
@@ -300,6 +300,13 @@ impl Keeping {
         ensures { IsTrue result ↔ AllGoOn conditions false self.now.kept changes.now }
     {
         self.holds_together();
+        self.has_new_grantee(changes)
+    }
+
+    // Whether the grantee of the second of two changes is there.
+    fn has_new_grantee(&self, changes: &[Change]) -> bool
+        ensures { IsTrue result ↔ HasNewGrantee self.now.kept changes.now }
+    {
         match changes {
             [_, second] => self.has_grantee_of(second),
             _ => false,
