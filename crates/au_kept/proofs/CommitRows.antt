@@ -145,7 +145,7 @@ then_equal Less b e = absurd (let no : Less ≡ Equal = e in cc)
 then_equal Equal b e = (refl, e)
 then_equal Greater b e = absurd (let no : Greater ≡ Equal = e in cc)
 
-same_text : (a b : List ℕ) → slice_cmp nat_cmp a b ≡ Equal → a ≡ b
+pub same_text : (a b : List ℕ) → slice_cmp nat_cmp a b ≡ Equal → a ≡ b
 same_text a b e = (bytes_eq-Decides a b).0 (sym (is_eq-slice_cmp a b) ∙ ap is_eq e)
 
 -- rows that stand at one place are one row

@@ -9,13 +9,13 @@ mod Entries
 mod Frames
 mod Held
 mod Images
+mod InPlace
 mod Lists
 mod Made
 mod Nothing
 mod Numbers
 mod OpenKeys
 mod OpenTables
-mod Plain
 mod Ranked
 mod Rebuilt
 mod Replayed

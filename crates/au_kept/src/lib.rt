@@ -5,6 +5,7 @@
 mod anew;
 mod building;
 mod commits;
+mod in_place;
 mod keeping;
 mod laws;
 mod laying;
@@ -13,7 +14,6 @@ mod one_change;
 mod open_rows;
 mod parting;
 mod parts;
-mod plain_change;
 mod quick;
 mod ranks;
 mod reading;
