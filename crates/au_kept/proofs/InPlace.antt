@@ -516,12 +516,15 @@ made_goes : (conditions : Conditions) (kept : Kept) (name : List ℕ) (second : 
 made_goes conditions kept name (change.RoleGrant grantee role admin) founded none is = (
   λ has. (
     ap not (or_none (has_user kept name) (has_role kept name) none),
-    ((
-      granted_before kept name grantee is.1 ∙ has,
-      any_to (λ (other : List ℕ). bytes_eq other role) (put_in_order (λ (other : List ℕ). by_name other name) name kept.roles) name (put_there (λ (other : List ℕ). by_name other name) name kept.roles)
-          ((bytes_eq-Decides name role).1 (sym is.0)),
-      none_held kept role name grantee founded is.0 is.1 none,
-    ), tt),
+    (
+      (
+        granted_before kept name grantee is.1 ∙ has,
+        any_to (λ (other : List ℕ). bytes_eq other role) (put_in_order (λ (other : List ℕ). by_name other name) name kept.roles) name (put_there (λ (other : List ℕ). by_name other name) name kept.roles)
+            ((bytes_eq-Decides name role).1 (sym is.0)),
+        none_held kept role name grantee founded is.0 is.1 none,
+      ),
+      tt,
+    ),
   ),
   λ goes. sym (granted_before kept name grantee is.1) ∙ goes.1.0.0,
 )
