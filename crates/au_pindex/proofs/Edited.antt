@@ -19,7 +19,7 @@ use Rattle.au_pindex.specs.Indexing.{AreBucketsOf, is_listed, table_cmp}
 use Rattle.au_pindex.specs.Naming.{names_action, names_privilege, names_role, names_table}
 use Rattle.au_pindex.specs.Places.{passes, passes_at}
 use Rattle.au_pindex.specs.descent.Rooms.{HasRoomFor, KeepsRoom}
-use Rattle.au_pindex.specs.descent.Settling.{AreEdited, AreJoinedBy, AreShiftedBy}
+use Rattle.au_pindex.specs.descent.Settling.{AreEdited, AreJoinedBy, AreShiftedBy, HaveSamePlaces}
 use Rattle.au_pindex.specs.descent.Shifting.{came_from}
 use Rattle.au_pindex.specs.Staging.{FitsJoining, Leads, is_joined, shifted_from}
 
@@ -105,8 +105,16 @@ module _ (enabled later : List (List ℕ × Enabled)) (policies changed : List A
         ∙ sym (leads.roles role at ∙ ap (λ j. is_joined names_role j role at || passes (passes_at (is_listed names_role enabled role) policies) (shifted_from edit.shift at)) is);
   }
 
+  same_of : (joined new : Bucketed) → HaveSamePlaces joined new → AreBucketsOf later changed joined → AreBucketsOf later changed new
+  same_of joined new same is = record {
+    actions = λ action at. same.actions (actions.code_of action) at ∙ is.actions action at;
+    tables = λ table at. same.tables table at ∙ is.tables table at;
+    privileges = λ privilege at. same.privileges (privileges.code_of privilege) at ∙ is.privileges privilege at;
+    roles = λ role at. same.roles role at ∙ is.roles role at;
+  }
+
   pub edited_of : (edit : IndexEdit) (new : Bucketed) → AreEdited edit.shift edit.joining old new → Leads enabled policies later changed edit → AreBucketsOf later changed new
-  edited_of edit new (between, shifted, joined) leads = joined_of edit between new edit.joining refl (between_of edit.shift between shifted) joined leads
+  edited_of edit new (between, joined, shifted, joins, same) leads = same_of joined new same (joined_of edit between joined edit.joining refl (between_of edit.shift between shifted) joins leads)
 
 -- ---- room
 

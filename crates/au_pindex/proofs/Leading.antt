@@ -1,9 +1,10 @@
 -- To which policies and enablements edits of an index lead.
-use Rattle.std.proofs.Common.{◌≡◌, ◌∙◌, ◌+◌, arith, refl, sym, ap, subst, inl, inr, ℕ, Bool, true, false, not, cond, ◌||◌, ◌&&◌, List, ◌∷◌, ◌++◌, map, take, drop, BTreeSet}
+use Rattle.std.proofs.Common.{◌≡◌, ◌∙◌, ◌+◌, arith, refl, sym, ap, subst, inl, inr, ℕ, Bool, true, false, not, cond, ◌||◌, ◌&&◌, List, [], ◌∷◌, ◌++◌, length, map, take, drop, BTreeSet}
 use Rattle.std.proofs.lemmas.Bool.Decides.{eqb_tells}
+use Rattle.std.specs.BTreeMap.{is_at}
 use Rattle.std.specs.BTreeSet.{contains}
 use Rattle.std.specs.Cmp.Lexicographic.{bytes_decides}
-use Rattle.std.specs.List.{slice_get}
+use Rattle.std.specs.List.{list_any, slice_get}
 use Rattle.std.specs.Ordering.{nat_cmp}
 use Rattle.std.specs.Prelude.{◌==◌, Option, Some, None}
 use Rattle.au_entries.specs.declared.policy.AuditPolicy.{AuditPolicy}
@@ -152,6 +153,16 @@ module _ (enabled : Entries) (policies : List AuditPolicy) where
       subst (λ x. Leads enabled policies later policies x) (sym is)
       (leads_alone enabled policies later policies (record { shift = Some (Leaves places); condition = condition.Stays; joining = None }) refl
       (λ test at. left_at policies (is_enabled enabled) (is_enabled later) leaving law test at places (told at)) refl)
+
+  no_keys : (test : ℕ → Bool) (keys : List ℕ) → length keys ≡ 0 → list_any test keys ≡ false
+  no_keys test [] is = refl
+  no_keys test (key ∷ keys) is = absurd (omega (arith, is))
+
+  -- none leaves
+  pub none_leaves : (later : Entries) (leaving : AuditPolicy → Bool) → ((q : AuditPolicy) → is_enabled later q ≡ (is_enabled enabled q && not (leaving q)))
+      → (places : BTreeSet ℕ) → ((at : ℕ) → contains nat_cmp places at ≡ passes_at leaving policies at) → length places.keys ≡ 0 → (edit : IndexEdit) → edit ≡ no_edit → Leads enabled policies later policies edit
+  none_leaves later leaving law places told none edit is =
+      no_edit_leads later (λ test at. by_leaving policies (is_enabled enabled) (is_enabled later) leaving law test at (slice_get policies at) false (sym (told at) ∙ no_keys (is_at (nat_cmp at)) places.keys none)) edit is
 
   pub joins_leads : (later : Entries) (place : ℕ) (policy : AuditPolicy) → ((test : AuditPolicy → Bool) (at : ℕ) → is_now enabled policies later policies test at ≡ ((test policy && (place == at)) || was_from enabled policies later policies test (Some at)))
       → (edit : IndexEdit) → edit ≡ joins place policy → Leads enabled policies later policies edit

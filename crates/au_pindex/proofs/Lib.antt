@@ -1,6 +1,8 @@
 pub mod Afterwards
 pub mod Edited
+pub mod Emptied
 pub mod EnabledBy
+pub mod Ended
 pub mod Found
 pub mod GrantedTo
 pub mod Keys

@@ -1,5 +1,5 @@
 -- Buckets that get room, and places that use it up, one key after another.
-use Rattle.std.proofs.Common.{◌≡◌, ◌∙◌, ◌≤◌, ◌<◌, ◌+◌, inl, inr, refl, sym, ap, ℕ, zero, suc, Bool, true, false, ◌||◌, ◌&&◌, List, [], ◌∷◌, ◌++◌, Vec, Global, BTreeMap, length, get_or, take, drop, arith, add-one, drop-cons}
+use Rattle.std.proofs.Common.{◌≡◌, ◌∙◌, ◌≤◌, ◌<◌, ◌+◌, inl, inr, refl, sym, ap, ℕ, zero, suc, Bool, true, false, ◌||◌, ◌&&◌, List, [], ◌∷◌, ◌++◌, Vec, Global, BTreeMap, length, get_or, take, arith}
 use Rattle.std.proofs.lemmas.Bool.{or_cases, or_left, or_right}
 use Rattle.std.proofs.lemmas.List.{take_more}
 use Rattle.std.proofs.lemmas.List.Folds.{list_any-append}
@@ -46,26 +46,16 @@ module _ {X : Type 0} (test : X → Bool) (xs : List X) (i : ℕ) (x : X) (withi
   one_more = take_more xs i x within ∙ ap (λ y. take i xs ++ y ∷ []) (sym is)
 
   -- one more key has room, and those before it no less
-  pub next_room : (n old new : ℕ) → (list_any test (take i xs) ≡ true → n ≤ old) → old ≤ new → (test x ≡ true → n ≤ new) → list_any test (take (i + 1) xs) ≡ true → n ≤ new
-  next_room n old new before more now passes =
+  pub next_room : (old new : ℕ) → (list_any test (take i xs) ≡ true → 0 < old) → old ≤ new → (test x ≡ true → 0 < new) → list_any test (take (i + 1) xs) ≡ true → 0 < new
+  next_room old new before more now passes =
       let either : (list_any test (take i xs) || (test x || false)) ≡ true = sym (ap (list_any test) one_more ∙ list_any-append test (take i xs) (x ∷ [])) ∙ passes in
       elim (or_cases (list_any test (take i xs)) (test x || false) either) [ inl a ↦ omega (arith, before a, more) | inr b ↦ now (none_left (test x) b) ]
 
-  front : drop i xs ≡ x ∷ drop (i + 1) xs
-  front = rw (add-one, drop-cons xs i x) (ap (λ z. z ∷ drop (suc i) xs) (sym is))
-
-  one_less : length (drop i xs) ≡ suc (length (drop (i + 1) xs))
-  one_less = ap length front
-
-  -- there is room for the first of the keys that are left
-  pub first_room : (room : ℕ) → test x ≡ true → (list_any test (drop i xs) ≡ true → length (drop i xs) ≤ room) → 0 < room
-  first_room room passes spared =
-      let enough = spared (ap (list_any test) front ∙ or_left (test x) (list_any test (drop (i + 1) xs)) passes) in omega (arith, one_less, enough)
-
-  -- and for those behind it, once it has used up a place
-  pub left_room : (old new : ℕ) → (list_any test (drop i xs) ≡ true → length (drop i xs) ≤ old) → old ≤ new + 1 → list_any test (drop (i + 1) xs) ≡ true → length (drop (i + 1) xs) ≤ new
-  left_room old new spared used passes =
-      let enough = spared (ap (list_any test) front ∙ or_right (test x) (list_any test (drop (i + 1) xs)) passes) in omega (arith, one_less, enough, used)
+-- a key of these passes the test, where the one that stands at the place does
+pub any_here : {X : Type 0} (test : X → Bool) (xs : List X) (i : ℕ) (x : X) → i < length xs → x ≡ get_or xs i x → test x ≡ true → list_any test xs ≡ true
+any_here test [] i x within is passes = absurd (omega (arith, within))
+any_here test (y ∷ ys) zero x within is passes = or_left (test y) (list_any test ys) (ap test (sym is) ∙ passes)
+any_here test (y ∷ ys) (suc i) x within is passes = or_right (test y) (list_any test ys) (any_here test ys i x (omega (arith, within)) is passes)
 
 -- ---- a policy whose place joins buckets once they have room for it
 

@@ -1,22 +1,12 @@
--- What leaves the policies and the enablements leaves the index.
-use Rattle.std.proofs.Common.{◌≡◌, ◌∙◌, ℕ, Bool, true, false, ◌||◌, List, map, refl, sym, ap, subst}
-use Rattle.au_catalog.specs.declared.catalog.Catalog.{Catalog}
+-- What leaves the policies and the enablements.
+use Rattle.std.proofs.Common.{◌≡◌, ℕ, Bool, true, false, ◌||◌, List, refl}
 use Rattle.au_entries.specs.declared.change.Change.{Change}
 use Rattle.au_entries.specs.declared.change.Change.TheVariants as change
 use Rattle.au_entries.specs.declared.policy.AuditPolicy.{AuditPolicy}
 use Rattle.au_entries.specs.declared.policy.Enabled.{Enabled}
 use Rattle.au_entries.specs.Changing.{enabled_after, policies_after}
 use Rattle.au_pindex.specs.Changing.{changes_policies}
-use Rattle.au_pindex.specs.declared.index.Index.{Index}
-use Rattle.au_pindex.specs.Indexing.{AreBucketsOf, IsIndexOf, condition_of}
 use Rattle.sql_ast.specs.declared.expression.Expr.{Expr}
-
--- the index of the same policies and enablements
-pub stays_with : (catalog other : Catalog) (index : Index) → other.policies ≡ catalog.policies → other.enabled ≡ catalog.enabled → IsIndexOf catalog index → IsIndexOf other index
-stays_with catalog other index policies enabled is = record {
-  buckets = subst (λ (entries : List (List ℕ × Enabled)). AreBucketsOf entries other.policies index.buckets) (sym enabled) (subst (λ (ps : List AuditPolicy). AreBucketsOf catalog.enabled ps index.buckets) (sym policies) is.buckets);
-  conditions = is.conditions ∙ ap (map condition_of) (sym policies);
-}
 
 pub policies_stay : (tree : List ℕ → Expr) (one : Change) (policies : List AuditPolicy) → changes_policies one ≡ false → policies_after tree one policies ≡ policies
 policies_stay tree (change.Policy name privileges actions roles when) policies is = absurd (let e : true ≡ false = is in cc)

@@ -1,12 +1,15 @@
-//! Buckets of places: for each key the places of the policies that name it.
-ghost use Rattle.std.specs.Prelude.{◌≡◌, ◌==◌, ◌||◌, ◌&&◌, ◌≤◌, ◌<◌, ◌+◌, ◌^◌, ℕ, true, false, IfOk, OnOk, Some, is_some, nat_lt};
+//! Buckets of places. A bucket lists the places of the enabled policies that name one key, each once,
+//! and has room for more. One that has no place is only there until the next edit of buckets: it was
+//! opened for an edit that is ready, or for one that was never made.
+ghost use Rattle.std.specs.Prelude.{◌≡◌, ◌==◌, ◌||◌, ◌&&◌, ◌≤◌, ◌<◌, ◌^◌, ℕ, true, false, IfOk, OnOk, Some, is_some, length, nat_lt, not};
 ghost use Rattle.std.specs.BTreeMap.{get};
 ghost use Rattle.std.specs.BTreeSet.{contains};
 ghost use Rattle.std.specs.List.{list_any};
 ghost use Rattle.std.specs.Ordering.{is_eq, nat_cmp};
 ghost use Rattle.au_pindex.specs.Buckets.{is_in_bucket};
-ghost use Rattle.au_pindex.specs.descent.Rooms.{KeepPlaces, room_in, room_of};
+ghost use Rattle.au_pindex.specs.descent.Rooms.{KeepPlaces, StillTake, ends_with, room_in, room_of, takes, takes_in};
 ghost use Rattle.au_pindex.specs.Places.{passes};
+ghost use Rattle.au_pindex.specs.descent.Settling.{NoneIsEmpty};
 ghost use Rattle.au_pindex.specs.descent.Shifting.{came_from};
 
 use crate::shift::{Shift, shift_bucket};
@@ -14,67 +17,85 @@ use au_base::Memory;
 use std::alloc::Global;
 use std::collections::{BTreeMap, BTreeSet};
 
-/// Makes room for so many more places in the bucket of the key, which is made where there is none.
+/// Makes room for one more place in the bucket of the key, which is made where there is none.
 pub(crate) fn spare<K: Ord + Drop>(
     alloc: Global,
     buckets: &mut BTreeMap<K, Vec<usize>>,
     key: K,
-    more: usize,
 ) -> Result<(), Memory>
     ensures stays { KeepPlaces K.cmp buckets.old buckets.new }
-    ensures room { OnOk result (more ≤ room_in K.cmp buckets.new key) }
+    ensures room { OnOk result (0 < room_in K.cmp buckets.new key) }
 {
-    if widen(buckets, &key, more)? {
+    if widen(buckets, &key)? {
         return Ok(());
     }
-    open(alloc, buckets, key, more)
+    open(alloc, buckets, key)
 }
 
-// Makes room for so many more places in the bucket of the key, where there is one, and says whether
-// there is.
-fn widen<K: Ord>(
-    buckets: &mut BTreeMap<K, Vec<usize>>,
-    key: &K,
-    more: usize,
-) -> Result<bool, Memory>
+// Makes room for one more place in the bucket of the key, where there is one, and says whether there
+// is.
+fn widen<K: Ord>(buckets: &mut BTreeMap<K, Vec<usize>>, key: &K) -> Result<bool, Memory>
     ensures stays { KeepPlaces K.cmp buckets.old buckets.new }
     ensures there { IfOk result (λ there. there ≡ is_some (get K.cmp buckets.new key.now)) }
-    ensures room { IfOk result (λ there. there ≡ true → more ≤ room_in K.cmp buckets.new key.now) }
+    ensures room { IfOk result (λ there. there ≡ true → 0 < room_in K.cmp buckets.new key.now) }
 {
     match buckets.get_mut(key) {
         Some(bucket) => {
-            bucket.reserve(more)?;
+            bucket.reserve(1)?;
             Ok(true)
         }
         None => Ok(false),
     }
 }
 
-// Makes an empty bucket of the key, which has none, with room for so many places.
+// Makes an empty bucket of the key, which has none, with room for one place.
 fn open<K: Ord + Drop>(
     alloc: Global,
     buckets: &mut BTreeMap<K, Vec<usize>>,
     key: K,
-    more: usize,
 ) -> Result<(), Memory>
     requires none { is_some (get K.cmp buckets.old key) ≡ false }
     ensures stays { KeepPlaces K.cmp buckets.old buckets.new }
-    ensures room { OnOk result (more ≤ room_in K.cmp buckets.new key) }
+    ensures room { OnOk result (0 < room_in K.cmp buckets.new key) }
 {
-    let bucket = Vec::with_capacity(alloc, more)?;
+    let bucket = Vec::with_capacity(alloc, 1)?;
     buckets.insert(key, bucket)?;
     Ok(())
 }
 
-/// Adds the place to the bucket of the key, which has room for it. It takes no memory.
+/// Adds the place to the bucket of the key, unless the bucket ends with it: one that doesn't has room
+/// for it. A policy's parts join one behind the other, so a bucket that they name twice has the place
+/// once. It takes no memory.
 pub(crate) fn join<K: Ord>(buckets: &mut BTreeMap<K, Vec<usize>>, key: &K, place: usize)
-    requires room { 0 < room_in K.cmp buckets.old key.now }
+    requires room { takes_in K.cmp buckets.old key.now place ≡ true }
     ensures joined { (other : K) (at : ℕ) → is_in_bucket K.cmp buckets.new other at ≡ ((is_eq (K.cmp key.now other) && (place == at)) || is_in_bucket K.cmp buckets.old other at) }
-    ensures rooms { (other : K) → room_in K.cmp buckets.old other ≤ room_in K.cmp buckets.new other + 1 }
+    ensures rooms { StillTake K.cmp place buckets.old buckets.new }
 {
     match buckets.get_mut(key) {
-        Some(bucket) => bucket.push_reserved(place),
+        Some(bucket) => put(bucket, place),
         None => unreachable!(),
+    }
+}
+
+// Adds the place to the bucket, unless the bucket ends with it.
+fn put(bucket: &mut Vec<usize>, place: usize)
+    requires room { takes place (Some bucket.old) ≡ true }
+    ensures places { (at : ℕ) → list_any (λ other. other == at) bucket.new.items ≡ ((place == at) || list_any (λ other. other == at) bucket.old.items) }
+    ensures last { ends_with place bucket.new.items ≡ true }
+{
+    if is_last(bucket.as_slice(), place) {
+        return;
+    }
+    bucket.push_reserved(place);
+}
+
+// Whether the place stands last.
+fn is_last(bucket: &[usize], place: usize) -> bool
+    ensures { result ≡ ends_with place bucket.now }
+{
+    match bucket.last() {
+        Some(last) => *last == place,
+        None => false,
     }
 }
 
@@ -90,6 +111,23 @@ pub(crate) fn shift_all<K: Ord + Drop>(buckets: &mut BTreeMap<K, Vec<usize>>, sh
         true
     };
     buckets.retain(shifts);
+}
+
+/// Takes away the buckets that have no place. It takes no memory.
+pub(crate) fn drop_empty<K: Ord + Drop>(buckets: &mut BTreeMap<K, Vec<usize>>)
+    ensures places { (key : K) (at : ℕ) → is_in_bucket K.cmp buckets.new key at ≡ is_in_bucket K.cmp buckets.old key at }
+    ensures left { NoneIsEmpty buckets.new }
+{
+    let stays = |_: &K, bucket: &mut Vec<usize>| -> bool
+        ensures { (result ≡ not (length bucket.entry.now.items == 0)) × (bucket.exit.now.items ≡ bucket.entry.now.items) }
+    { has_places(bucket.as_slice()) };
+    buckets.retain(stays);
+}
+
+fn has_places(bucket: &[usize]) -> bool
+    ensures { result ≡ not (length bucket.now == 0) }
+{
+    !bucket.is_empty()
 }
 
 /// Adds the places of the bucket of the key.

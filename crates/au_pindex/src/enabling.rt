@@ -29,8 +29,9 @@ use au_policy::is_policy_on;
 use std::alloc::Global;
 use std::collections::BTreeSet;
 
-/// The edit of an index where the policy of this name is enabled so: in the time of what the policy
-/// names. The index keeps what it has.
+/// The edit of an index where the policy of this name is enabled so. The index keeps what it has. A
+/// policy that comes to be enabled costs what it names. One that is turned off costs more when the edit
+/// is settled, which goes over all places then.
 pub(crate) fn enable(
     index: &mut Index,
     alloc: Global,
@@ -154,7 +155,8 @@ fn join(
 }
 
 /// The edit of an index where the user is dropped: the policies that are enabled for this user alone
-/// are enabled for nobody then. It goes over the enablements once.
+/// are enabled for nobody then. It goes over the enablements once. Where no policy is left so, there
+/// is nothing to edit; where some are, settling goes over all places once.
 pub(crate) fn drop_user(alloc: Global, catalog: &Catalog, user: &Name) -> Result<IndexEdit, Memory>
     requires catalog { CanBeAsked catalog.now }
     ensures leads { IfOk result (Leads catalog.now.enabled catalog.now.policies (enabled_after (change.UserGone user.now) catalog.now.enabled) catalog.now.policies) }
@@ -163,6 +165,9 @@ pub(crate) fn drop_user(alloc: Global, catalog: &Catalog, user: &Name) -> Result
     let enabled = catalog.enabled.as_slice();
     let policies = catalog.policies.as_slice();
     let places = places_left(alloc, enabled, policies, user)?;
+    if places.is_empty() {
+        return Ok(no_edit());
+    }
     Ok(leaving(places))
 }
 

@@ -36,7 +36,8 @@ pub struct Index {
 }
 
 impl Index {
-    /// The index of every catalogue that has no policies. It takes no memory.
+    /// The index of every catalogue that has no policies. Where there are some and none is enabled, the
+    /// index has their conditions, and `of` makes it. It takes no memory.
     pub fn new(alloc: Global) -> Index
         ensures { (catalog : AnyCatalog) → catalog.policies ≡ [] → IsIndexOf catalog result }
     {
@@ -66,9 +67,9 @@ impl Index {
     /// read as; the catalogue after the changes can be asked too. The index stays that of the
     /// catalogue, whatever is answered.
     ///
-    /// It takes memory for what the change names alone. `None` where there are several changes and some
-    /// are of policies, as of a user who is dropped with tables: then `of` makes the index of the
-    /// catalogue after them.
+    /// It takes memory for what the change names alone, and for the places that leave. `None` where there
+    /// are several changes and some are of policies, which no statement makes today: an edit is of the
+    /// index that stands, and `of` makes the index of the catalogue after them.
     pub fn stage(
         &mut self,
         alloc: Global,

@@ -1,5 +1,5 @@
 //! The place of a policy, put into the buckets of all that its parts name, which have room for it.
-ghost use Rattle.std.specs.Prelude.{◌≡◌, ◌==◌, ◌||◌, ◌&&◌, ◌≤◌, ◌<◌, ◌+◌, ℕ, List as Sequence, true, length};
+ghost use Rattle.std.specs.Prelude.{◌≡◌, ◌==◌, ◌||◌, ◌&&◌, ℕ, List as Sequence, true};
 ghost use Rattle.std.specs.Cmp.Lexicographic.{slice_cmp};
 ghost use Rattle.std.specs.List.{list_any};
 ghost use Rattle.std.specs.Ordering.{nat_cmp};
@@ -11,7 +11,7 @@ ghost use Rattle.au_base.specs.Actions as numbers;
 ghost use Rattle.au_base.specs.Privileges as ranks;
 ghost use Rattle.au_base.specs.Sameness.{same_action, same_privilege, same_table};
 ghost use Rattle.au_pindex.specs.Buckets.{is_in_bucket};
-ghost use Rattle.au_pindex.specs.descent.Rooms.{HasRoomFor, room_in};
+ghost use Rattle.au_pindex.specs.descent.Rooms.{HasRoomFor, StillTake, takes_in};
 ghost use Rattle.au_pindex.specs.descent.Adding.{AddsPolicy};
 ghost use Rattle.au_pindex.specs.Indexing.{table_cmp};
 ghost use Rattle.au_pindex.specs.Naming.{is_of_action, is_on_table};
@@ -22,7 +22,8 @@ use au_base::{Action, Name, Privilege, TableName};
 use au_entries::AuditPolicy;
 use std::collections::BTreeMap;
 
-/// Adds the place of the policy to the buckets of all that its parts name. It takes no memory.
+/// Adds the place of the policy to the buckets of all that its parts name, once to each. It takes no
+/// memory.
 pub(crate) fn join_policy(buckets: &mut Bucketed, policy: &AuditPolicy, place: usize)
     requires room { HasRoomFor policy.now buckets.old }
     ensures { AddsPolicy true policy.now place buckets.old buckets.new }
@@ -43,8 +44,8 @@ fn join_actions(
     parts: &[(Action, Option<TableName>)],
     place: usize,
 )
-    requires room { (action : AnyAction) → list_any (is_of_action action) parts.now ≡ true → length parts.now ≤ room_in nat_cmp actions.old (numbers.code_of action) }
-    requires on_tables { (table : Table) → list_any (is_on_table table) parts.now ≡ true → length parts.now ≤ room_in table_cmp tables.old table }
+    requires room { (action : AnyAction) → list_any (is_of_action action) parts.now ≡ true → takes_in nat_cmp actions.old (numbers.code_of action) place ≡ true }
+    requires on_tables { (table : Table) → list_any (is_on_table table) parts.now ≡ true → takes_in table_cmp tables.old table place ≡ true }
     ensures actions { (action : AnyAction) (at : ℕ) → is_in_bucket nat_cmp actions.new (numbers.code_of action) at ≡ ((list_any (is_of_action action) parts.now && (place == at)) || is_in_bucket nat_cmp actions.old (numbers.code_of action) at) }
     ensures tables { (table : Table) (at : ℕ) → is_in_bucket table_cmp tables.new table at ≡ ((list_any (is_on_table table) parts.now && (place == at)) || is_in_bucket table_cmp tables.old table at) }
 {
@@ -59,12 +60,12 @@ fn join_part(
     part: &(Action, Option<TableName>),
     place: usize,
 )
-    requires room { (action : AnyAction) → is_of_action action part.now ≡ true → 0 < room_in nat_cmp actions.old (numbers.code_of action) }
-    requires on_tables { (table : Table) → is_on_table table part.now ≡ true → 0 < room_in table_cmp tables.old table }
+    requires room { (action : AnyAction) → is_of_action action part.now ≡ true → takes_in nat_cmp actions.old (numbers.code_of action) place ≡ true }
+    requires on_tables { (table : Table) → is_on_table table part.now ≡ true → takes_in table_cmp tables.old table place ≡ true }
     ensures actions { (action : AnyAction) (at : ℕ) → is_in_bucket nat_cmp actions.new (numbers.code_of action) at ≡ ((is_of_action action part.now && (place == at)) || is_in_bucket nat_cmp actions.old (numbers.code_of action) at) }
     ensures tables { (table : Table) (at : ℕ) → is_in_bucket table_cmp tables.new table at ≡ ((is_on_table table part.now && (place == at)) || is_in_bucket table_cmp tables.old table at) }
-    ensures rooms { (code : ℕ) → room_in nat_cmp actions.old code ≤ room_in nat_cmp actions.new code + 1 }
-    ensures table_rooms { (table : Table) → room_in table_cmp tables.old table ≤ room_in table_cmp tables.new table + 1 }
+    ensures rooms { StillTake nat_cmp place actions.old actions.new }
+    ensures table_rooms { StillTake table_cmp place tables.old tables.new }
 {
     match &part.1 {
         None => join_action(actions, part.0, place),
@@ -73,23 +74,23 @@ fn join_part(
 }
 
 fn join_action(buckets: &mut BTreeMap<u8, Vec<usize>>, action: Action, place: usize)
-    requires room { 0 < room_in nat_cmp buckets.old (numbers.code_of action) }
+    requires room { takes_in nat_cmp buckets.old (numbers.code_of action) place ≡ true }
     ensures joined { (other : AnyAction) (at : ℕ) → is_in_bucket nat_cmp buckets.new (numbers.code_of other) at ≡ ((same_action action other && (place == at)) || is_in_bucket nat_cmp buckets.old (numbers.code_of other) at) }
-    ensures rooms { (code : ℕ) → room_in nat_cmp buckets.old code ≤ room_in nat_cmp buckets.new code + 1 }
+    ensures rooms { StillTake nat_cmp place buckets.old buckets.new }
 {
     join(buckets, &action.code(), place);
 }
 
 fn join_table(buckets: &mut BTreeMap<TableName, Vec<usize>>, table: &TableName, place: usize)
-    requires room { 0 < room_in table_cmp buckets.old table.now }
+    requires room { takes_in table_cmp buckets.old table.now place ≡ true }
     ensures joined { (other : Table) (at : ℕ) → is_in_bucket table_cmp buckets.new other at ≡ ((same_table table.now other && (place == at)) || is_in_bucket table_cmp buckets.old other at) }
-    ensures rooms { (other : Table) → room_in table_cmp buckets.old other ≤ room_in table_cmp buckets.new other + 1 }
+    ensures rooms { StillTake table_cmp place buckets.old buckets.new }
 {
     join(buckets, table, place);
 }
 
 fn join_privileges(buckets: &mut BTreeMap<u8, Vec<usize>>, privileges: &[Privilege], place: usize)
-    requires room { (privilege : AnyPrivilege) → list_any (λ part. same_privilege part privilege) privileges.now ≡ true → length privileges.now ≤ room_in nat_cmp buckets.old (ranks.code_of privilege) }
+    requires room { (privilege : AnyPrivilege) → list_any (λ part. same_privilege part privilege) privileges.now ≡ true → takes_in nat_cmp buckets.old (ranks.code_of privilege) place ≡ true }
     ensures { (privilege : AnyPrivilege) (at : ℕ) → is_in_bucket nat_cmp buckets.new (ranks.code_of privilege) at ≡ ((list_any (λ part. same_privilege part privilege) privileges.now && (place == at)) || is_in_bucket nat_cmp buckets.old (ranks.code_of privilege) at) }
 {
     for privilege in privileges {
@@ -98,15 +99,15 @@ fn join_privileges(buckets: &mut BTreeMap<u8, Vec<usize>>, privileges: &[Privile
 }
 
 fn join_privilege(buckets: &mut BTreeMap<u8, Vec<usize>>, privilege: Privilege, place: usize)
-    requires room { 0 < room_in nat_cmp buckets.old (ranks.code_of privilege) }
+    requires room { takes_in nat_cmp buckets.old (ranks.code_of privilege) place ≡ true }
     ensures joined { (other : AnyPrivilege) (at : ℕ) → is_in_bucket nat_cmp buckets.new (ranks.code_of other) at ≡ ((same_privilege privilege other && (place == at)) || is_in_bucket nat_cmp buckets.old (ranks.code_of other) at) }
-    ensures rooms { (code : ℕ) → room_in nat_cmp buckets.old code ≤ room_in nat_cmp buckets.new code + 1 }
+    ensures rooms { StillTake nat_cmp place buckets.old buckets.new }
 {
     join(buckets, &privilege.code(), place);
 }
 
 fn join_roles(buckets: &mut BTreeMap<Name, Vec<usize>>, roles: &[Name], place: usize)
-    requires room { (role : Sequence ℕ) → list_any (λ part. bytes_eq part role) roles.now ≡ true → length roles.now ≤ room_in (slice_cmp nat_cmp) buckets.old role }
+    requires room { (role : Sequence ℕ) → list_any (λ part. bytes_eq part role) roles.now ≡ true → takes_in (slice_cmp nat_cmp) buckets.old role place ≡ true }
     ensures { (role : Sequence ℕ) (at : ℕ) → is_in_bucket (slice_cmp nat_cmp) buckets.new role at ≡ ((list_any (λ part. bytes_eq part role) roles.now && (place == at)) || is_in_bucket (slice_cmp nat_cmp) buckets.old role at) }
 {
     for role in roles {
@@ -115,9 +116,9 @@ fn join_roles(buckets: &mut BTreeMap<Name, Vec<usize>>, roles: &[Name], place: u
 }
 
 fn join_role(buckets: &mut BTreeMap<Name, Vec<usize>>, role: &Name, place: usize)
-    requires room { 0 < room_in (slice_cmp nat_cmp) buckets.old role.now }
+    requires room { takes_in (slice_cmp nat_cmp) buckets.old role.now place ≡ true }
     ensures joined { (other : Sequence ℕ) (at : ℕ) → is_in_bucket (slice_cmp nat_cmp) buckets.new other at ≡ ((bytes_eq role.now other && (place == at)) || is_in_bucket (slice_cmp nat_cmp) buckets.old other at) }
-    ensures rooms { (other : Sequence ℕ) → room_in (slice_cmp nat_cmp) buckets.old other ≤ room_in (slice_cmp nat_cmp) buckets.new other + 1 }
+    ensures rooms { StillTake (slice_cmp nat_cmp) place buckets.old buckets.new }
 {
     join(buckets, role, place);
 }

@@ -8,7 +8,6 @@ mod enabling;
 mod finding;
 mod index;
 mod joining;
-mod laws;
 mod naming;
 mod putting;
 mod resolving;
@@ -21,5 +20,4 @@ mod staging;
 mod testing;
 
 pub use index::Index;
-pub use laws::indexes_stay;
 pub use staged::StagedIndex;

@@ -25,7 +25,8 @@ use au_policy::is_policy_on;
 use std::alloc::Global;
 use std::collections::BTreeSet;
 
-/// The edit of an index where the policy of this name is dropped. It takes no memory.
+/// The edit of an index where the policy of this name is dropped. It takes no memory. Settling goes
+/// over all places, since those behind it move.
 pub(crate) fn drop_policy(index: &Index, catalog: &Catalog, name: &Name) -> IndexEdit
     requires catalog { CanBeAsked catalog.now }
     requires conditions { length index.now.conditions.items ≡ length catalog.now.policies }
@@ -50,7 +51,8 @@ fn close(place: usize) -> IndexEdit
 }
 
 /// The edit of an index where the policy stands among the others, in place of one that has its name.
-/// The policy comes without its condition, which comes resolved. The index keeps what it has.
+/// The policy comes without its condition, which comes resolved. The index keeps what it has. Settling
+/// goes over all places, unless a policy that stands anew is enabled for nobody.
 pub(crate) fn put_policy(
     index: &mut Index,
     alloc: Global,

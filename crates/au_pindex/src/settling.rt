@@ -1,15 +1,15 @@
 //! An index that is edited. None of it takes memory.
-ghost use Rattle.std.specs.Prelude.{◌≡◌, ◌≤◌, ◌<◌, ◌+◌, ◌++◌, ◌∷◌, ◌^◌, List as Sequence, ℕ, drop as drop_list, length, map, take, vec_capacity, vec_len};
+ghost use Rattle.std.specs.Prelude.{◌≡◌, ◌≤◌, ◌<◌, ◌+◌, ◌++◌, ◌∷◌, ◌^◌, ◌||◌, List as Sequence, ℕ, true, drop as drop_list, is_some, length, map, take, vec_capacity, vec_len};
 ghost use Rattle.au_entries.specs.declared.policy.AuditPolicy.{AuditPolicy};
 ghost use Rattle.au_entries.specs.declared.policy.Enabled.{Enabled};
 ghost use Rattle.au_pindex.specs.Indexing.{AreBucketsOf, condition_of};
 ghost use Rattle.au_pindex.specs.descent.Rooms.{KeepsRoom};
-ghost use Rattle.au_pindex.specs.descent.Settling.{AreEdited, AreJoinedBy, AreShiftedBy};
+ghost use Rattle.au_pindex.specs.descent.Settling.{AllHavePlaces, AreEdited, AreJoinedBy, AreShiftedBy, HaveSamePlaces};
 ghost use Rattle.au_pindex.specs.descent.Shifting.{AreShifted};
 ghost use Rattle.au_pindex.specs.Staging.{FitsConditions, FitsEdit, FitsJoining, Leads, conditions_after};
 
 use crate::bucketed::Bucketed;
-use crate::buckets::shift_all;
+use crate::buckets::{drop_empty, shift_all};
 use crate::index::Index;
 use crate::joining::join_policy;
 use crate::shift::Shift;
@@ -42,10 +42,12 @@ fn conditions_are_few(conditions: &[Option<Resolved>])
 
 fn edit_buckets(buckets: &mut Bucketed, shift: &Option<Shift>, joining: &Option<Joining>)
     requires { FitsJoining joining.now buckets.old }
-    ensures { AreEdited shift.now joining.now buckets.old buckets.new }
+    ensures edited { AreEdited shift.now joining.now buckets.old buckets.new }
+    ensures left { (is_some shift.now || is_some joining.now) ≡ true → AllHavePlaces buckets.new }
 {
     shift_where(buckets, shift);
     join_where(buckets, joining);
+    drop_empty_where(buckets, shift, joining);
 }
 
 // Shifts the places of all buckets, where there is a shift.
@@ -77,6 +79,33 @@ fn join_where(buckets: &mut Bucketed, joining: &Option<Joining>)
         Some(joining) => join_policy(buckets, &joining.policy, joining.place),
         None => {}
     }
+}
+
+// Takes away the buckets that have no place, where places shift or join. Where none do, buckets aren't
+// gone over.
+fn drop_empty_where(buckets: &mut Bucketed, shift: &Option<Shift>, joining: &Option<Joining>)
+    ensures places { HaveSamePlaces buckets.old buckets.new }
+    ensures left { (is_some shift.now || is_some joining.now) ≡ true → AllHavePlaces buckets.new }
+{
+    if edits_buckets(shift, joining) {
+        drop_all_empty(buckets);
+    }
+}
+
+fn edits_buckets(shift: &Option<Shift>, joining: &Option<Joining>) -> bool
+    ensures { result ≡ (is_some shift.now || is_some joining.now) }
+{
+    shift.is_some() || joining.is_some()
+}
+
+fn drop_all_empty(buckets: &mut Bucketed)
+    ensures places { HaveSamePlaces buckets.old buckets.new }
+    ensures left { AllHavePlaces buckets.new }
+{
+    drop_empty(&mut buckets.actions);
+    drop_empty(&mut buckets.tables);
+    drop_empty(&mut buckets.privileges);
+    drop_empty(&mut buckets.roles);
 }
 
 fn edit_conditions(conditions: &mut Vec<Option<Resolved>>, edit: ConditionEdit)

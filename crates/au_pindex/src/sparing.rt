@@ -1,5 +1,5 @@
 //! Room for the place of a policy in the buckets of all that its parts name.
-ghost use Rattle.std.specs.Prelude.{◌≡◌, ◌≤◌, ℕ, List as Sequence, true, OnOk, length};
+ghost use Rattle.std.specs.Prelude.{◌≡◌, ◌<◌, ℕ, List as Sequence, true, OnOk};
 ghost use Rattle.std.specs.Cmp.Lexicographic.{slice_cmp};
 ghost use Rattle.std.specs.List.{list_any};
 ghost use Rattle.std.specs.Ordering.{nat_cmp};
@@ -49,11 +49,11 @@ fn spare_actions(
 ) -> Result<(), Memory>
     ensures actions { KeepPlaces nat_cmp actions.old actions.new }
     ensures tables { KeepPlaces table_cmp tables.old tables.new }
-    ensures room { OnOk result ((action : AnyAction) → list_any (is_of_action action) parts.now ≡ true → length parts.now ≤ room_in nat_cmp actions.new (numbers.code_of action)) }
-    ensures on_tables { OnOk result ((table : Table) → list_any (is_on_table table) parts.now ≡ true → length parts.now ≤ room_in table_cmp tables.new table) }
+    ensures room { OnOk result ((action : AnyAction) → list_any (is_of_action action) parts.now ≡ true → 0 < room_in nat_cmp actions.new (numbers.code_of action)) }
+    ensures on_tables { OnOk result ((table : Table) → list_any (is_on_table table) parts.now ≡ true → 0 < room_in table_cmp tables.new table) }
 {
     for part in parts {
-        spare_part(alloc, actions, tables, part, parts.len())?;
+        spare_part(alloc, actions, tables, part)?;
     }
     Ok(())
 }
@@ -63,16 +63,15 @@ fn spare_part(
     actions: &mut BTreeMap<u8, Vec<usize>>,
     tables: &mut BTreeMap<TableName, Vec<usize>>,
     part: &(Action, Option<TableName>),
-    more: usize,
 ) -> Result<(), Memory>
     ensures actions { KeepPlaces nat_cmp actions.old actions.new }
     ensures tables { KeepPlaces table_cmp tables.old tables.new }
-    ensures room { OnOk result ((action : AnyAction) → is_of_action action part.now ≡ true → more ≤ room_in nat_cmp actions.new (numbers.code_of action)) }
-    ensures on_tables { OnOk result ((table : Table) → is_on_table table part.now ≡ true → more ≤ room_in table_cmp tables.new table) }
+    ensures room { OnOk result ((action : AnyAction) → is_of_action action part.now ≡ true → 0 < room_in nat_cmp actions.new (numbers.code_of action)) }
+    ensures on_tables { OnOk result ((table : Table) → is_on_table table part.now ≡ true → 0 < room_in table_cmp tables.new table) }
 {
     match &part.1 {
-        None => spare_action(alloc, actions, part.0, more),
-        Some(table) => spare_table(alloc, tables, table, more),
+        None => spare_action(alloc, actions, part.0),
+        Some(table) => spare_table(alloc, tables, table),
     }
 }
 
@@ -80,25 +79,23 @@ fn spare_action(
     alloc: Global,
     buckets: &mut BTreeMap<u8, Vec<usize>>,
     action: Action,
-    more: usize,
 ) -> Result<(), Memory>
     ensures stays { KeepPlaces nat_cmp buckets.old buckets.new }
-    ensures room { OnOk result ((other : AnyAction) → same_action action other ≡ true → more ≤ room_in nat_cmp buckets.new (numbers.code_of other)) }
+    ensures room { OnOk result ((other : AnyAction) → same_action action other ≡ true → 0 < room_in nat_cmp buckets.new (numbers.code_of other)) }
 {
-    spare(alloc, buckets, action.code(), more)
+    spare(alloc, buckets, action.code())
 }
 
 fn spare_table(
     alloc: Global,
     buckets: &mut BTreeMap<TableName, Vec<usize>>,
     table: &TableName,
-    more: usize,
 ) -> Result<(), Memory>
     ensures stays { KeepPlaces table_cmp buckets.old buckets.new }
-    ensures room { OnOk result ((other : Table) → same_table table.now other ≡ true → more ≤ room_in table_cmp buckets.new other) }
+    ensures room { OnOk result ((other : Table) → same_table table.now other ≡ true → 0 < room_in table_cmp buckets.new other) }
 {
     let key = table.clone()?;
-    spare(alloc, buckets, key, more)
+    spare(alloc, buckets, key)
 }
 
 fn spare_privileges(
@@ -107,10 +104,10 @@ fn spare_privileges(
     privileges: &[Privilege],
 ) -> Result<(), Memory>
     ensures stays { KeepPlaces nat_cmp buckets.old buckets.new }
-    ensures room { OnOk result ((privilege : AnyPrivilege) → list_any (λ part. same_privilege part privilege) privileges.now ≡ true → length privileges.now ≤ room_in nat_cmp buckets.new (ranks.code_of privilege)) }
+    ensures room { OnOk result ((privilege : AnyPrivilege) → list_any (λ part. same_privilege part privilege) privileges.now ≡ true → 0 < room_in nat_cmp buckets.new (ranks.code_of privilege)) }
 {
     for privilege in privileges {
-        spare_privilege(alloc, buckets, *privilege, privileges.len())?;
+        spare_privilege(alloc, buckets, *privilege)?;
     }
     Ok(())
 }
@@ -119,12 +116,11 @@ fn spare_privilege(
     alloc: Global,
     buckets: &mut BTreeMap<u8, Vec<usize>>,
     privilege: Privilege,
-    more: usize,
 ) -> Result<(), Memory>
     ensures stays { KeepPlaces nat_cmp buckets.old buckets.new }
-    ensures room { OnOk result ((other : AnyPrivilege) → same_privilege privilege other ≡ true → more ≤ room_in nat_cmp buckets.new (ranks.code_of other)) }
+    ensures room { OnOk result ((other : AnyPrivilege) → same_privilege privilege other ≡ true → 0 < room_in nat_cmp buckets.new (ranks.code_of other)) }
 {
-    spare(alloc, buckets, privilege.code(), more)
+    spare(alloc, buckets, privilege.code())
 }
 
 fn spare_roles(
@@ -133,10 +129,10 @@ fn spare_roles(
     roles: &[Name],
 ) -> Result<(), Memory>
     ensures stays { KeepPlaces (slice_cmp nat_cmp) buckets.old buckets.new }
-    ensures room { OnOk result ((role : Sequence ℕ) → list_any (λ part. bytes_eq part role) roles.now ≡ true → length roles.now ≤ room_in (slice_cmp nat_cmp) buckets.new role) }
+    ensures room { OnOk result ((role : Sequence ℕ) → list_any (λ part. bytes_eq part role) roles.now ≡ true → 0 < room_in (slice_cmp nat_cmp) buckets.new role) }
 {
     for role in roles {
-        spare_role(alloc, buckets, role, roles.len())?;
+        spare_role(alloc, buckets, role)?;
     }
     Ok(())
 }
@@ -145,11 +141,10 @@ fn spare_role(
     alloc: Global,
     buckets: &mut BTreeMap<Name, Vec<usize>>,
     role: &Name,
-    more: usize,
 ) -> Result<(), Memory>
     ensures stays { KeepPlaces (slice_cmp nat_cmp) buckets.old buckets.new }
-    ensures room { OnOk result ((other : Sequence ℕ) → bytes_eq role.now other ≡ true → more ≤ room_in (slice_cmp nat_cmp) buckets.new other) }
+    ensures room { OnOk result ((other : Sequence ℕ) → bytes_eq role.now other ≡ true → 0 < room_in (slice_cmp nat_cmp) buckets.new other) }
 {
     let key = role.clone()?;
-    spare(alloc, buckets, key, more)
+    spare(alloc, buckets, key)
 }

@@ -1,5 +1,5 @@
 -- Room for places in the buckets of what a policy names.
-use Rattle.std.specs.Prelude.{◌≡◌, ◌≤◌, ℕ, ◌-◌, true, List, Option, Some, None, Vec, length, vec_capacity, vec_len}
+use Rattle.std.specs.Prelude.{◌≡◌, ◌==◌, ◌||◌, ◌≤◌, ◌<◌, ℕ, ◌-◌, Bool, true, false, nat_lt, List, Option, Some, None, Vec, length, vec_capacity, vec_len}
 use Rattle.std.specs.BTreeMap.{BTreeMap, get}
 use Rattle.std.specs.Cmp.Lexicographic.{slice_cmp}
 use Rattle.std.specs.Global.{Global}
@@ -15,6 +15,7 @@ use Rattle.au_pindex.specs.Buckets.{is_in_bucket}
 use Rattle.au_pindex.specs.declared.bucketed.Bucketed.{Bucketed}
 use Rattle.au_pindex.specs.Indexing.{table_cmp}
 use Rattle.au_pindex.specs.Naming.{names_action, names_privilege, names_role, names_table}
+use Rattle.au_pindex.specs.Places.{passes_at}
 
 -- how many more places a bucket takes in the room that it has: none where there is no bucket
 abbrev pub room_of : Option (Vec ℕ Global) → ℕ
@@ -25,12 +26,29 @@ room_of (Some bucket) = vec_capacity bucket - vec_len bucket
 abbrev pub room_in : {K : Type 0} → (K → K → Ordering) → BTreeMap K (Vec ℕ Global) → K → ℕ
 room_in {K} cmp buckets key = room_of (get cmp buckets key)
 
--- the bucket of each key that the policy names has room for as many places as the policy has parts of that kind
+-- whether the place stands last among these
+abbrev pub ends_with : ℕ → List ℕ → Bool
+ends_with place items = passes_at (λ other. other == place) items (length items - 1)
+
+-- whether a bucket takes the place in the room that it has: it ends with the place, or has room for one more
+abbrev pub takes : ℕ → Option (Vec ℕ Global) → Bool
+takes place None = false
+takes place (Some bucket) = ends_with place bucket.items || nat_lt (vec_len bucket) (vec_capacity bucket)
+
+-- whether the bucket of the key takes the place in the room that it has
+abbrev pub takes_in : {K : Type 0} → (K → K → Ordering) → BTreeMap K (Vec ℕ Global) → K → ℕ → Bool
+takes_in {K} cmp buckets key place = takes place (get cmp buckets key)
+
+-- the buckets that took the place take it still
+abbrev pub StillTake : {K : Type 0} → (K → K → Ordering) → ℕ → BTreeMap K (Vec ℕ Global) → BTreeMap K (Vec ℕ Global) → Type 0
+StillTake {K} cmp place old new = (key : K) → takes_in cmp old key place ≡ true → takes_in cmp new key place ≡ true
+
+-- the bucket of each key that the policy names has room for one more place
 pub record HasRoomFor (policy : AuditPolicy) (buckets : Bucketed) : Type 0 where
-  pub actions : (action : Action) → names_action action policy ≡ true → length policy.actions ≤ room_in nat_cmp buckets.actions (actions.code_of action)
-  pub tables : (table : TableName) → names_table table policy ≡ true → length policy.actions ≤ room_in table_cmp buckets.tables table
-  pub privileges : (privilege : Privilege) → names_privilege privilege policy ≡ true → length policy.privileges ≤ room_in nat_cmp buckets.privileges (privileges.code_of privilege)
-  pub roles : (role : List ℕ) → names_role role policy ≡ true → length policy.roles ≤ room_in (slice_cmp nat_cmp) buckets.roles role
+  pub actions : (action : Action) → names_action action policy ≡ true → 0 < room_in nat_cmp buckets.actions (actions.code_of action)
+  pub tables : (table : TableName) → names_table table policy ≡ true → 0 < room_in table_cmp buckets.tables table
+  pub privileges : (privilege : Privilege) → names_privilege privilege policy ≡ true → 0 < room_in nat_cmp buckets.privileges (privileges.code_of privilege)
+  pub roles : (role : List ℕ) → names_role role policy ≡ true → 0 < room_in (slice_cmp nat_cmp) buckets.roles role
 
 -- no bucket has less room than it had
 pub record KeepsRoom (old new : Bucketed) : Type 0 where

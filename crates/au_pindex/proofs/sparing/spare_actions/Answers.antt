@@ -11,6 +11,6 @@ loop-part-preserved c =
     let before = c.loop-part.invariant in (
       keep_on nat_cmp _ _ _ before.0 said.actions,
       keep_on table_cmp _ _ _ before.1 said.tables,
-      λ action. next_room (is_of_action action) c.args.parts.now c.loop-part.part-index c.part-item.result c.loop-part-test.true c.part-item.is _ _ _ (before.2 action) (said.actions.rooms (code_of action)) (said.room action),
-      λ table. next_room (is_on_table table) c.args.parts.now c.loop-part.part-index c.part-item.result c.loop-part-test.true c.part-item.is _ _ _ (before.3 table) (said.tables.rooms table) (said.on_tables table),
+      λ action. next_room (is_of_action action) c.args.parts.now c.loop-part.part-index c.part-item.result c.loop-part-test.true c.part-item.is _ _ (before.2 action) (said.actions.rooms (code_of action)) (said.room action),
+      λ table. next_room (is_on_table table) c.args.parts.now c.loop-part.part-index c.part-item.result c.loop-part-test.true c.part-item.is _ _ (before.3 table) (said.tables.rooms table) (said.on_tables table),
     )

@@ -1,4 +1,4 @@
-use Rattle.std.proofs.Common.{◌≡◌, ◌≤◌, true, length, take}
+use Rattle.std.proofs.Common.{◌≡◌, ◌<◌, true, take}
 use Rattle.std.specs.List.{list_any}
 use Rattle.std.specs.Ordering.{nat_cmp}
 use Rattle.au_base.specs.declared.action.Action.{Action}
@@ -14,5 +14,5 @@ abbrev pub invariant-loop-part : goal.invariant-loop-part
 invariant-loop-part l =
     KeepPlaces nat_cmp l.fn.actions l.actions
     × KeepPlaces table_cmp l.fn.tables l.tables
-    × ((action : Action) → list_any (is_of_action action) (take l.part-index l.parts) ≡ true → length l.parts ≤ room_in nat_cmp l.actions (code_of action))
-    × ((table : TableName) → list_any (is_on_table table) (take l.part-index l.parts) ≡ true → length l.parts ≤ room_in table_cmp l.tables table)
+    × ((action : Action) → list_any (is_of_action action) (take l.part-index l.parts) ≡ true → 0 < room_in nat_cmp l.actions (code_of action))
+    × ((table : TableName) → list_any (is_on_table table) (take l.part-index l.parts) ≡ true → 0 < room_in table_cmp l.tables table)

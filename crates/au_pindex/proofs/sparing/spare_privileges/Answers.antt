@@ -13,5 +13,5 @@ loop-privilege-preserved c =
     let here = get_or xs i AlterUser in
     let said = c.in_ok-spare_privilege.ensures in (
       keep_on nat_cmp _ _ _ c.loop-privilege.invariant.0 said.stays,
-      λ privilege. next_room (λ part. same_privilege part privilege) xs i here c.loop-privilege-test.true (reread xs i AlterUser here c.loop-privilege-test.true) _ _ _ (c.loop-privilege.invariant.1 privilege) (said.stays.rooms (code_of privilege)) (said.room privilege),
+      λ privilege. next_room (λ part. same_privilege part privilege) xs i here c.loop-privilege-test.true (reread xs i AlterUser here c.loop-privilege-test.true) _ _ (c.loop-privilege.invariant.1 privilege) (said.stays.rooms (code_of privilege)) (said.room privilege),
     )

@@ -1,4 +1,4 @@
-use Rattle.std.proofs.Common.{◌≡◌, ◌≤◌, true, length, take}
+use Rattle.std.proofs.Common.{◌≡◌, ◌<◌, true, take}
 use Rattle.std.specs.List.{list_any}
 use Rattle.std.specs.Ordering.{nat_cmp}
 use Rattle.au_base.specs.declared.privilege.Privilege.{Privilege}
@@ -11,4 +11,4 @@ use Rattle.au_pindex.proofs.sparing.spare_privileges.Given as goal
 abbrev pub invariant-loop-privilege : goal.invariant-loop-privilege
 invariant-loop-privilege l =
     KeepPlaces nat_cmp l.fn.buckets l.buckets
-    × ((privilege : Privilege) → list_any (λ part. same_privilege part privilege) (take l.privilege-index l.privileges) ≡ true → length l.privileges ≤ room_in nat_cmp l.buckets (code_of privilege))
+    × ((privilege : Privilege) → list_any (λ part. same_privilege part privilege) (take l.privilege-index l.privileges) ≡ true → 0 < room_in nat_cmp l.buckets (code_of privilege))

@@ -1,4 +1,4 @@
-use Rattle.std.proofs.Common.{◌≡◌, ◌≤◌, ℕ, List, true, length, take}
+use Rattle.std.proofs.Common.{◌≡◌, ◌<◌, ℕ, List, true, take}
 use Rattle.std.specs.Cmp.Lexicographic.{slice_cmp}
 use Rattle.std.specs.List.{list_any}
 use Rattle.std.specs.Ordering.{nat_cmp}
@@ -10,4 +10,4 @@ use Rattle.au_pindex.proofs.sparing.spare_roles.Given as goal
 abbrev pub invariant-loop-role : goal.invariant-loop-role
 invariant-loop-role l =
     KeepPlaces (slice_cmp nat_cmp) l.fn.buckets l.buckets
-    × ((role : List ℕ) → list_any (λ part. bytes_eq part role) (take l.role-index l.roles) ≡ true → length l.roles ≤ room_in (slice_cmp nat_cmp) l.buckets role)
+    × ((role : List ℕ) → list_any (λ part. bytes_eq part role) (take l.role-index l.roles) ≡ true → 0 < room_in (slice_cmp nat_cmp) l.buckets role)
