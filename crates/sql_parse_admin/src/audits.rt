@@ -13,11 +13,11 @@ ghost use Rattle.sql_parse_admin.specs.descent.ReadAudits as spec;
 use au_base::{List, Memory, Name};
 use sql_ast::{Audit, AuditedUsers, Statement, Whenever};
 use sql_lex::Token;
+use sql_parse::Stop;
 use sql_parse::cursor::{behind, expect_word, sees_word};
 use sql_parse::endings::whole;
 use sql_parse::names::name;
 use sql_parse::tables::names;
-use sql_parse::Stop;
 use std::alloc::Global;
 
 /// The AUDIT, NOAUDIT or DROP AUDIT POLICY that the tokens are, with `;` behind it or without.

@@ -13,11 +13,11 @@ use crate::grants::{grant, revoke};
 use au_base::Memory;
 use sql_ast::Statement;
 use sql_lex::Token;
+use sql_parse::Stop;
 use sql_parse::cursor::{behind, expect_word, sees_word};
 use sql_parse::endings::whole;
 use sql_parse::names::name;
 use sql_parse::tables::table;
-use sql_parse::Stop;
 use std::alloc::Global;
 
 /// The GRANT, REVOKE, DROP TABLE, DROP USER, CREATE ROLE or DROP ROLE that the tokens are, with `;`
