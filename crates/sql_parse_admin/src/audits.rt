@@ -21,8 +21,7 @@ use sql_parse::tables::names;
 use std::alloc::Global;
 
 /// The AUDIT, NOAUDIT or DROP AUDIT POLICY that the tokens are, with `;` behind it or without.
-/// `None` where they are none. It
-/// doesn't ask how many parentheses they open.
+/// `None` where they are none. Nothing is said of tokens that open over 100 parentheses at once.
 pub fn audit_statement(alloc: Global, tokens: &[Token]) -> Result<Option<Statement>, Memory>
     ensures { opens_few 0 (kinds tokens.now) ≡ true → Finds (IsAuditStatement (kinds tokens.now)) result }
 {

@@ -21,8 +21,8 @@ use sql_parse::tables::table;
 use std::alloc::Global;
 
 /// The GRANT, REVOKE, DROP TABLE, DROP USER, CREATE ROLE or DROP ROLE that the tokens are, with `;`
-/// behind it or without. `None` where they are none. It
-/// doesn't ask how many parentheses they open.
+/// behind it or without. `None` where they are none. Nothing is said of tokens that open over 100
+/// parentheses at once.
 pub fn rights_statement(alloc: Global, tokens: &[Token]) -> Result<Option<Statement>, Memory>
     ensures { opens_few 0 (kinds tokens.now) ≡ true → Finds (IsRightsStatement (kinds tokens.now)) result }
 {

@@ -22,8 +22,8 @@ use sql_parse::names::name;
 use sql_parse::tables::{names, table};
 use std::alloc::Global;
 
-/// The CREATE TABLE that the tokens are, with `;` behind it or without. `None` where they are none. It
-/// doesn't ask how many parentheses they open.
+/// The CREATE TABLE that the tokens are, with `;` behind it or without. `None` where they are none.
+/// Nothing is said of tokens that open over 100 parentheses at once.
 pub fn table_statement(alloc: Global, tokens: &[Token]) -> Result<Option<Statement>, Memory>
     ensures { opens_few 0 (kinds tokens.now) ≡ true → Finds (IsTableStatement (kinds tokens.now)) result }
 {

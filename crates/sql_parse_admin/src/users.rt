@@ -19,7 +19,7 @@ use sql_parse::names::name;
 use std::alloc::Global;
 
 /// The CREATE USER or ALTER USER that the tokens of a text are, with `;` behind it or without.
-/// `None` where they are none. It doesn't ask how many parentheses they open.
+/// `None` where they are none. Nothing is said of tokens that open over 100 parentheses at once.
 pub fn user_statement(
     alloc: Global,
     text: &[u8],
