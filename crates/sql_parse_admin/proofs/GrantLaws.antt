@@ -20,6 +20,7 @@ use Rattle.sql_parse.proofs.TableLaws.{names_exact, NoComma, table_exact}
 use Rattle.sql_parse.specs.Grants as g
 use Rattle.sql_parse.specs.Privileges.{IsObjectRight, IsRight}
 use Rattle.sql_parse_admin.specs.descent.ReadGrants as grants
+use Rattle.sql_parse_admin.specs.descent.ReadPrivileges.{is_object_right}
 use Rattle.sql_parse_admin.proofs.PrivilegeLaws.{rights_exact, object_rights_exact, object_first, right_first, ON}
 
 -- ---- WITH ADMIN OPTION
@@ -104,10 +105,10 @@ module _ (w : List ℕ) (itself : bytes_eq w w ≡ true) where
       rw (object_rights_exact.complete i (ON ∷ j) rs d refl, table_exact.complete j (Word w ∷ m) t e refl, itself, names_exact.complete m o ns c f) refl
 
 -- the first right tells which of both
-rights_first : (i o : List Kind) (rs : List Right) → Parted comma IsRight i rs o → grants.is_object_right i ≡ false
+rights_first : (i o : List Kind) (rs : List Right) → Parted comma IsRight i rs o → is_object_right i ≡ false
 rights_first i o rs (parted {m = m} {x = x} d ds) = right_first i m x d
 
-object_rights_first : (i o : List Kind) (rs : List ObjectRight) → Parted comma IsObjectRight i rs (ON ∷ o) → grants.is_object_right i ≡ true
+object_rights_first : (i o : List Kind) (rs : List ObjectRight) → Parted comma IsObjectRight i rs (ON ∷ o) → is_object_right i ≡ true
 object_rights_first i o rs (parted {m = m} {x = x} d none) = object_first i m x d refl
 object_rights_first i o rs (parted {m = m} {x = x} d (more (after e) ds)) = object_first i m x d refl
 
@@ -117,7 +118,7 @@ pub grant_sound : (i : List Kind) (y : GrantStatement × List Kind) → grants.g
 unfolding grants.grant
 grant_sound i y h =
     let TO : List ℕ = codes "TO" in
-    elim (chosen (grants.is_object_right i) (under grants.on_table (grants.object_rights_of TO i)) _ (Some y) h) [
+    elim (chosen (is_object_right i) (under grants.on_table (grants.object_rights_of TO i)) _ (Some y) h) [
       | inl t ↦
           let u = under_some grants.on_table (grants.object_rights_of TO i) y t.1 in
           let s = object_rights_of_sound TO refl i u.0 u.1 in
@@ -133,7 +134,7 @@ pub revoke_sound : (i : List Kind) (y : GrantStatement × List Kind) → grants.
 unfolding grants.revoke
 revoke_sound i y h =
     let FROM : List ℕ = codes "FROM" in
-    elim (chosen (grants.is_object_right i) (under grants.off_table (grants.object_rights_of FROM i)) (under grants.revoked (grants.rights_of FROM i)) (Some y) h) [
+    elim (chosen (is_object_right i) (under grants.off_table (grants.object_rights_of FROM i)) (under grants.revoked (grants.rights_of FROM i)) (Some y) h) [
       | inl t ↦
           let u = under_some grants.off_table (grants.object_rights_of FROM i) y t.1 in
           let s = object_rights_of_sound FROM refl i u.0 u.1 in

@@ -1,13 +1,10 @@
 pub mod ActionLaws
-pub mod ArgumentLaws
 pub mod AuditLaws
-pub mod CallLaws
 pub mod FamilyLaws
 pub mod GrantLaws
 pub mod PasswordLaws
 pub mod PolicyLaws
 pub mod PrivilegeLaws
-pub mod ProcedureLaws
 pub mod StatementLaws
 pub mod TableDefinitionLaws
 pub mod UserLaws

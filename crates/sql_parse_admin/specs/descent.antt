@@ -1,5 +1,4 @@
 pub mod ReadAudits
-pub mod ReadCalls
 pub mod ReadGrants
 pub mod ReadPolicies
 pub mod ReadPrivileges

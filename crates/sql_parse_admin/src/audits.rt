@@ -13,16 +13,15 @@ ghost use Rattle.sql_parse_admin.specs.descent.ReadAudits as spec;
 use au_base::{List, Memory, Name};
 use sql_ast::{Audit, AuditedUsers, Statement, Whenever};
 use sql_lex::Token;
+use sql_parse::Stop;
 use sql_parse::cursor::{behind, expect_word, sees_word};
 use sql_parse::endings::whole;
 use sql_parse::names::name;
 use sql_parse::tables::names;
-use sql_parse::Stop;
 use std::alloc::Global;
 
 /// The AUDIT, NOAUDIT or DROP AUDIT POLICY that the tokens are, with `;` behind it or without.
-/// `None` where they are none. It
-/// doesn't ask how many parentheses they open.
+/// `None` where they are none. Nothing is said of tokens that open over 100 parentheses at once.
 pub fn audit_statement(alloc: Global, tokens: &[Token]) -> Result<Option<Statement>, Memory>
     ensures { opens_few 0 (kinds tokens.now) ≡ true → Finds (IsAuditStatement (kinds tokens.now)) result }
 {

@@ -1,18 +1,15 @@
-//! Reads texts as statements: those about rows by `sql_parse`, and here those about tables, users,
-//! roles, rights and audit policies, and calls of procedures.
+//! Reads texts as statements: those about rows by `sql_parse`, calls of procedures by
+//! `sql_parse_calls`, and here those about tables, users, roles, rights and audit policies.
 #![tactic(auto)]
 
 mod actions;
-mod arguments;
 mod audits;
-mod calls;
 mod grants;
 mod passwords;
 mod policies;
 mod policy_clauses;
 mod policy_conditions;
 mod privileges;
-mod procedures;
 mod rights_statements;
 mod statements;
 mod table_definitions;

@@ -13,16 +13,16 @@ use crate::grants::{grant, revoke};
 use au_base::Memory;
 use sql_ast::Statement;
 use sql_lex::Token;
+use sql_parse::Stop;
 use sql_parse::cursor::{behind, expect_word, sees_word};
 use sql_parse::endings::whole;
 use sql_parse::names::name;
 use sql_parse::tables::table;
-use sql_parse::Stop;
 use std::alloc::Global;
 
 /// The GRANT, REVOKE, DROP TABLE, DROP USER, CREATE ROLE or DROP ROLE that the tokens are, with `;`
-/// behind it or without. `None` where they are none. It
-/// doesn't ask how many parentheses they open.
+/// behind it or without. `None` where they are none. Nothing is said of tokens that open over 100
+/// parentheses at once.
 pub fn rights_statement(alloc: Global, tokens: &[Token]) -> Result<Option<Statement>, Memory>
     ensures { opens_few 0 (kinds tokens.now) ≡ true → Finds (IsRightsStatement (kinds tokens.now)) result }
 {

@@ -11,7 +11,6 @@ ghost use Rattle.sql_parse_admin.specs.Families.{IsOf, created, family_of};
 ghost use Rattle.sql_parse_admin.specs.Unread.{HasCode};
 
 use crate::audits::{audit_statement, one_audit_statement};
-use crate::calls::{call_statement, one_call_statement};
 use crate::policies::{one_policy_statement, policy_statement};
 use crate::rights_statements::{one_rights_statement, rights_statement};
 use crate::table_definitions::{one_table_statement, table_statement};
@@ -21,7 +20,8 @@ use au_base::{Code, Memory};
 use sql_ast::Statement;
 use sql_lex::{Token, one_way, tokens};
 use sql_parse::cursor::{behind, sees_word};
-use sql_parse::{one_row_statement, opens_few, shallow_row_statement};
+use sql_parse::{one_row_statement, opens_few, row_statement};
+use sql_parse_calls::{call_statement, one_call_statement};
 use std::alloc::Global;
 
 /// What the first two words tell of a statement.
@@ -106,7 +106,7 @@ fn statement_of(
     ensures { opens_few 0 (kinds tokens.now) ≡ true → Finds (IsOf family text.now tokens.now) result }
 {
     match family {
-        Family::Rows => shallow_row_statement(alloc, tokens),
+        Family::Rows => row_statement(alloc, tokens),
         Family::Table => table_statement(alloc, tokens),
         Family::User => user_statement(alloc, text, tokens),
         Family::Rights => rights_statement(alloc, tokens),

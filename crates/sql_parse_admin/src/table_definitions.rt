@@ -14,18 +14,16 @@ use au_base::limits::{MOMENT_DIGITS, NUMBER_DIGITS, TEXT_COLUMN_BYTES};
 use au_base::{Column, ColumnKind, List, Memory, Name};
 use sql_ast::{CreateTable, Element, Statement};
 use sql_lex::{Kind, Mark, Token};
-use sql_parse::cursor::{
-    behind, expect_mark, expect_word, past_word, sees_mark, sees_word,
-};
+use sql_parse::Stop;
+use sql_parse::cursor::{behind, expect_mark, expect_word, past_word, sees_mark, sees_word};
 use sql_parse::endings::whole;
 use sql_parse::lists::{Part, parted};
 use sql_parse::names::name;
 use sql_parse::tables::{names, table};
-use sql_parse::Stop;
 use std::alloc::Global;
 
-/// The CREATE TABLE that the tokens are, with `;` behind it or without. `None` where they are none. It
-/// doesn't ask how many parentheses they open.
+/// The CREATE TABLE that the tokens are, with `;` behind it or without. `None` where they are none.
+/// Nothing is said of tokens that open over 100 parentheses at once.
 pub fn table_statement(alloc: Global, tokens: &[Token]) -> Result<Option<Statement>, Memory>
     ensures { opens_few 0 (kinds tokens.now) ≡ true → Finds (IsTableStatement (kinds tokens.now)) result }
 {

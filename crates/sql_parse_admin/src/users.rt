@@ -12,14 +12,14 @@ ghost use Rattle.sql_parse.specs.UserStatements.{IsUserStatement};
 use au_base::{Memory, Name, Text};
 use sql_ast::{Password, Statement};
 use sql_lex::{Kind, Token};
+use sql_parse::Stop;
 use sql_parse::cursor::{expect_word, sees_word};
 use sql_parse::endings::whole;
 use sql_parse::names::name;
-use sql_parse::Stop;
 use std::alloc::Global;
 
 /// The CREATE USER or ALTER USER that the tokens of a text are, with `;` behind it or without.
-/// `None` where they are none. It doesn't ask how many parentheses they open.
+/// `None` where they are none. Nothing is said of tokens that open over 100 parentheses at once.
 pub fn user_statement(
     alloc: Global,
     text: &[u8],

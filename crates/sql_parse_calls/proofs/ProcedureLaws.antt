@@ -19,7 +19,7 @@ use Rattle.sql_parse.proofs.Follow.{Anywhere}
 use Rattle.sql_parse.proofs.TableLaws.{name_exact}
 use Rattle.sql_ast.specs.Procedures.{each_parameter, each_procedure, package_of, parameter_name, procedure_name}
 use Rattle.sql_parse.specs.CallStatements.{Owner, unqualified, sys}
-use Rattle.sql_parse_admin.specs.descent.ReadCalls as calls
+use Rattle.sql_parse_calls.specs.descent.ReadCalls as calls
 
 found : {A : Type 0} (test : A → Bool) (xs : List A) (x : A) → find test xs ≡ Some x → test x ≡ true
 found test [] x h = absurd cc

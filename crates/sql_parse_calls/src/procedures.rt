@@ -4,7 +4,7 @@ ghost use Rattle.std.specs.List.{list_all};
 ghost use Rattle.sql_parse.specs.Symbols.{kinds};
 ghost use Rattle.sql_parse.specs.descent.Reading.{Gives};
 ghost use Rattle.sql_parse.specs.CallStatements as call;
-ghost use Rattle.sql_parse_admin.specs.descent.ReadCalls as spec;
+ghost use Rattle.sql_parse_calls.specs.descent.ReadCalls as spec;
 
 use au_base::Name;
 use sql_ast::{Argument, Parameter, Procedure};

@@ -3,7 +3,7 @@ ghost use Rattle.std.specs.Option.{option_map};
 ghost use Rattle.std.specs.Prelude.{◌≡◌};
 ghost use Rattle.sql_parse.specs.Symbols.{kinds};
 ghost use Rattle.sql_parse.specs.descent.Reading.{Gives};
-ghost use Rattle.sql_parse_admin.specs.descent.ReadCalls as spec;
+ghost use Rattle.sql_parse_calls.specs.descent.ReadCalls as spec;
 
 use crate::procedures::{dotted, parameter};
 use au_base::List;

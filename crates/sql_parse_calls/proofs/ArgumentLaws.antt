@@ -19,8 +19,8 @@ use Rattle.sql_parse.proofs.Exact.{bind_some, under_some, some_is, chosen, sees_
 use Rattle.sql_parse.proofs.Follow.{Anywhere}
 use Rattle.sql_parse.proofs.TableLaws.{name_unseen, NoComma}
 use Rattle.sql_parse.specs.CallStatements as g
-use Rattle.sql_parse_admin.specs.descent.ReadCalls as calls
-use Rattle.sql_parse_admin.proofs.ProcedureLaws.{dotted_sound, dotted_complete, parameter_exact}
+use Rattle.sql_parse_calls.specs.descent.ReadCalls as calls
+use Rattle.sql_parse_calls.proofs.ProcedureLaws.{dotted_sound, dotted_complete, parameter_exact}
 
 abbrev TIMESTAMP : Kind
 TIMESTAMP = Word (codes "TIMESTAMP")

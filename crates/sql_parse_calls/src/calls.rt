@@ -7,7 +7,7 @@ ghost use Rattle.sql_parse.specs.descent.Reading.{Gives};
 ghost use Rattle.sql_parse.specs.CallStatements.{IsCallStatement};
 ghost use Rattle.sql_parse.specs.Conditions.{opens_few};
 ghost use Rattle.sql_parse.specs.Whole.{Finds};
-ghost use Rattle.sql_parse_admin.specs.descent.ReadCalls as spec;
+ghost use Rattle.sql_parse_calls.specs.descent.ReadCalls as spec;
 
 use crate::arguments::arguments;
 use crate::procedures::{are_taken, procedure};

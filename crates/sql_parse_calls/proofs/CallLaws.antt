@@ -20,9 +20,9 @@ use Rattle.sql_parse.proofs.Exact.{bind_some, under_some, some_is, chosen, guard
 use Rattle.sql_parse.proofs.WholeLaws.{Reads, ended_gives, one_whole, whole_found}
 use Rattle.sql_parse.specs.CallStatements as g
 use Rattle.sql_parse.specs.CallStatements.{procedure_name, are_taken}
-use Rattle.sql_parse_admin.specs.descent.ReadCalls as calls
-use Rattle.sql_parse_admin.proofs.ProcedureLaws.{procedure_sound, procedure_complete}
-use Rattle.sql_parse_admin.proofs.ArgumentLaws.{arguments_exact}
+use Rattle.sql_parse_calls.specs.descent.ReadCalls as calls
+use Rattle.sql_parse_calls.proofs.ProcedureLaws.{procedure_sound, procedure_complete}
+use Rattle.sql_parse_calls.proofs.ArgumentLaws.{arguments_exact}
 
 abbrev BEGIN : Kind
 BEGIN = Word (codes "BEGIN")
