@@ -25,7 +25,7 @@ use Rattle.sql_parse.specs.Statements as all
 use Rattle.sql_parse.specs.Statements.{IsStatement, IsUnread, Reads}
 use Rattle.sql_parse_admin.specs.declared.statements.Family.{Family}
 use Rattle.sql_parse_admin.specs.declared.statements.Family.TheVariants as family
-use Rattle.sql_parse_admin.specs.Families.{IsOf, created, family_of}
+use Rattle.sql_parse_admin.specs.Families.{IsOf, altered, created, family_of}
 use Rattle.sql_parse_admin.specs.Unread as unread
 use Rattle.sql_parse_admin.specs.Unread.{HasCode}
 
@@ -46,9 +46,9 @@ unfolding family_of created
 of_table i o x (tables.creates a b c) = refl
 
 of_user : (text : List ℕ) (ts o : List Token) (x : Statement) → users.UserStatement text ts x o → family_of (kinds ts) ≡ family.User
-unfolding family_of created
+unfolding family_of created altered
 of_user text ts o x (users.creates a b c d e p) = rw (a, b) refl
-of_user text ts o x (users.alters a b c d e p) = rw (a) refl
+of_user text ts o x (users.alters a b c d e p) = rw (a, b) refl
 
 of_rights : (i o : List Kind) (x : Statement) → rights.RightsStatement i x o → family_of i ≡ family.Rights
 unfolding family_of created

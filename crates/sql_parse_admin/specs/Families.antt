@@ -21,9 +21,13 @@ unfoldable pub created : List Kind → Family
 created i =
     if sees (Word (codes "TABLE")) i then family.Table else (if sees (Word (codes "USER")) i then family.User else (if sees (Word (codes "AUDIT")) i then family.Policy else family.Rights))
 
+-- what ALTER and the next word alter
+unfoldable pub altered : List Kind → Family
+altered i = if sees (Word (codes "USER")) i then family.User else family.Rights
+
 unfoldable pub family_of : List Kind → Family
 family_of i =
-    if sees (Word (codes "CREATE")) i then created (behind i) else (if sees (Word (codes "ALTER")) i then family.User
+    if sees (Word (codes "CREATE")) i then created (behind i) else (if sees (Word (codes "ALTER")) i then altered (behind i)
     else (if sees (Word (codes "DROP")) i then (if sees (Word (codes "AUDIT")) (behind i) then family.Audit else family.Rights)
     else (if sees (Word (codes "GRANT")) i then family.Rights else (if sees (Word (codes "REVOKE")) i then family.Rights
     else (if sees (Word (codes "AUDIT")) i then family.Audit else (if sees (Word (codes "NOAUDIT")) i then family.Audit

@@ -7,7 +7,7 @@ ghost use Rattle.sql_parse.specs.Conditions.{opens_few};
 ghost use Rattle.sql_parse.specs.Symbols.{kinds};
 ghost use Rattle.sql_parse.specs.Whole.{Finds};
 ghost use Rattle.sql_parse.specs.Statements.{IsStatement, IsUnread, Reads};
-ghost use Rattle.sql_parse_admin.specs.Families.{IsOf, created, family_of};
+ghost use Rattle.sql_parse_admin.specs.Families.{IsOf, altered, created, family_of};
 ghost use Rattle.sql_parse_admin.specs.Unread.{HasCode};
 
 use crate::audits::{audit_statement, one_audit_statement};
@@ -123,7 +123,7 @@ fn family_of(tokens: &[Token]) -> Family
     if sees_word(tokens, b"CREATE") {
         created(behind(tokens))
     } else if sees_word(tokens, b"ALTER") {
-        Family::User
+        altered(behind(tokens))
     } else if sees_word(tokens, b"DROP") {
         if sees_word(behind(tokens), b"AUDIT") {
             Family::Audit
@@ -152,6 +152,18 @@ fn created(tokens: &[Token]) -> Family
         Family::User
     } else if sees_word(tokens, b"AUDIT") {
         Family::Policy
+    } else {
+        Family::Rights
+    }
+}
+
+// What ALTER alters, by the next word.
+#[tactic(auto, unfolding(crate::specs::Families::altered))]
+fn altered(tokens: &[Token]) -> Family
+    ensures { result ≡ altered (kinds tokens.now) }
+{
+    if sees_word(tokens, b"USER") {
+        Family::User
     } else {
         Family::Rights
     }
