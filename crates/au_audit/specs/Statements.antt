@@ -14,8 +14,7 @@ use Rattle.au_base.specs.BuiltIn.{resolved_table}
 use Rattle.au_base.specs.Naming.{identifier_of}
 use Rattle.au_entries.specs.declared.facts.Facts.{Facts}
 use Rattle.sql_ast.specs.declared.administration.Password.{Password}
-use Rattle.sql_ast.specs.declared.call.Procedure.{Procedure}
-use Rattle.sql_ast.specs.declared.call.Procedure.TheVariants.{AddPolicy, DropPolicy as DropFgaPolicy, EnablePolicy, DisablePolicy, SetLastArchiveTimestamp, ClearLastArchiveTimestamp, CleanAuditTrail}
+use Rattle.sql_ast.specs.Procedures.{package_of}
 use Rattle.sql_ast.specs.declared.query.FromClause.{FromClause}
 use Rattle.sql_ast.specs.declared.statement.Statement.{Statement}
 use Rattle.sql_ast.specs.declared.statement.Statement.TheVariants.{Select, Count, Insert, Update, Delete, Commit, Rollback, CreateTable, DropTable, CreateUser, AlterUser, DropUser, CreateRole, DropRole, Grant, CreatePolicy, DropPolicy, Audit, Noaudit, Call}
@@ -97,16 +96,6 @@ table_object table = (Some table.owner, table.name)
 abbrev pub first_object : List ℕ → List TableReference → Option Object
 first_object user [] = None
 first_object user (table ∷ tables) = Some (table_object (resolved_table user table))
-
--- the package of a procedure
-abbrev pub package_of : Procedure → List ℕ
-package_of AddPolicy = codes "DBMS_FGA"
-package_of DropFgaPolicy = codes "DBMS_FGA"
-package_of EnablePolicy = codes "DBMS_FGA"
-package_of DisablePolicy = codes "DBMS_FGA"
-package_of SetLastArchiveTimestamp = codes "DBMS_AUDIT_MGMT"
-package_of ClearLastArchiveTimestamp = codes "DBMS_AUDIT_MGMT"
-package_of CleanAuditTrail = codes "DBMS_AUDIT_MGMT"
 
 -- The object that the record of a statement names: a user, a role or a policy, without an owner; SYS and the package of a
 -- call; else the table that it names, of a query the first; none for GRANT and REVOKE of rights, COMMIT and ROLLBACK.

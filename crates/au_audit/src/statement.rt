@@ -1,7 +1,8 @@
 //! What auditing asks of a statement.
 ghost use Rattle.std.specs.Prelude.{◌≡◌, ◌++◌, ◌∷◌, [], IfOk, OnOk, Option, Some, None, IsUtf8, codes, map};
 ghost use Rattle.au_base.specs.BuiltIn.{resolved_table};
-ghost use Rattle.au_audit.specs.Statements.{IsPasswordIn, IsPlaced, action_of, first_object, from_tables, grant_action, grant_tables, object_of, package_of, recorded_text, tables_of, without_password, written_tables};
+ghost use Rattle.sql_ast.specs.Procedures.{package_of};
+ghost use Rattle.au_audit.specs.Statements.{IsPasswordIn, IsPlaced, action_of, first_object, from_tables, grant_action, grant_tables, object_of, recorded_text, tables_of, without_password, written_tables};
 
 use au_base::{Action, List, Memory, Name, TableName, TableReference, Text};
 use sql_ast::{FromClause, GrantStatement, Join, Password, Procedure, Statement};
@@ -175,26 +176,13 @@ fn lone(name: &Name) -> Result<Option<(Option<Name>, Name)>, Memory>
     Ok(Some((None, name.clone()?)))
 }
 
+#[tactic(auto, using(crate::proofs::Packages::package_long))]
 fn package(alloc: Global, procedure: Procedure) -> Result<Option<(Option<Name>, Name)>, Memory>
     ensures { IfOk result (λ object. object ≡ Some (Some (codes "SYS"), package_of procedure)) }
 {
     let owner = Name::from_str(alloc, "SYS")?;
-    let name = package_of(alloc, procedure)?;
+    let name = Name::from_str(alloc, procedure.package())?;
     Ok(Some((Some(owner), name)))
-}
-
-fn package_of(alloc: Global, procedure: Procedure) -> Result<Name, Memory>
-    ensures { IfOk result (λ name. name ≡ package_of procedure) }
-{
-    match procedure {
-        Procedure::AddPolicy
-        | Procedure::DropPolicy
-        | Procedure::EnablePolicy
-        | Procedure::DisablePolicy => Name::from_str(alloc, "DBMS_FGA"),
-        Procedure::SetLastArchiveTimestamp
-        | Procedure::ClearLastArchiveTimestamp
-        | Procedure::CleanAuditTrail => Name::from_str(alloc, "DBMS_AUDIT_MGMT"),
-    }
 }
 
 /// The text of the statement as its record has it: as it was given, with a `*` in the place of a

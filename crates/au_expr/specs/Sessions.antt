@@ -1,5 +1,5 @@
 -- What an expression reads of its session (SQL Language Reference, "USER", "SYSTIMESTAMP" and "SYS_CONTEXT").
-use Rattle.std.specs.Prelude.{◌≢◌, ◌≤◌, ◌<◌, ◌^◌, ℕ, Bool, List, [], codes, if◌then◌else◌}
+use Rattle.std.specs.Prelude.{◌≢◌, ◌≤◌, ◌<◌, ◌^◌, ℕ, Bool, List, [], if◌then◌else◌}
 use Rattle.std.specs.Fmt.{decimal}
 use Rattle.std.specs.Str.{bytes_eq}
 use Rattle.au_base.specs.declared.cell.Cell.{Cell}
@@ -7,6 +7,8 @@ use Rattle.au_base.specs.declared.cell.Cell.TheVariants as cell
 use Rattle.au_base.specs.declared.numbers.SessionNo.{SessionNo}
 use Rattle.au_base.specs.declared.numbers.Stamp.{Stamp}
 use Rattle.au_base.specs.Limits.{LAST_MOMENT}
+use Rattle.sql_ast.specs.Attributes.{attribute_name}
+use Rattle.sql_ast.specs.declared.context.Attribute.TheVariants.{SessionId, SessionUser}
 
 -- the user's name, the session's number and the moment of the event
 pub record Session : Type 0 where
@@ -26,12 +28,13 @@ number_cell session = cell.Text (decimal session.session.0)
 abbrev pub now_cell : Session → Cell
 now_cell session = cell.Moment session.stamp.0
 
--- what SYS_CONTEXT of USERENV names
+-- what SYS_CONTEXT of USERENV names: the session's number
 abbrev pub is_number : List ℕ → Bool
-is_number attribute = bytes_eq attribute (codes "SESSIONID")
+is_number attribute = bytes_eq attribute (attribute_name SessionId)
 
+-- or the user
 abbrev pub is_user : List ℕ → Bool
-is_user attribute = bytes_eq attribute (codes "SESSION_USER")
+is_user attribute = bytes_eq attribute (attribute_name SessionUser)
 
 -- SYS_CONTEXT of USERENV: SESSIONID, SESSION_USER, and nothing else
 abbrev pub context_cell : Session → List ℕ → Cell

@@ -14,7 +14,7 @@ use crate::agreed::{Agreed, are_all_one_kind, are_one_kind, goes_with};
 use crate::lookup::columns_meant;
 use crate::naming::{first_of, name_code};
 use au_base::{Code, Column, ColumnKind, List, Name, Text};
-use sql_ast::Expr;
+use sql_ast::{Attribute, Expr};
 
 /// The kind of an expression over some ranges. The code is the first of 904 and 918 in written
 /// order, and where there is neither, 932 exactly where some part is of a wrong kind. It takes no
@@ -119,10 +119,13 @@ fn kind_in(expr: &Expr, ranges: &[(Name, List<Column>)]) -> Option<ExprKind>
 fn kind_of_context(attribute: &Text) -> ExprKind
     ensures { result ≡ spec.kind_of_context attribute.now }
 {
-    match attribute.as_str() {
-        "SESSIONID" | "SESSION_USER" => ExprKind::Of(ColumnKind::Text),
-        _ => ExprKind::Any,
+    if attribute.as_str() == Attribute::SessionId.name() {
+        return ExprKind::Of(ColumnKind::Text);
     }
+    if attribute.as_str() == Attribute::SessionUser.name() {
+        return ExprKind::Of(ColumnKind::Text);
+    }
+    ExprKind::Any
 }
 
 fn truth_where(holds: bool) -> Option<ExprKind>

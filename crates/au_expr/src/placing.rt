@@ -7,7 +7,7 @@ ghost use Rattle.au_expr.specs.Descent.{column_of_meant};
 use crate::Placed;
 use crate::lookup::{Meant, columns_meant};
 use au_base::{Boxed, Column, List, Memory, Name, Text};
-use sql_ast::Expr;
+use sql_ast::{Attribute, Expr};
 use std::alloc::Global;
 
 /// The expression with the places of its columns. A column whose name doesn't mean one column is
@@ -71,11 +71,13 @@ fn place_column(meant: Meant) -> Placed
 fn place_context(attribute: &Text) -> Placed
     ensures { result ≡ spec.context_at attribute.now }
 {
-    match attribute.as_str() {
-        "SESSIONID" => Placed::SessionNumber,
-        "SESSION_USER" => Placed::User,
-        _ => Placed::Null,
+    if attribute.as_str() == Attribute::SessionId.name() {
+        return Placed::SessionNumber;
     }
+    if attribute.as_str() == Attribute::SessionUser.name() {
+        return Placed::User;
+    }
+    Placed::Null
 }
 
 #[cycle(place)]

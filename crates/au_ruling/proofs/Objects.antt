@@ -9,12 +9,13 @@ use Rattle.std.proofs.lemmas.List.Sums.{AllPass-from_list_all}
 use Rattle.std.proofs.lemmas.Str.{IsUtf8-from_ascii}
 use Rattle.std.proofs.lemmas.Str.Ascii.{IsAscii-from_all}
 use Rattle.au_admin.specs.Names as administration
-use Rattle.au_audit.specs.Statements.{first_object, object_of, package_of, written_tables}
+use Rattle.au_audit.specs.Statements.{first_object, object_of, written_tables}
 use Rattle.au_base.specs.BuiltIn.{audsys, dual_name, owner_in, sys, trail_name}
 use Rattle.au_base.specs.Naming.{IsName}
 use Rattle.au_base.specs.declared.table.TableReference.{TableReference}
 use Rattle.au_define.specs.Names.{IsNamed, IsOwnerNamed, IsTableNamed}
 use Rattle.au_ruling.specs.Sound.{IsNamedObject}
+use Rattle.sql_ast.specs.Procedures.{package_of}
 use Rattle.sql_ast.specs.declared.call.Procedure.{Procedure}
 use Rattle.sql_ast.specs.declared.call.Procedure.TheVariants as procedure
 use Rattle.sql_ast.specs.declared.statement.Statement.{Statement}

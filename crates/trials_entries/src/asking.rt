@@ -1,7 +1,7 @@
 //! The calls.
 
 use crate::trial::Trial;
-use crate::{matching, reading, record, writing};
+use crate::{matching, numbers, reading, record, writing};
 use au_audit::{audited, noaudited};
 use au_base::Code;
 use au_entries::{Enabled, enabled_for};
@@ -24,6 +24,7 @@ pub fn answer(alloc: Global, trial: &mut Trial, line: &str) -> Result<String, Fa
         "noaudit" => noaudit(alloc, &mut trial.enabled, line),
         "enabled" => is_enabled(alloc, &trial.enabled, line),
         "row" => record::row(alloc, line),
+        "numbers" => numbers::numbers(alloc, line),
         _ => matching::answer(alloc, trial, line),
     }
 }
