@@ -1,17 +1,13 @@
 -- The steps that are counted, by the facts of the event.
 use Rattle.std.proofs.Common.{◌≡◌, ◌∙◌, ℕ, Bool, false, inl, inr, sym}
 use Rattle.std.specs.Prelude.{is_some}
-use Rattle.au_audit.specs.Statements.{logon_facts, statement_facts}
+use Rattle.au_audit.specs.Statements.{logon_facts}
 use Rattle.au_base.specs.declared.numbers.ClientNo.{ClientNo}
 use Rattle.au_entries.specs.declared.facts.Facts.{Facts}
 use Rattle.au_logon.specs.declared.admission.Admission.{Admission}
-use Rattle.au_ruling.specs.declared.ruling.Ruling.{Ruling}
-use Rattle.au_ruling.specs.Rulings.{Comes}
-use Rattle.au_step.specs.declared.session.Session.{Session}
 use Rattle.au_step.specs.State.{State}
-use Rattle.au_step.specs.Step.{decided_in, ground_of, session_of}
-use Rattle.au_engine.specs.Counting.{AreLogonFacts, AreStatementFacts, CountsUp}
-use Rattle.sql_ast.specs.declared.statement.Statement.{Statement}
+use Rattle.au_step.specs.Step.{session_of}
+use Rattle.au_engine.specs.Counting.{AreLogonFacts, CountsUp}
 
 -- what is counted by facts of one kind is counted by those of another that they are too
 pub counts_by : (m : State) (A B : Facts → Type 0) (old new : ℕ) → ((facts : Facts) → A facts → B facts) → CountsUp m A old new → CountsUp m B old new
@@ -23,9 +19,3 @@ pub logon_counts : (Is : Admission → Type 0) (m : State) (client : ClientNo) (
     → CountsUp m (λ facts. facts ≡ logon_facts admission.user admission.used admission.code) old new → CountsUp m (AreLogonFacts Is m client) old new
 logon_counts Is m client stands admission old new is out it counted =
     counts_by m (λ facts. facts ≡ logon_facts admission.user admission.used admission.code) (AreLogonFacts Is m client) old new (λ facts are. (sym is ∙ out, admission, it, are)) counted
-
--- the facts of a statement are those of the ruling to which it comes
-pub statement_counts : (m : State) (session : Session) (statement : Statement) (stamp : ℕ) (ruling : Ruling) (old new : ℕ) → Comes (ground_of (decided_in m session.client statement) session statement stamp) statement ruling
-    → CountsUp m (λ facts. facts ≡ statement_facts session.user statement ruling.used ruling.code) old new → CountsUp m (AreStatementFacts m session statement stamp) old new
-statement_counts m session statement stamp ruling old new comes counted =
-    counts_by m (λ facts. facts ≡ statement_facts session.user statement ruling.used ruling.code) (AreStatementFacts m session statement stamp) old new (λ facts are. (ruling, comes, are)) counted

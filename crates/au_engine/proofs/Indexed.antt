@@ -1,6 +1,7 @@
 -- What a step that is worked out makes of the catalogue, and of what is ready for the index of its policies.
-use Rattle.std.proofs.Common.{◌≡◌, ◌∙◌, ◌∷◌, Bool, true, false, List, [], ℕ, refl, sym, ap, subst}
-use Rattle.std.specs.Prelude.{IfOk, IfSome, IsTrue, Option, None, Some, Result, Ok, Err, IsErrAnd, is_none}
+use Rattle.std.proofs.Common.{◌≡◌, ◌∙◌, ◌∷◌, Bool, true, false, List, [], ℕ, length, refl, sym, ap, subst}
+use Rattle.std.specs.List.{list_any}
+use Rattle.std.specs.Prelude.{IfOk, IfSome, IsSome, IsTrue, Option, None, Some, Result, Ok, Err, IsErrAnd, is_none}
 use Rattle.au_base.specs.declared.memory.Memory.{Memory}
 use Rattle.au_base.specs.declared.numbers.ClientNo.{ClientNo}
 use Rattle.au_catalog.specs.Settling.{catalog_after_all, catalog_of}
@@ -9,12 +10,13 @@ use Rattle.au_entries.specs.declared.change.Change.{Change}
 use Rattle.au_entries.specs.declared.kept.Kept.{Kept}
 use Rattle.au_entries.specs.Changing.{changed_all}
 use Rattle.au_expr.specs.Resolving.{IsCondition, condition_code}
+use Rattle.au_pindex.specs.Changing.{changes_policies}
 use Rattle.au_pindex.specs.Staging as indexes
 use Rattle.au_pindex.specs.declared.staged.StagedIndex.{StagedIndex}
 use Rattle.au_replay.specs.Reading.{conditions}
 use Rattle.au_step.specs.State.{State}
 use Rattle.au_engine.specs.declared.outcome.Outcome.{Outcome}
-use Rattle.au_engine.specs.Prepared.{committed_by, logged_by, made_of}
+use Rattle.au_engine.specs.Prepared.{IsIndexReady, committed_by, logged_by, made_of}
 use Rattle.sql_ast.specs.declared.expression.Expr.{Expr}
 
 none_is : {X : Type 0} (o : Option X) → is_none o ≡ true → o ≡ None
@@ -43,6 +45,15 @@ pub ready_between : (r : Result (Option StagedIndex) Memory) (one other after la
 ready_between r one other after later same then is =
     subst (λ (k : Catalog). IfOk r (λ ready. IfSome ready (indexes.IsStaged k later))) same
     (subst (λ (k : Catalog). IfOk r (λ ready. IfSome ready (indexes.IsStaged one k))) then is)
+
+-- what is ready for the index, where the changes are those of the step
+pub index_ready : (r : Result (Option StagedIndex) Memory) (changes logged : List Change) → changes ≡ logged → (length changes ≡ 1 → IfOk r IsSome) → (list_any changes_policies changes ≡ false → IfOk r IsSome)
+    → IfOk r (IsIndexReady logged)
+index_ready (Ok ready) changes logged same one others = record {
+  one = λ is. one (ap length same ∙ is);
+  others = λ is. others (ap (list_any changes_policies) same ∙ is);
+}
+index_ready (Err short) changes logged same one others = tt
 
 -- nothing is asked of what failed
 pub none_ok : {X E : Type 0} (Q : E → Type 0) (r : Result X E) (P : X → Type 0) → IsErrAnd r Q → IfOk r P

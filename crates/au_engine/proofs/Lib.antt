@@ -7,6 +7,7 @@ pub mod Concluded
 pub mod Counting
 pub mod Counts
 pub mod Events
+pub mod Forgotten
 pub mod Indexed
 pub mod Left
 pub mod Mapped

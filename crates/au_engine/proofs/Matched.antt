@@ -1,6 +1,6 @@
 -- What is so of a client's session, by the session that is lent.
-use Rattle.std.proofs.Common.{◌≡◌, ◌∙◌, sym, ap, subst}
-use Rattle.std.specs.Prelude.{MatchOption, Option, Some, None, is_some, option_map}
+use Rattle.std.proofs.Common.{◌≡◌, ◌∙◌, sym, subst}
+use Rattle.std.specs.Prelude.{MatchOption, Option, Some, None, option_map}
 use Rattle.au_step.specs.declared.session.Session.{Session}
 use Rattle.au_step.specs.State.{OpenSession}
 
@@ -26,8 +26,3 @@ seat_taken (Some seat) given session X P is some it =
 pub none_given : (found : Option OpenSession) (given : Option Session) (X : Type 0) (P : OpenSession → Type 0) → given ≡ option_map (λ (s : OpenSession). s.session) found → given ≡ None → X → MatchOption found X P
 none_given None given X P is none it = it
 none_given (Some seat) given X P is none it = absurd (let e : Some seat.session ≡ None = sym is ∙ none in cc)
-
--- the client has a session where one is lent
-pub some_given : (found : Option OpenSession) (given : Option Session) → given ≡ option_map (λ (s : OpenSession). s.session) found → is_some given ≡ is_some found
-some_given None given is = ap (λ (o : Option Session). is_some o) is
-some_given (Some seat) given is = ap (λ (o : Option Session). is_some o) is

@@ -1,6 +1,6 @@
 -- What a step that is worked out, and one that is prepared, make of a state.
-use Rattle.std.specs.Prelude.{◌≡◌, ◌≢◌, ◌<◌, ◌≤◌, ◌+◌, ⊤, ℕ, Bool, ◌==◌, if◌then◌else◌, IsTrue, List, [], ◌∷◌, ◌++◌, length, map, take, drop, IfSome, Option, None, Some, is_some}
-use Rattle.std.specs.List.{filter_map}
+use Rattle.std.specs.Prelude.{◌≡◌, ◌≢◌, ◌<◌, ◌≤◌, ◌+◌, ⊤, ℕ, Bool, false, ◌==◌, if◌then◌else◌, IsTrue, List, [], ◌∷◌, ◌++◌, length, map, take, drop, IfSome, IsSome, Option, None, Some, is_some}
+use Rattle.std.specs.List.{filter_map, list_any}
 use Rattle.au_audit.specs.Conditions.{forgetting}
 use Rattle.au_base.specs.declared.cell.Cell.{Cell}
 use Rattle.au_base.specs.declared.numbers.ClientNo.{ClientNo}
@@ -11,6 +11,8 @@ use Rattle.au_entries.specs.Frames.{after_parts}
 use Rattle.au_kept.specs.Keeping.{desk_of}
 use Rattle.au_kept.specs.Staging.{CanSettle, IsLogged, IsStaged}
 use Rattle.au_kept.specs.Staging as keepings
+use Rattle.au_pindex.specs.declared.staged.StagedIndex.{StagedIndex}
+use Rattle.au_pindex.specs.Changing.{changes_policies}
 use Rattle.au_pindex.specs.Staging as indexes
 use Rattle.au_replay.specs.Reading.{conditions}
 use Rattle.au_step.specs.Abandoning.{sessions_without}
@@ -158,6 +160,11 @@ HasSpareFor _ client desk = ⊤
 abbrev pub HasSpare : SessionChange → Desk → Type 0
 HasSpare (Counts client statements entries results forgets change) desk = HasSpareFor change client desk
 HasSpare _ desk = ⊤
+
+-- These changes are ready to be made of the index of the audit policies, where they are one, or none of them is of policies.
+pub record IsIndexReady (changes : List Change) (ready : Option StagedIndex) : Type 0 where
+  pub one : length changes ≡ 1 → IsSome ready
+  pub others : list_any changes_policies changes ≡ false → IsSome ready
 
 -- What is ready are the step's changes, and it fits what is kept, which can be settled so: what is kept then is what a frame
 -- with all of its changes makes of it. What its client writes can be written. There is room for all of it, and a seat for a

@@ -1,5 +1,5 @@
 //! The engine: the whole state.
-ghost use Rattle.std.specs.Prelude.{◌≡◌, ◌↔◌, ◌<◌, [], IfOk, IfSome, IsTrue, OnErr, OnOk, if◌then◌else◌, is_some};
+ghost use Rattle.std.specs.Prelude.{◌≡◌, ◌↔◌, ◌<◌, [], IfOk, IfSome, IsSome, IsTrue, OnErr, OnOk, if◌then◌else◌, is_some};
 ghost use Rattle.au_base.specs.Limits.{INSTANCES};
 ghost use Rattle.au_base.specs.declared.numbers.ClientNo.{ClientNo as Client};
 ghost use Rattle.au_entries.specs.Imaging.{nothing};
@@ -18,6 +18,7 @@ ghost use Rattle.au_engine.specs.Prepared.{Fits, after, instance_after};
 ghost use Rattle.au_engine.specs.Reserved.{contents_of};
 ghost use Rattle.au_kept.specs.Keeping.{HoldsTogether, desk_of};
 ghost use Rattle.au_catalog.specs.declared.catalog.Catalog.{Catalog};
+ghost use Rattle.au_catalog.specs.Settling.{catalog_of};
 ghost use Rattle.au_pindex.specs.Indexing.{IsIndexOf};
 ghost use Rattle.au_pindex.specs.Staging as indexes;
 ghost use Rattle.rec_codec.specs.Frames.{IsSpellable, framed};
@@ -120,7 +121,7 @@ impl Engine {
     }
 
     /// The records of the trail, oldest first.
-    pub fn trail(&self) -> &[Record]
+    pub(crate) fn trail(&self) -> &[Record]
         ensures { result.now ≡ self.now.state.kept.trail }
     {
         self.keeping.trail()
@@ -173,11 +174,13 @@ impl Engine {
         })
     }
 
-    /// Makes a step that was worked out. It takes no memory and can't fail.
+    /// Makes a step that was worked out. It takes no memory and can't fail. The index of the audit
+    /// policies stays, where the step has its changes ready for it.
     pub fn apply(&mut self, prepared: Prepared) -> Reply
         requires { Fits prepared self.old }
         ensures reply { result ≡ prepared.reply }
         ensures next { self.new.state ≡ after prepared self.old.state }
+        ensures index { IsSome self.old.index → IsSome prepared.index → IsSome self.new.index }
     {
         self.keeping.holds_together();
         let Prepared {
@@ -246,6 +249,14 @@ impl Engine {
         self.holds_together();
     }
 
+    /// The index of the audit policies, where it is made, is that of the catalogue. It does nothing, and
+    /// states the law for its callers.
+    pub fn index_is_of_catalogue(&self)
+        ensures { IfSome self.now.index (IsIndexOf (catalog_of self.now.state.kept)) }
+    {
+        let _index = &self.index;
+    }
+
     /// What holds of every engine: its state is lawful, no client has two sessions, one without a
     /// session has no changes of rows, and the desk has each client's transaction. It does nothing, and
     /// states it for its callers.
@@ -300,7 +311,8 @@ impl Engine {
 // Makes the changes of the index that are ready, or drops the index where none are. It takes no memory.
 fn settle_index(index: &mut Option<Index>, ready: Option<StagedIndex>)
     requires { IfSome index.old (λ made. IfSome ready (λ staged. indexes.Fits staged made)) }
-    ensures { (catalog after : Catalog) → IfSome ready (indexes.IsStaged catalog after) → IfSome index.old (IsIndexOf catalog) → IfSome index.new (IsIndexOf after) }
+    ensures leads { (catalog after : Catalog) → IfSome ready (indexes.IsStaged catalog after) → IfSome index.old (IsIndexOf catalog) → IfSome index.new (IsIndexOf after) }
+    ensures stays { IsSome index.old → IsSome ready → IsSome index.new }
 {
     match ready {
         Some(staged) => settle_made(index, staged),
@@ -311,7 +323,8 @@ fn settle_index(index: &mut Option<Index>, ready: Option<StagedIndex>)
 // Makes the changes of the index that are ready, where it is made.
 fn settle_made(index: &mut Option<Index>, staged: StagedIndex)
     requires { IfSome index.old (indexes.Fits staged) }
-    ensures { (catalog after : Catalog) → indexes.IsStaged catalog after staged → IfSome index.old (IsIndexOf catalog) → IfSome index.new (IsIndexOf after) }
+    ensures leads { (catalog after : Catalog) → indexes.IsStaged catalog after staged → IfSome index.old (IsIndexOf catalog) → IfSome index.new (IsIndexOf after) }
+    ensures stays { IsSome index.old → IsSome index.new }
 {
     if let Some(index) = index {
         index.settle(staged);

@@ -1,5 +1,6 @@
 //! Steps, worked out and made ready.
-ghost use Rattle.std.specs.Prelude.{◌≡◌, ◌≢◌, ◌<◌, ◌≤◌, IfOk, IfSome, IsSome, OnOk, map};
+ghost use Rattle.std.specs.Prelude.{◌≡◌, ◌≢◌, ◌<◌, ◌≤◌, IfOk, IfSome, IsSome, OnOk, false, length, map};
+ghost use Rattle.std.specs.List.{list_any};
 ghost use Rattle.au_step.specs.Framing.{Writes};
 ghost use Rattle.au_step.specs.Planning.{IsPlanFor};
 ghost use Rattle.au_step.specs.Reading.{IsReadOf};
@@ -8,10 +9,11 @@ ghost use Rattle.au_step.specs.State.{IsStampOf};
 ghost use Rattle.au_step.specs.Step.{LoggedStep, StepAt};
 ghost use Rattle.au_engine.specs.Counting.{CountsFor};
 ghost use Rattle.au_engine.specs.Inside.{CanBeMade};
-ghost use Rattle.au_engine.specs.Prepared.{Fits, HasSpare, after, logged_by, logged_of, made_of};
+ghost use Rattle.au_engine.specs.Prepared.{Fits, HasSpare, IsIndexReady, after, logged_by, logged_of, made_of};
 ghost use Rattle.au_engine.specs.Reserved.{contents_of};
 ghost use Rattle.au_catalog.specs.Settling.{catalog_after_all, catalog_of, condition_texts};
 ghost use Rattle.au_kept.specs.Keeping.{desk_of};
+ghost use Rattle.au_pindex.specs.Changing.{changes_policies};
 ghost use Rattle.au_pindex.specs.Indexing.{IsIndexOf};
 ghost use Rattle.au_pindex.specs.Staging as indexes;
 ghost use Rattle.au_policy.specs.Asking.{CanBeAsked};
@@ -40,7 +42,7 @@ impl Engine {
     /// comes. The results that the session and the instance keep of conditions are copied. Of the audit
     /// policies those are tested that aren't Off and name the event, one step each; at the first step
     /// behind a replay, and behind one that made several changes of which some are of policies, the
-    /// index of all is made before.
+    /// index of all is made before. One that is made stays, whatever is answered.
     pub fn prepare<L: Ledger>(
         &mut self,
         alloc: Global,
@@ -61,6 +63,9 @@ impl Engine {
         ensures writes { IfOk result (λ prepared. Writes self.old.state client ask.now stamp.0 (after prepared self.old.state) prepared.framed) }
         ensures keeps { self.new.state ≡ self.old.state }
         ensures fits { IfOk result (λ prepared. Fits prepared self.new) }
+        ensures index { OnOk result (IsSome self.new.index) }
+        ensures stays { IsSome self.old.index → IsSome self.new.index }
+        ensures follows { IfOk result (λ prepared. IsIndexReady (logged_of prepared).changes prepared.index) }
         ensures steps { CountsFor self.old.state client ask.now stamp.0 steps.old steps.new }
     {
         self.reserve()?;
@@ -78,6 +83,7 @@ impl Engine {
         ensures keeps { self.new.state ≡ self.old.state }
         ensures seats { self.new.seats ≡ self.old.seats }
         ensures index { OnOk result (IsSome self.new.index) }
+        ensures stays { IsSome self.old.index → IsSome self.new.index }
     {
         if self.index.is_none() {
             self.holds_together();
@@ -90,6 +96,7 @@ impl Engine {
     // Makes room for a session.
     fn reserve(&mut self) -> Result<(), Memory>
         ensures keeps { self.new.state ≡ self.old.state }
+        ensures index { self.new.index ≡ self.old.index }
         ensures seat { OnOk result (0 < self.new.seats) }
     {
         self.sessions.reserve(1)?;
@@ -192,6 +199,8 @@ impl Engine {
         requires index { IsSome self.old.index }
         ensures leads { IfOk result (λ ready. IfSome ready (indexes.IsStaged (catalog_of self.old.state.kept) (catalog_of (made_of outcome.now self.old.state).kept))) }
         ensures fits { IfOk result (λ ready. IfSome self.new.index (λ index. IfSome ready (λ staged. indexes.Fits staged index))) }
+        ensures made { IsSome self.new.index }
+        ensures follows { IfOk result (IsIndexReady (logged_by outcome.now).changes) }
         ensures contents { contents_of self.new ≡ contents_of self.old }
         ensures keeps { self.new.state ≡ self.old.state }
         ensures seats { self.new.seats ≡ self.old.seats }
@@ -227,11 +236,14 @@ impl Engine {
         requires spare { HasSpare outcome.sessions (desk_of (contents_of self.old)) }
         requires leads { IfSome index (indexes.IsStaged (catalog_of self.old.state.kept) (catalog_of (made_of outcome self.old.state).kept)) }
         requires index { IfSome self.old.index (λ made. IfSome index (λ staged. indexes.Fits staged made)) }
+        requires follows { IsIndexReady (logged_by outcome).changes index }
         ensures reply { IfOk result (λ prepared. prepared.reply ≡ outcome.reply) }
         ensures after { IfOk result (λ prepared. after prepared self.old.state ≡ made_of outcome self.old.state) }
         ensures framed { IfOk result (λ prepared. prepared.framed ≡ outcome.framed) }
         ensures logged { IfOk result (λ prepared. logged_of prepared ≡ logged_by outcome) }
+        ensures follows { IfOk result (λ prepared. IsIndexReady (logged_of prepared).changes prepared.index) }
         ensures keeps { self.new.state ≡ self.old.state }
+        ensures index { self.new.index ≡ self.old.index }
         ensures fits { IfOk result (λ prepared. Fits prepared self.new) }
     {
         self.holds_together();
@@ -286,6 +298,8 @@ fn staged_on(
     ensures fits { IfOk result (λ ready. IfSome index.new (λ made. IfSome ready (λ staged. indexes.Fits staged made))) }
     ensures index { IfSome index.new (IsIndexOf catalog.now) }
     ensures made { IsSome index.new }
+    ensures one { length changes.now ≡ 1 → IfOk result IsSome }
+    ensures others { list_any changes_policies changes.now ≡ false → IfOk result IsSome }
 {
     match index {
         Some(index) => index.stage(alloc, catalog, changes, trees),

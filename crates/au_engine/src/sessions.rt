@@ -85,8 +85,20 @@ pub(crate) fn count(
     set_counts(sessions, client, statements, entries, results);
 }
 
-// All sessions forget the results of the policies.
+// All sessions forget the results of the policies. Where there are none, no session is gone over.
 fn forget_in_all(sessions: &mut Vec<Session>, forgets: &[Name])
+    ensures items { sessions.new.items ≡ map (forgotten forgets.now) sessions.old.items }
+    ensures len { vec_len sessions.new ≡ vec_len sessions.old }
+    ensures capacity { vec_capacity sessions.new ≡ vec_capacity sessions.old }
+{
+    if forgets.is_empty() {
+        return;
+    }
+    forget_in_each(sessions, forgets);
+}
+
+// Goes over the sessions, each of which forgets the results of the policies.
+fn forget_in_each(sessions: &mut Vec<Session>, forgets: &[Name])
     ensures items { sessions.new.items ≡ map (forgotten forgets.now) sessions.old.items }
     ensures len { vec_len sessions.new ≡ vec_len sessions.old }
     ensures capacity { vec_capacity sessions.new ≡ vec_capacity sessions.old }

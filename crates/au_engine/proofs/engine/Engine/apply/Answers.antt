@@ -1,5 +1,5 @@
 use Rattle.std.proofs.Common.{◌≡◌, ◌∙◌, ◌≤◌, ℕ, Bool, List, length, map, drop, refl, sym, ap, subst, arith}
-use Rattle.std.specs.Prelude.{IfSome, None}
+use Rattle.std.specs.Prelude.{IfSome, IsSome, None}
 use Rattle.au_catalog.specs.Settling.{catalog_of}
 use Rattle.au_pindex.specs.Staging as indexes
 use Rattle.au_base.specs.declared.numbers.ClientNo.{ClientNo}
@@ -86,7 +86,7 @@ invariant_of-self c =
       subst IsLawfulState (sym is) (subst (λ (e : Reserved). IsLawfulState (after p e.state)) back c.requires.lawful),
       subst (λ (s : State). HaveOneEach s.sessions) (sym is) apart,
       (λ q none. quiet_after p.sessions e.keeping.logs c.settle.new.keeping.logs m.sessions c.settle.ensures.lists was.3 stands q (subst (λ (s : State). session_of s.sessions q ≡ None) is none)),
-      c.settle_index.ensures (catalog_of e.keeping.kept) (catalog_of c.settle.new.keeping.kept) (subst (λ (k : Kept). IfSome p.index (indexes.IsStaged (catalog_of e.keeping.kept) (catalog_of k))) (sym kept) leads) was.4,
+      c.settle_index.ensures.leads (catalog_of e.keeping.kept) (catalog_of c.settle.new.keeping.kept) (subst (λ (k : Kept). IfSome p.index (indexes.IsStaged (catalog_of e.keeping.kept) (catalog_of k))) (sym kept) leads) was.4,
     )
 
 pub returns-clause-next : goal.returns-clause-next
@@ -103,3 +103,6 @@ returns-clause-next c =
     made p _ _ e.keeping.logs c.settle.new.keeping.logs e.sessions.items _ e.drawn _ e.results _ kept c.settle.ensures.items c.settle.ensures.lists
     (begins_quiet p.sessions e.keeping.logs m.sessions apart was.3) c.drawn_after-self-inside.ensures c.set_results.ensures
     ∙ ap (λ (e : Reserved). after p e.state) c.self.view_is
+
+pub returns-clause-index : goal.returns-clause-index
+returns-clause-index c = λ was ready. c.settle_index.ensures.stays (subst (λ (e : Reserved). IsSome e.index) (sym c.self.view_is) was) ready

@@ -7,7 +7,7 @@ use Rattle.au_replay.specs.Reading.{HasShortText, conditions}
 use Rattle.rec_codec.specs.Changes.{IsChangeSpellable}
 use Rattle.au_engine.specs.Prepared.{logged_by, made_of}
 use Rattle.au_engine.specs.Reserved.{Reserved}
-use Rattle.au_engine.proofs.Indexed.{catalog_made, ready_between, truth_over_none}
+use Rattle.au_engine.proofs.Indexed.{catalog_made, index_ready, ready_between, truth_over_none}
 use Rattle.au_engine.proofs.Settled.{all_behind}
 use Rattle.au_engine.proofs.Settles.{short}
 use Rattle.au_engine.proofs.engine.Engine.stage_index.Goals as goal
@@ -47,3 +47,6 @@ returns-clause-leads c =
     ready_between _ _ _ _ _ same
     (ap₂ (catalog_after_all conditions.tree) c.behind-changes.ensures same ∙ sym (catalog_made c.catalogues_change_by_their_parts.ensures a.outcome.now m))
     c.staged_on.ensures.staged
+
+pub returns-clause-follows : goal.returns-clause-follows
+returns-clause-follows c = index_ready _ _ _ c.behind-changes.ensures c.staged_on.ensures.one c.staged_on.ensures.others

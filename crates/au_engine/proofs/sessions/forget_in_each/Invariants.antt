@@ -1,6 +1,6 @@
 use Rattle.std.proofs.Common.{◌≡◌, ◌++◌, map, take, drop, vec_capacity, vec_len}
 use Rattle.au_engine.specs.Sessions.{forgotten}
-use Rattle.au_engine.proofs.sessions.forget_in_all.Given as goal
+use Rattle.au_engine.proofs.sessions.forget_in_each.Given as goal
 
 abbrev pub invariant-loop-place : goal.invariant-loop-place
 invariant-loop-place l = record {
