@@ -56,6 +56,9 @@ stage-requires-clause-few c =
 pub returns-in_err-staged-clause-fits : goal.returns-in_err-staged-clause-fits
 returns-in_err-staged-clause-fits c = none_ok _ c.from_residual.result _ c.from_residual.ensures.1
 
+pub returns-in_err-staged-clause-follows : goal.returns-in_err-staged-clause-follows
+returns-in_err-staged-clause-follows c = none_ok _ c.from_residual.result _ c.from_residual.ensures.1
+
 pub returns-clause-fits : goal.returns-clause-fits
 returns-clause-fits c =
     let a = c.args in
