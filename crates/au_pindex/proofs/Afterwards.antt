@@ -5,7 +5,7 @@ use Rattle.std.specs.List.{AllByRecursion, filter, list_any}
 use Rattle.std.specs.Ordering.{is_gt, is_lt}
 use Rattle.std.specs.Prelude.{Option}
 use Rattle.au_catalog.specs.declared.catalog.Catalog.{Catalog}
-use Rattle.au_catalog.specs.Settling.{catalog_after, catalog_after_all, condition_texts, texts_in, when_texts}
+use Rattle.au_catalog.specs.Settling.{catalog_after, catalog_after_all, condition_texts, when_texts}
 use Rattle.au_base.specs.declared.action.Action.{Action}
 use Rattle.au_base.specs.declared.privilege.Privilege.{Privilege}
 use Rattle.au_base.specs.declared.table.TableName.{TableName}
@@ -22,9 +22,9 @@ use Rattle.au_pindex.specs.declared.staged.IndexEdit.{IndexEdit}
 use Rattle.au_pindex.specs.descent.Finding.{with_policy}
 use Rattle.au_pindex.specs.Indexing.{IsIndexOf}
 use Rattle.au_pindex.specs.descent.Edits.{Keeps, no_edit}
-use Rattle.au_pindex.specs.Staging.{Leads}
+use Rattle.au_pindex.specs.descent.Leading.{Leads}
 use Rattle.au_pindex.proofs.Leading.{leads_alone}
-use Rattle.au_pindex.proofs.Spared.{all_kept}
+use Rattle.au_pindex.proofs.Reserved.{all_kept}
 use Rattle.au_pindex.proofs.Stays.{enabled_stay, neither, policies_stay}
 use Rattle.sql_ast.specs.declared.expression.Expr.{Expr}
 
@@ -56,10 +56,7 @@ enabled_all_stay tree (change ∷ changes) catalog is =
     let parts = neither (changes_policies change) (list_any changes_policies changes) is in
     enabled_all_stay tree changes (catalog_after tree change catalog) parts.1 ∙ enabled_stay change catalog.enabled parts.0
 
--- ---- the texts of one change
-
-pub texts_of_one : (change : Change) → condition_texts (change ∷ []) ≡ texts_in change
-texts_of_one change = append-nil (texts_in change)
+-- ---- one of the policies
 
 -- what is so of all policies is so of one that is put among them
 middle : {X : Type 0} (P : X → Type 0) (xs ys : List X) (x : X) → AllByRecursion P (xs ++ x ∷ ys) → P x

@@ -16,12 +16,13 @@ use Rattle.au_pindex.specs.declared.shift.Shift.TheVariants.{Opens, Closes, Leav
 use Rattle.au_pindex.specs.declared.staged.IndexEdit.{IndexEdit}
 use Rattle.au_pindex.specs.declared.staged.Joining.{Joining}
 use Rattle.au_pindex.specs.Indexing.{AreBucketsOf, is_listed, table_cmp}
-use Rattle.au_pindex.specs.Naming.{names_action, names_privilege, names_role, names_table}
+use Rattle.au_pindex.specs.Naming.{has_action_part, has_object_part, has_privilege_part, has_role_part}
 use Rattle.au_pindex.specs.Places.{passes, passes_at}
 use Rattle.au_pindex.specs.descent.Rooms.{HasRoomFor, KeepsRoom}
 use Rattle.au_pindex.specs.descent.Settling.{AreEdited, AreJoinedBy, AreShiftedBy, HaveSamePlaces}
 use Rattle.au_pindex.specs.descent.Shifting.{came_from}
-use Rattle.au_pindex.specs.Staging.{FitsJoining, Leads, is_joined, shifted_from}
+use Rattle.au_pindex.specs.descent.Fitting.{FitsJoining}
+use Rattle.au_pindex.specs.descent.Leading.{Leads, is_joined, shifted_from}
 
 same_passes : (one other : ℕ → Bool) → ((s : ℕ) → one s ≡ other s) → (from : Option ℕ) → passes one from ≡ passes other from
 same_passes one other same None = refl
@@ -64,10 +65,10 @@ module _ {X : Type 0} (test : X → Bool) (xs : List X) (few : length xs < 2 ^ 6
 module _ (enabled later : List (List ℕ × Enabled)) (policies changed : List AuditPolicy) (few : length policies < 2 ^ 64) (old : Bucketed) (are : AreBucketsOf enabled policies old) where
   -- the places between a shift and what joins
   record Between (shift : Option Shift) (between : Bucketed) : Type 0 where
-    actions : (action : _) (at : ℕ) → is_in_bucket nat_cmp between.actions (actions.code_of action) at ≡ passes (passes_at (is_listed names_action enabled action) policies) (shifted_from shift at)
-    tables : (table : _) (at : ℕ) → is_in_bucket table_cmp between.tables table at ≡ passes (passes_at (is_listed names_table enabled table) policies) (shifted_from shift at)
-    privileges : (privilege : _) (at : ℕ) → is_in_bucket nat_cmp between.privileges (privileges.code_of privilege) at ≡ passes (passes_at (is_listed names_privilege enabled privilege) policies) (shifted_from shift at)
-    roles : (role : List ℕ) (at : ℕ) → is_in_bucket (slice_cmp nat_cmp) between.roles role at ≡ passes (passes_at (is_listed names_role enabled role) policies) (shifted_from shift at)
+    actions : (action : _) (at : ℕ) → is_in_bucket nat_cmp between.actions (actions.code_of action) at ≡ passes (passes_at (is_listed has_action_part enabled action) policies) (shifted_from shift at)
+    tables : (table : _) (at : ℕ) → is_in_bucket table_cmp between.tables table at ≡ passes (passes_at (is_listed has_object_part enabled table) policies) (shifted_from shift at)
+    privileges : (privilege : _) (at : ℕ) → is_in_bucket nat_cmp between.privileges (privileges.code_of privilege) at ≡ passes (passes_at (is_listed has_privilege_part enabled privilege) policies) (shifted_from shift at)
+    roles : (role : List ℕ) (at : ℕ) → is_in_bucket (slice_cmp nat_cmp) between.roles role at ≡ passes (passes_at (is_listed has_role_part enabled role) policies) (shifted_from shift at)
 
   between_of : (shift : Option Shift) (between : Bucketed) → AreShiftedBy shift old between → Between shift between
   between_of None between same = record {
@@ -77,32 +78,32 @@ module _ (enabled later : List (List ℕ × Enabled)) (policies changed : List A
     roles = λ role at. ap (λ (b : Bucketed). is_in_bucket (slice_cmp nat_cmp) b.roles role at) same ∙ are.roles role at;
   }
   between_of (Some shift) between shifted = record {
-    actions = λ action at. shifted_at (is_listed names_action enabled action) policies few (is_in_bucket nat_cmp old.actions (actions.code_of action)) (are.actions action) at shift _ (shifted.0.actions (actions.code_of action) at);
-    tables = λ table at. shifted_at (is_listed names_table enabled table) policies few (is_in_bucket table_cmp old.tables table) (are.tables table) at shift _ (shifted.0.tables table at);
-    privileges = λ privilege at. shifted_at (is_listed names_privilege enabled privilege) policies few (is_in_bucket nat_cmp old.privileges (privileges.code_of privilege)) (are.privileges privilege) at shift _ (shifted.0.privileges (privileges.code_of privilege) at);
-    roles = λ role at. shifted_at (is_listed names_role enabled role) policies few (is_in_bucket (slice_cmp nat_cmp) old.roles role) (are.roles role) at shift _ (shifted.0.roles role at);
+    actions = λ action at. shifted_at (is_listed has_action_part enabled action) policies few (is_in_bucket nat_cmp old.actions (actions.code_of action)) (are.actions action) at shift _ (shifted.0.actions (actions.code_of action) at);
+    tables = λ table at. shifted_at (is_listed has_object_part enabled table) policies few (is_in_bucket table_cmp old.tables table) (are.tables table) at shift _ (shifted.0.tables table at);
+    privileges = λ privilege at. shifted_at (is_listed has_privilege_part enabled privilege) policies few (is_in_bucket nat_cmp old.privileges (privileges.code_of privilege)) (are.privileges privilege) at shift _ (shifted.0.privileges (privileges.code_of privilege) at);
+    roles = λ role at. shifted_at (is_listed has_role_part enabled role) policies few (is_in_bucket (slice_cmp nat_cmp) old.roles role) (are.roles role) at shift _ (shifted.0.roles role at);
   }
 
   joined_of : (edit : IndexEdit) (between new : Bucketed) (joining : Option Joining) → edit.joining ≡ joining → Between edit.shift between → AreJoinedBy joining between new → Leads enabled policies later changed edit → AreBucketsOf later changed new
   joined_of edit between new None is b same leads = record {
     actions = λ action at. ap (λ (x : Bucketed). is_in_bucket nat_cmp x.actions (actions.code_of action) at) same ∙ b.actions action at
-        ∙ sym (leads.actions action at ∙ ap (λ j. is_joined names_action j action at || passes (passes_at (is_listed names_action enabled action) policies) (shifted_from edit.shift at)) is);
+        ∙ sym (leads.actions action at ∙ ap (λ j. is_joined has_action_part j action at || passes (passes_at (is_listed has_action_part enabled action) policies) (shifted_from edit.shift at)) is);
     tables = λ table at. ap (λ (x : Bucketed). is_in_bucket table_cmp x.tables table at) same ∙ b.tables table at
-        ∙ sym (leads.tables table at ∙ ap (λ j. is_joined names_table j table at || passes (passes_at (is_listed names_table enabled table) policies) (shifted_from edit.shift at)) is);
+        ∙ sym (leads.tables table at ∙ ap (λ j. is_joined has_object_part j table at || passes (passes_at (is_listed has_object_part enabled table) policies) (shifted_from edit.shift at)) is);
     privileges = λ privilege at. ap (λ (x : Bucketed). is_in_bucket nat_cmp x.privileges (privileges.code_of privilege) at) same ∙ b.privileges privilege at
-        ∙ sym (leads.privileges privilege at ∙ ap (λ j. is_joined names_privilege j privilege at || passes (passes_at (is_listed names_privilege enabled privilege) policies) (shifted_from edit.shift at)) is);
+        ∙ sym (leads.privileges privilege at ∙ ap (λ j. is_joined has_privilege_part j privilege at || passes (passes_at (is_listed has_privilege_part enabled privilege) policies) (shifted_from edit.shift at)) is);
     roles = λ role at. ap (λ (x : Bucketed). is_in_bucket (slice_cmp nat_cmp) x.roles role at) same ∙ b.roles role at
-        ∙ sym (leads.roles role at ∙ ap (λ j. is_joined names_role j role at || passes (passes_at (is_listed names_role enabled role) policies) (shifted_from edit.shift at)) is);
+        ∙ sym (leads.roles role at ∙ ap (λ j. is_joined has_role_part j role at || passes (passes_at (is_listed has_role_part enabled role) policies) (shifted_from edit.shift at)) is);
   }
   joined_of edit between new (Some joining) is b adds leads = record {
-    actions = λ action at. adds.actions action at ∙ ap (λ z. is_joined names_action (Some joining) action at || z) (b.actions action at)
-        ∙ sym (leads.actions action at ∙ ap (λ j. is_joined names_action j action at || passes (passes_at (is_listed names_action enabled action) policies) (shifted_from edit.shift at)) is);
-    tables = λ table at. adds.tables table at ∙ ap (λ z. is_joined names_table (Some joining) table at || z) (b.tables table at)
-        ∙ sym (leads.tables table at ∙ ap (λ j. is_joined names_table j table at || passes (passes_at (is_listed names_table enabled table) policies) (shifted_from edit.shift at)) is);
-    privileges = λ privilege at. adds.privileges privilege at ∙ ap (λ z. is_joined names_privilege (Some joining) privilege at || z) (b.privileges privilege at)
-        ∙ sym (leads.privileges privilege at ∙ ap (λ j. is_joined names_privilege j privilege at || passes (passes_at (is_listed names_privilege enabled privilege) policies) (shifted_from edit.shift at)) is);
-    roles = λ role at. adds.roles role at ∙ ap (λ z. is_joined names_role (Some joining) role at || z) (b.roles role at)
-        ∙ sym (leads.roles role at ∙ ap (λ j. is_joined names_role j role at || passes (passes_at (is_listed names_role enabled role) policies) (shifted_from edit.shift at)) is);
+    actions = λ action at. adds.actions action at ∙ ap (λ z. is_joined has_action_part (Some joining) action at || z) (b.actions action at)
+        ∙ sym (leads.actions action at ∙ ap (λ j. is_joined has_action_part j action at || passes (passes_at (is_listed has_action_part enabled action) policies) (shifted_from edit.shift at)) is);
+    tables = λ table at. adds.tables table at ∙ ap (λ z. is_joined has_object_part (Some joining) table at || z) (b.tables table at)
+        ∙ sym (leads.tables table at ∙ ap (λ j. is_joined has_object_part j table at || passes (passes_at (is_listed has_object_part enabled table) policies) (shifted_from edit.shift at)) is);
+    privileges = λ privilege at. adds.privileges privilege at ∙ ap (λ z. is_joined has_privilege_part (Some joining) privilege at || z) (b.privileges privilege at)
+        ∙ sym (leads.privileges privilege at ∙ ap (λ j. is_joined has_privilege_part j privilege at || passes (passes_at (is_listed has_privilege_part enabled privilege) policies) (shifted_from edit.shift at)) is);
+    roles = λ role at. adds.roles role at ∙ ap (λ z. is_joined has_role_part (Some joining) role at || z) (b.roles role at)
+        ∙ sym (leads.roles role at ∙ ap (λ j. is_joined has_role_part j role at || passes (passes_at (is_listed has_role_part enabled role) policies) (shifted_from edit.shift at)) is);
   }
 
   same_of : (joined new : Bucketed) → HaveSamePlaces joined new → AreBucketsOf later changed joined → AreBucketsOf later changed new

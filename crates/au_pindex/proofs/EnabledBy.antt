@@ -113,9 +113,6 @@ without_found name policy xs =
     ∙ turned_cond (bytes_eq name policy) (find (has_name name) xs) None
     ∙ ap (λ t. cond t None (find (has_name name) xs)) (same_turned name policy)
 
-on_of : Option Entry → Bool
-on_of found = is_on (enablement_found found)
-
 -- whether the policy of a name is on, once one is enabled so
 pub on_after : (name policy : List ℕ) (enabled : Enabled) (xs : List Entry)
     → is_on (enablement_of (with_enablement policy enabled xs) name) ≡ cond (bytes_eq policy name) (is_on enabled) (is_on (enablement_of xs name))

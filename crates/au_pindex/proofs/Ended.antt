@@ -1,8 +1,7 @@
--- Buckets that end with a place, which take it with no more room.
-use Rattle.std.proofs.Common.{◌≡◌, ◌∙◌, ◌<◌, ◌+◌, ◌-◌, inl, inr, refl, sym, ap, ℕ, zero, suc, Bool, true, false, cond, ◌||◌, nat_lt, List, [], ◌∷◌, ◌++◌, Vec, Global, length, arith, ltb-true, ltb-false}
+-- Buckets that end with a place, and those that have room for one more.
+use Rattle.std.proofs.Common.{◌≡◌, ◌∙◌, ◌<◌, ◌-◌, inl, inr, refl, sym, ap, ℕ, zero, suc, Bool, true, false, ◌||◌, nat_lt, List, [], ◌∷◌, ◌++◌, Vec, Global, length, arith, ltb-false}
 use Rattle.std.proofs.lemmas.Bool.{cases_Bool}
 use Rattle.std.proofs.lemmas.Bool.Decides.{eqb_tells}
-use Rattle.std.proofs.lemmas.List.Folds.{list_any-append}
 use Rattle.std.specs.List.{list_any, slice_get}
 use Rattle.std.specs.Prelude.{◌==◌, Option, Some, None, vec_capacity, vec_len}
 use Rattle.au_pindex.specs.descent.Rooms.{ends_with, room_of, takes}
@@ -36,17 +35,6 @@ found_any place at (x ∷ xs) (suc i) is = or_within (x == at) (list_any (λ oth
 pub ended_any : (place : ℕ) (items : List ℕ) → ends_with place items ≡ true → (at : ℕ) → list_any (λ other. other == at) items ≡ ((place == at) || list_any (λ other. other == at) items)
 ended_any place items is at = found_any place at items (length items - 1) is
 
-or_turned : (a b : Bool) → (a || (b || false)) ≡ (b || a)
-or_turned true true = refl
-or_turned true false = refl
-or_turned false true = refl
-or_turned false false = refl
-
--- one more place behind the others
-pub added_any : (place : ℕ) (items later : List ℕ) → later ≡ items ++ place ∷ [] → (at : ℕ) → list_any (λ other. other == at) later ≡ ((place == at) || list_any (λ other. other == at) items)
-added_any place items later is at =
-    ap (list_any (λ other. other == at)) is ∙ list_any-append (λ other. other == at) items (place ∷ []) ∙ or_turned (list_any (λ other. other == at) items) (place == at)
-
 grown : (items : List ℕ) (place : ℕ) → length (items ++ place ∷ []) ≡ suc (length items)
 grown [] place = refl
 grown (x ∷ xs) place = ap suc (grown xs place)
@@ -63,12 +51,6 @@ added_ends place items later is =
     ∙ ap (passes (λ other. other == place)) (stands_last items place (length (items ++ place ∷ []) - 1) (omega (arith, grown items place)))
     ∙ is_itself place
 
--- what doesn't end with the place has room for it
-pub takes_more : (place : ℕ) (bucket : Vec ℕ Global) → takes place (Some bucket) ≡ true → ends_with place bucket.items ≡ false → vec_len bucket < vec_capacity bucket
-takes_more place bucket is isnt =
-    let more : nat_lt (vec_len bucket) (vec_capacity bucket) ≡ true = sym (ap (λ b. b || nat_lt (vec_len bucket) (vec_capacity bucket)) isnt) ∙ is in
-    ltb-true (vec_len bucket) (vec_capacity bucket) more
-
 or_second : (a b : Bool) → b ≡ true → (a || b) ≡ true
 or_second true b is = refl
 or_second false b is = is
@@ -80,16 +62,3 @@ is_less a b more = elim (cases_Bool (nat_lt a b)) [ inl is ↦ is | inr is ↦ a
 pub takes_room : (place : ℕ) (bucket : Option (Vec ℕ Global)) → 0 < room_of bucket → takes place bucket ≡ true
 takes_room place None more = absurd (omega (arith, more))
 takes_room place (Some bucket) more = or_second (ends_with place bucket.items) (nat_lt (vec_len bucket) (vec_capacity bucket)) (is_less (vec_len bucket) (vec_capacity bucket) more)
-
-or_first : (a b : Bool) → a ≡ true → (a || b) ≡ true
-or_first true b is = refl
-or_first false b is = absurd (let e : false ≡ true = is in cc)
-
--- what ends with the place takes it
-pub takes_again : (place : ℕ) (bucket : Vec ℕ Global) → ends_with place bucket.items ≡ true → takes place (Some bucket) ≡ true
-takes_again place bucket is = or_first (ends_with place bucket.items) (nat_lt (vec_len bucket) (vec_capacity bucket)) is
-
--- one bucket is written, and ends with the place
-pub still_taken : (place : ℕ) (here : Bool) (written : Vec ℕ Global) (old new : Option (Vec ℕ Global)) → ends_with place written.items ≡ true → new ≡ cond here (Some written) old → takes place old ≡ true → takes place new ≡ true
-still_taken place true written old new ends is was = ap (takes place) is ∙ takes_again place written ends
-still_taken place false written old new ends is was = ap (takes place) is ∙ was

@@ -18,11 +18,11 @@ use Rattle.au_pindex.specs.declared.staged.IndexEdit.{IndexEdit}
 use Rattle.au_grants.specs.Changing.{without}
 use Rattle.au_pindex.specs.descent.Finding.{BelongsAt, StandsAt, is_named, with_policy}
 use Rattle.au_pindex.specs.Indexing.{condition_of}
-use Rattle.au_pindex.specs.Naming.{is_enabled, names_action, names_privilege, names_role, names_table}
+use Rattle.au_pindex.specs.Naming.{has_action_part, has_object_part, has_privilege_part, has_role_part, is_enabled}
 use Rattle.au_pindex.specs.Places.{passes, passes_at}
 use Rattle.au_pindex.specs.descent.Shifting.{came_from}
 use Rattle.au_pindex.specs.descent.Edits.{IsLeaving, IsReplacing, adds, closes, joins, no_edit, without_condition}
-use Rattle.au_pindex.specs.Staging.{Leads, conditions_after, is_joined, shifted_from}
+use Rattle.au_pindex.specs.descent.Leading.{Leads, conditions_after, is_joined, shifted_from}
 use Rattle.au_pindex.proofs.EnabledBy.{on_after, same_turned}
 use Rattle.au_pindex.proofs.Laid.{closed, dropped_mapped, joined_mapped, opened, replaced, taken_mapped}
 use Rattle.au_pindex.proofs.Placing.{is_itself, is_other}
@@ -42,10 +42,10 @@ module _ (enabled : Entries) (policies : List AuditPolicy) (later : Entries) (ch
   pub leads_alone : (edit : IndexEdit) → edit.joining ≡ None → ((test : AuditPolicy → Bool) (at : ℕ) → is_now test at ≡ was_from test (shifted_from edit.shift at))
       → map condition_of changed ≡ conditions_after edit.condition (map condition_of policies) → Leads enabled policies later changed edit
   leads_alone edit none law conditions = record {
-    actions = λ action at. law (names_action action) at ∙ sym (ap (λ j. is_joined names_action j action at || was_from (names_action action) (shifted_from edit.shift at)) none);
-    tables = λ table at. law (names_table table) at ∙ sym (ap (λ j. is_joined names_table j table at || was_from (names_table table) (shifted_from edit.shift at)) none);
-    privileges = λ privilege at. law (names_privilege privilege) at ∙ sym (ap (λ j. is_joined names_privilege j privilege at || was_from (names_privilege privilege) (shifted_from edit.shift at)) none);
-    roles = λ role at. law (names_role role) at ∙ sym (ap (λ j. is_joined names_role j role at || was_from (names_role role) (shifted_from edit.shift at)) none);
+    actions = λ action at. law (has_action_part action) at ∙ sym (ap (λ j. is_joined has_action_part j action at || was_from (has_action_part action) (shifted_from edit.shift at)) none);
+    tables = λ table at. law (has_object_part table) at ∙ sym (ap (λ j. is_joined has_object_part j table at || was_from (has_object_part table) (shifted_from edit.shift at)) none);
+    privileges = λ privilege at. law (has_privilege_part privilege) at ∙ sym (ap (λ j. is_joined has_privilege_part j privilege at || was_from (has_privilege_part privilege) (shifted_from edit.shift at)) none);
+    roles = λ role at. law (has_role_part role) at ∙ sym (ap (λ j. is_joined has_role_part j role at || was_from (has_role_part role) (shifted_from edit.shift at)) none);
     conditions = conditions;
   }
 
@@ -54,10 +54,10 @@ module _ (enabled : Entries) (policies : List AuditPolicy) (later : Entries) (ch
       → ((test : AuditPolicy → Bool) (at : ℕ) → is_now test at ≡ ((test policy && (place == at)) || was_from test (shifted_from edit.shift at)))
       → map condition_of changed ≡ conditions_after edit.condition (map condition_of policies) → Leads enabled policies later changed edit
   leads_joined edit place policy one law conditions = record {
-    actions = λ action at. law (names_action action) at ∙ sym (ap (λ j. is_joined names_action j action at || was_from (names_action action) (shifted_from edit.shift at)) one);
-    tables = λ table at. law (names_table table) at ∙ sym (ap (λ j. is_joined names_table j table at || was_from (names_table table) (shifted_from edit.shift at)) one);
-    privileges = λ privilege at. law (names_privilege privilege) at ∙ sym (ap (λ j. is_joined names_privilege j privilege at || was_from (names_privilege privilege) (shifted_from edit.shift at)) one);
-    roles = λ role at. law (names_role role) at ∙ sym (ap (λ j. is_joined names_role j role at || was_from (names_role role) (shifted_from edit.shift at)) one);
+    actions = λ action at. law (has_action_part action) at ∙ sym (ap (λ j. is_joined has_action_part j action at || was_from (has_action_part action) (shifted_from edit.shift at)) one);
+    tables = λ table at. law (has_object_part table) at ∙ sym (ap (λ j. is_joined has_object_part j table at || was_from (has_object_part table) (shifted_from edit.shift at)) one);
+    privileges = λ privilege at. law (has_privilege_part privilege) at ∙ sym (ap (λ j. is_joined has_privilege_part j privilege at || was_from (has_privilege_part privilege) (shifted_from edit.shift at)) one);
+    roles = λ role at. law (has_role_part role) at ∙ sym (ap (λ j. is_joined has_role_part j role at || was_from (has_role_part role) (shifted_from edit.shift at)) one);
     conditions = conditions;
   }
 

@@ -11,8 +11,8 @@ pub mod Leading
 pub mod Named
 pub mod Numbers
 pub mod Placing
+pub mod Reserved
 pub mod Shifted
-pub mod Spared
 pub mod Stays
 pub mod Taken
 pub mod Tested

@@ -17,7 +17,7 @@ use Rattle.au_entries.specs.Demand.{enablement_of, is_enabled_in}
 use Rattle.au_entries.specs.Enabling.{is_on}
 use Rattle.au_entries.specs.Matching.{covers_action, covers_privilege, covers_role, is_enabled_for, names_table as is_table_named, parts_match}
 use Rattle.au_grants.specs.declared.grants.Grants.{Grants}
-use Rattle.au_pindex.specs.Naming.{is_enabled, is_named, is_of_action, is_on_table, names_action, names_privilege, names_statement, names_table}
+use Rattle.au_pindex.specs.Naming.{has_action_part, has_object_part, has_privilege_part, is_enabled, is_named, is_of_action, is_on_table, names_statement}
 
 -- a pair that meets is found either way round
 pub swapped : {A B : Type 0} (meets : A → B → Bool) (xs : List A) (ys : List B) → list_any (λ a. list_any (λ b. meets a b) ys) xs ≡ true → list_any (λ b. list_any (λ a. meets a b) xs) ys ≡ true
@@ -43,16 +43,16 @@ met_part facts (action, Some table) met = inr (inr (and_parts (same_action actio
 -- what action parts, of which one meets the statement, name
 module _ (grants : Grants) (facts : Facts) (policy : AuditPolicy) where
   abbrev action : Bool
-  action = names_action facts.action policy
+  action = has_action_part facts.action policy
 
   abbrev any_action : Bool
-  any_action = names_action All policy
+  any_action = has_action_part All policy
 
   abbrev table : Bool
-  table = list_any (λ table. names_table table policy) facts.tables
+  table = list_any (λ table. has_object_part table policy) facts.tables
 
   abbrev privilege : Bool
-  privilege = list_any (λ privilege. names_privilege privilege policy) facts.used
+  privilege = list_any (λ privilege. has_privilege_part privilege policy) facts.used
 
   abbrev role : Bool
   role = list_any (covers_role grants facts) policy.roles
@@ -70,8 +70,8 @@ module _ (grants : Grants) (facts : Facts) (policy : AuditPolicy) where
             (or_left any_action (table || (privilege || role)) (list_any_at (is_of_action All) policy.actions one.0 one.1 one.2 (ap (is_of_action All) one.3 ∙ is)))
         | inr (inr is) ↦ by_table
             (let other = Any-from_list_any (λ table. is_on_table table one.1) facts.tables is in
-            list_any_at (λ table. names_table table policy) facts.tables other.0 other.1 other.2
-            (ap (λ table. names_table table policy) other.3 ∙ list_any_at (is_on_table other.1) policy.actions one.0 one.1 one.2 (ap (is_on_table other.1) one.3 ∙ other.4)))
+            list_any_at (λ table. has_object_part table policy) facts.tables other.0 other.1 other.2
+            (ap (λ table. has_object_part table policy) other.3 ∙ list_any_at (is_on_table other.1) policy.actions one.0 one.1 one.2 (ap (is_on_table other.1) one.3 ∙ other.4)))
       ]
 
   -- a policy of which some part meets the statement names it

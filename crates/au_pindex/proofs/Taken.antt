@@ -27,7 +27,7 @@ use Rattle.au_grants.specs.declared.grants.Grants.{Grants}
 use Rattle.au_pindex.specs.Buckets.{is_in_bucket, places_of}
 use Rattle.au_pindex.specs.declared.bucketed.Bucketed.{Bucketed}
 use Rattle.au_pindex.specs.Indexing.{AreBucketsOf, is_listed, table_cmp}
-use Rattle.au_pindex.specs.Naming.{is_enabled, is_named, names_action, names_privilege, names_role, names_table}
+use Rattle.au_pindex.specs.Naming.{has_action_part, has_object_part, has_privilege_part, has_role_part, is_enabled, is_named}
 use Rattle.au_pindex.specs.Places.{passes, passes_at}
 use Rattle.au_pindex.specs.descent.Places.{places_where}
 use Rattle.au_pindex.specs.descent.Taking.{is_taken}
@@ -58,7 +58,7 @@ module _ (covers : List ℕ → Bool) (buckets : BTreeMap (List ℕ) (Vec ℕ Gl
   abbrev met : List ℕ × Vec ℕ Global → Bool
   met entry = covers entry.0 && list_any (λ other. other == at) entry.1.items
 
-  forth : (o : Option AuditPolicy) → ((role : List ℕ) → is_in_bucket (slice_cmp nat_cmp) buckets role at ≡ passes (λ policy. on policy && names_role role policy) o)
+  forth : (o : Option AuditPolicy) → ((role : List ℕ) → is_in_bucket (slice_cmp nat_cmp) buckets role at ≡ passes (λ policy. on policy && has_role_part role policy) o)
       → list_any met buckets.entries ≡ true → passes (λ policy. on policy && list_any covers policy.roles) o ≡ true
   forth o told found =
       let one = Any-from_list_any met buckets.entries found in
@@ -67,27 +67,27 @@ module _ (covers : List ℕ → Bool) (buckets : BTreeMap (List ℕ) (Vec ℕ Gl
       let there : get (slice_cmp nat_cmp) buckets entry.0 ≡ Some entry.1 = btree_map_get_place nat_list_cmp_total buckets one.0 entry.0 entry.1 ordered (slice_get_read buckets.entries _ one.0 entry refl one.2 (sym one.3)) in
       names_one o (sym (told entry.0) ∙ ap (λ bucket. list_any (λ other. other == at) (places_of bucket)) there ∙ parts.1) parts.0
     where
-      names_one : (o : Option AuditPolicy) → passes (λ policy. on policy && names_role (Any-from_list_any met buckets.entries found).1.0 policy) o ≡ true → covers (Any-from_list_any met buckets.entries found).1.0 ≡ true
+      names_one : (o : Option AuditPolicy) → passes (λ policy. on policy && has_role_part (Any-from_list_any met buckets.entries found).1.0 policy) o ≡ true → covers (Any-from_list_any met buckets.entries found).1.0 ≡ true
           → passes (λ policy. on policy && list_any covers policy.roles) o ≡ true
       names_one None is covered = is
       names_one (Some policy) is covered =
           let role = (Any-from_list_any met buckets.entries found).1.0 in
-          let parts = and_parts (on policy) (names_role role policy) is in
+          let parts = and_parts (on policy) (has_role_part role policy) is in
           let part = Any-from_list_any (λ part. bytes_eq part role) policy.roles parts.1 in
           and_from (on policy) (list_any covers policy.roles) parts.0
           (list_any_at covers policy.roles part.0 part.1 part.2 (ap covers (part.3 ∙ (bytes_decides part.1 role).0 part.4) ∙ covered))
 
-  back : (o : Option AuditPolicy) → ((role : List ℕ) → is_in_bucket (slice_cmp nat_cmp) buckets role at ≡ passes (λ policy. on policy && names_role role policy) o)
+  back : (o : Option AuditPolicy) → ((role : List ℕ) → is_in_bucket (slice_cmp nat_cmp) buckets role at ≡ passes (λ policy. on policy && has_role_part role policy) o)
       → passes (λ policy. on policy && list_any covers policy.roles) o ≡ true → list_any met buckets.entries ≡ true
   back None told is = absurd (let e : false ≡ true = is in cc)
   back (Some policy) told is =
       let parts = and_parts (on policy) (list_any covers policy.roles) is in
       let role = Any-from_list_any covers policy.roles parts.1 in
       found_in covers role.1 at buckets.entries role.4
-      (told role.1 ∙ and_from (on policy) (names_role role.1 policy) parts.0
+      (told role.1 ∙ and_from (on policy) (has_role_part role.1 policy) parts.0
       (list_any_at (λ part. bytes_eq part role.1) policy.roles role.0 role.1 role.2 (ap (λ part. bytes_eq part role.1) role.3 ∙ (bytes_decides role.1 role.1).1 refl)))
 
-  pub roles_met : (o : Option AuditPolicy) → ((role : List ℕ) → is_in_bucket (slice_cmp nat_cmp) buckets role at ≡ passes (λ policy. on policy && names_role role policy) o)
+  pub roles_met : (o : Option AuditPolicy) → ((role : List ℕ) → is_in_bucket (slice_cmp nat_cmp) buckets role at ≡ passes (λ policy. on policy && has_role_part role policy) o)
       → list_any met buckets.entries ≡ passes (λ policy. on policy && list_any covers policy.roles) o
   roles_met o told = both_ways (list_any met buckets.entries) (passes (λ policy. on policy && list_any covers policy.roles) o) (forth o told) (back o told)
 
@@ -100,10 +100,10 @@ module _ (grants : Grants) (facts : Facts) (enabled : List (List ℕ × Enabled)
       let on = is_enabled enabled in
       let one = are.actions facts.action at in
       let two = are.actions All at in
-      let three = any_same (λ (table : TableName). is_in_bucket table_cmp buckets.tables table at) (λ (table : TableName). passes (is_listed names_table enabled table) o) (λ table. are.tables table at) facts.tables ∙ any_passes on names_table facts.tables o in
-      let four = any_same (λ (privilege : Privilege). is_in_bucket nat_cmp buckets.privileges (privileges.code_of privilege) at) (λ (privilege : Privilege). passes (is_listed names_privilege enabled privilege) o) (λ privilege. are.privileges privilege at) facts.used ∙ any_passes on names_privilege facts.used o in
+      let three = any_same (λ (table : TableName). is_in_bucket table_cmp buckets.tables table at) (λ (table : TableName). passes (is_listed has_object_part enabled table) o) (λ table. are.tables table at) facts.tables ∙ any_passes on has_object_part facts.tables o in
+      let four = any_same (λ (privilege : Privilege). is_in_bucket nat_cmp buckets.privileges (privileges.code_of privilege) at) (λ (privilege : Privilege). passes (is_listed has_privilege_part enabled privilege) o) (λ privilege. are.privileges privilege at) facts.used ∙ any_passes on has_privilege_part facts.used o in
       let five = roles_met (covers_role grants facts) buckets.roles ordered on at o (λ role. are.roles role at) in
-      joined on (names_action facts.action) (names_action All) (λ policy. list_any (λ table. names_table table policy) facts.tables) (λ policy. list_any (λ privilege. names_privilege privilege policy) facts.used) (λ policy. list_any (covers_role grants facts) policy.roles) o _ _ _ _ _ one two three four five
+      joined on (has_action_part facts.action) (has_action_part All) (λ policy. list_any (λ table. has_object_part table policy) facts.tables) (λ policy. list_any (λ privilege. has_privilege_part privilege policy) facts.used) (λ policy. list_any (covers_role grants facts) policy.roles) o _ _ _ _ _ one two three four five
     where
       joined : (on a b c d e : AuditPolicy → Bool) (o : Option AuditPolicy) (p q r s t : Bool)
           → p ≡ passes (λ x. on x && a x) o → q ≡ passes (λ x. on x && b x) o → r ≡ passes (λ x. on x && c x) o → s ≡ passes (λ x. on x && d x) o → t ≡ passes (λ x. on x && e x) o

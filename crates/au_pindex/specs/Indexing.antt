@@ -16,7 +16,7 @@ use Rattle.au_expr.specs.Resolving.{placed}
 use Rattle.au_pindex.specs.Buckets.{is_in_bucket}
 use Rattle.au_pindex.specs.declared.bucketed.Bucketed.{Bucketed}
 use Rattle.au_pindex.specs.declared.index.Index.{Index}
-use Rattle.au_pindex.specs.Naming.{is_enabled, names_action, names_privilege, names_role, names_table}
+use Rattle.au_pindex.specs.Naming.{has_action_part, has_object_part, has_privilege_part, has_role_part, is_enabled}
 use Rattle.au_pindex.specs.Places.{passes_at}
 
 -- tables by their owners, and then by their names
@@ -30,10 +30,10 @@ is_listed {K} names enabled key policy = is_enabled enabled policy && names key 
 -- A place stands in the bucket of a key exactly where the policy at that place isn't Off and names the key: an action part
 -- without a table an action, an object part a table, a privilege part a privilege, and a role part a role.
 pub record AreBucketsOf (enabled : List (List ℕ × Enabled)) (policies : List AuditPolicy) (buckets : Bucketed) : Type 0 where
-  pub actions : (action : Action) (place : ℕ) → is_in_bucket nat_cmp buckets.actions (actions.code_of action) place ≡ passes_at (is_listed names_action enabled action) policies place
-  pub tables : (table : TableName) (place : ℕ) → is_in_bucket table_cmp buckets.tables table place ≡ passes_at (is_listed names_table enabled table) policies place
-  pub privileges : (privilege : Privilege) (place : ℕ) → is_in_bucket nat_cmp buckets.privileges (privileges.code_of privilege) place ≡ passes_at (is_listed names_privilege enabled privilege) policies place
-  pub roles : (role : List ℕ) (place : ℕ) → is_in_bucket (slice_cmp nat_cmp) buckets.roles role place ≡ passes_at (is_listed names_role enabled role) policies place
+  pub actions : (action : Action) (place : ℕ) → is_in_bucket nat_cmp buckets.actions (actions.code_of action) place ≡ passes_at (is_listed has_action_part enabled action) policies place
+  pub tables : (table : TableName) (place : ℕ) → is_in_bucket table_cmp buckets.tables table place ≡ passes_at (is_listed has_object_part enabled table) policies place
+  pub privileges : (privilege : Privilege) (place : ℕ) → is_in_bucket nat_cmp buckets.privileges (privileges.code_of privilege) place ≡ passes_at (is_listed has_privilege_part enabled privilege) policies place
+  pub roles : (role : List ℕ) (place : ℕ) → is_in_bucket (slice_cmp nat_cmp) buckets.roles role place ≡ passes_at (is_listed has_role_part enabled role) policies place
 
 -- the condition of the policy, where it has one, resolved over no table
 abbrev pub condition_of : AuditPolicy → Option Placed

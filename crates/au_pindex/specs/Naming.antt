@@ -29,20 +29,20 @@ is_on_table table (action, None) = false
 is_on_table table (action, Some part) = same_table part table
 
 -- an action part without a table names the action
-abbrev pub names_action : Action → AuditPolicy → Bool
-names_action action policy = list_any (is_of_action action) policy.actions
+abbrev pub has_action_part : Action → AuditPolicy → Bool
+has_action_part action policy = list_any (is_of_action action) policy.actions
 
 -- an object part names the table
-abbrev pub names_table : TableName → AuditPolicy → Bool
-names_table table policy = list_any (is_on_table table) policy.actions
+abbrev pub has_object_part : TableName → AuditPolicy → Bool
+has_object_part table policy = list_any (is_on_table table) policy.actions
 
 -- a privilege part names the system privilege
-abbrev pub names_privilege : Privilege → AuditPolicy → Bool
-names_privilege privilege policy = list_any (λ part. same_privilege part privilege) policy.privileges
+abbrev pub has_privilege_part : Privilege → AuditPolicy → Bool
+has_privilege_part privilege policy = list_any (λ part. same_privilege part privilege) policy.privileges
 
 -- a role part names the role
-abbrev pub names_role : List ℕ → AuditPolicy → Bool
-names_role role policy = list_any (λ part. bytes_eq part role) policy.roles
+abbrev pub has_role_part : List ℕ → AuditPolicy → Bool
+has_role_part role policy = list_any (λ part. bytes_eq part role) policy.roles
 
 -- ---- which policies name a statement
 
@@ -50,10 +50,10 @@ names_role role policy = list_any (λ part. bytes_eq part role) policy.roles
 -- privilege part one of the privileges used, or a role part a role to which one of these is granted directly.
 abbrev pub names_statement : Grants → Facts → AuditPolicy → Bool
 names_statement grants facts policy =
-    names_action facts.action policy
-    || (names_action All policy
-    || (list_any (λ table. names_table table policy) facts.tables
-    || (list_any (λ privilege. names_privilege privilege policy) facts.used
+    has_action_part facts.action policy
+    || (has_action_part All policy
+    || (list_any (λ table. has_object_part table policy) facts.tables
+    || (list_any (λ privilege. has_privilege_part privilege policy) facts.used
     || list_any (covers_role grants facts) policy.roles)))
 
 -- the policy is enabled for somebody

@@ -7,7 +7,7 @@ ghost use Rattle.au_pindex.specs.Indexing.{AreBucketsOf};
 ghost use Rattle.au_pindex.specs.Naming.{is_enabled};
 
 use crate::joining::join_policy;
-use crate::sparing::spare_policy;
+use crate::reserving::reserve_policy;
 use au_base::{Memory, Name, TableName};
 use au_entries::{AuditPolicy, Enabled};
 use au_policy::is_policy_on;
@@ -80,7 +80,7 @@ fn add_policy(
 ) -> Result<(), Memory>
     ensures { OnOk result (AddsPolicy true policy.now place buckets.old buckets.new) }
 {
-    spare_policy(alloc, buckets, policy)?;
+    reserve_policy(alloc, buckets, policy)?;
     join_policy(buckets, policy, place);
     Ok(())
 }

@@ -18,7 +18,7 @@ use std::alloc::Global;
 use std::collections::{BTreeMap, BTreeSet};
 
 /// Makes room for one more place in the bucket of the key, which is made where there is none.
-pub(crate) fn spare<K: Ord + Drop>(
+pub(crate) fn reserve<K: Ord + Drop>(
     alloc: Global,
     buckets: &mut BTreeMap<K, Vec<usize>>,
     key: K,

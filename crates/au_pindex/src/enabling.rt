@@ -12,15 +12,16 @@ ghost use Rattle.au_pindex.specs.declared.index.Index.{Index as AnyIndex};
 ghost use Rattle.au_pindex.specs.descent.Finding.{StandsAt, is_named};
 ghost use Rattle.au_pindex.specs.Places.{passes_at};
 ghost use Rattle.au_pindex.specs.descent.Edits as edits;
-ghost use Rattle.au_pindex.specs.Staging.{FitsEdit, Leads};
+ghost use Rattle.au_pindex.specs.descent.Fitting.{FitsEdit};
+ghost use Rattle.au_pindex.specs.descent.Leading.{Leads};
 ghost use Rattle.au_pindex.specs.descent.Edits.{IsLeaving, Keeps, is_left_by, is_off_without};
 ghost use Rattle.au_policy.specs.Asking.{CanBeAsked};
 
 use crate::buckets::take;
 use crate::finding::find_policy;
 use crate::index::Index;
+use crate::reserving::reserve_policy;
 use crate::shift::Shift;
-use crate::sparing::spare_policy;
 use crate::staged::{ConditionEdit, IndexEdit, Joining, no_edit, parts_of};
 use au_base::{List, Memory, Name};
 use au_catalog::Catalog;
@@ -146,7 +147,7 @@ fn join(
     ensures keeps { Keeps index.old index.new }
 {
     let policy = parts_of(policy)?;
-    spare_policy(alloc, &mut index.buckets, &policy)?;
+    reserve_policy(alloc, &mut index.buckets, &policy)?;
     Ok(IndexEdit {
         shift: None,
         condition: ConditionEdit::Stays,

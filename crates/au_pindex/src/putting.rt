@@ -6,7 +6,8 @@ ghost use Rattle.au_pindex.specs.descent.Finding.{is_named, with_policy};
 ghost use Rattle.au_pindex.specs.Indexing.{condition_of};
 ghost use Rattle.au_pindex.specs.descent.Rooms.{KeepAllPlaces};
 ghost use Rattle.au_pindex.specs.descent.Edits as edits;
-ghost use Rattle.au_pindex.specs.Staging.{FitsEdit, FitsJoining, Leads};
+ghost use Rattle.au_pindex.specs.descent.Fitting.{FitsEdit, FitsJoining};
+ghost use Rattle.au_pindex.specs.descent.Leading.{Leads};
 ghost use Rattle.au_pindex.specs.descent.Edits.{IsLeavingWhere, IsReplacing, Keeps, without_condition};
 ghost use Rattle.au_policy.specs.Asking.{CanBeAsked};
 
@@ -14,8 +15,8 @@ use crate::bucketed::Bucketed;
 use crate::buckets::take;
 use crate::finding::find_policy;
 use crate::index::Index;
+use crate::reserving::reserve_policy;
 use crate::shift::Shift;
-use crate::sparing::spare_policy;
 use crate::staged::{ConditionEdit, IndexEdit, Joining, no_edit};
 use au_base::{Memory, Name};
 use au_catalog::Catalog;
@@ -133,7 +134,7 @@ fn joining_where(
     ensures keeps { KeepAllPlaces buckets.old buckets.new }
 {
     if on {
-        spare_policy(alloc, buckets, &policy)?;
+        reserve_policy(alloc, buckets, &policy)?;
         return Ok(Some(Joining { place, policy }));
     }
     Ok(None)

@@ -6,7 +6,8 @@ ghost use Rattle.au_pindex.specs.Indexing.{AreBucketsOf, condition_of};
 ghost use Rattle.au_pindex.specs.descent.Rooms.{KeepsRoom};
 ghost use Rattle.au_pindex.specs.descent.Settling.{AllHavePlaces, AreEdited, AreJoinedBy, AreShiftedBy, HaveSamePlaces};
 ghost use Rattle.au_pindex.specs.descent.Shifting.{AreShifted};
-ghost use Rattle.au_pindex.specs.Staging.{FitsConditions, FitsEdit, FitsJoining, Leads, conditions_after};
+ghost use Rattle.au_pindex.specs.descent.Fitting.{FitsConditions, FitsEdit, FitsJoining};
+ghost use Rattle.au_pindex.specs.descent.Leading.{Leads, conditions_after};
 
 use crate::bucketed::Bucketed;
 use crate::buckets::{drop_empty, shift_all};

@@ -11,11 +11,11 @@ use Rattle.au_entries.specs.declared.policy.AuditPolicy.{AuditPolicy}
 use Rattle.au_pindex.specs.Buckets.{is_in_bucket}
 use Rattle.au_pindex.specs.declared.bucketed.Bucketed.{Bucketed}
 use Rattle.au_pindex.specs.Indexing.{table_cmp}
-use Rattle.au_pindex.specs.Naming.{names_action, names_privilege, names_role, names_table}
+use Rattle.au_pindex.specs.Naming.{has_action_part, has_object_part, has_privilege_part, has_role_part}
 
 -- the place, which is that of the policy, joins the buckets of all that the policy names, where it is enabled
 pub record AddsPolicy (enabled : Bool) (policy : AuditPolicy) (place : ℕ) (old new : Bucketed) : Type 0 where
-  pub actions : (action : Action) (at : ℕ) → is_in_bucket nat_cmp new.actions (actions.code_of action) at ≡ (((enabled && names_action action policy) && (place == at)) || is_in_bucket nat_cmp old.actions (actions.code_of action) at)
-  pub tables : (table : TableName) (at : ℕ) → is_in_bucket table_cmp new.tables table at ≡ (((enabled && names_table table policy) && (place == at)) || is_in_bucket table_cmp old.tables table at)
-  pub privileges : (privilege : Privilege) (at : ℕ) → is_in_bucket nat_cmp new.privileges (privileges.code_of privilege) at ≡ (((enabled && names_privilege privilege policy) && (place == at)) || is_in_bucket nat_cmp old.privileges (privileges.code_of privilege) at)
-  pub roles : (role : List ℕ) (at : ℕ) → is_in_bucket (slice_cmp nat_cmp) new.roles role at ≡ (((enabled && names_role role policy) && (place == at)) || is_in_bucket (slice_cmp nat_cmp) old.roles role at)
+  pub actions : (action : Action) (at : ℕ) → is_in_bucket nat_cmp new.actions (actions.code_of action) at ≡ (((enabled && has_action_part action policy) && (place == at)) || is_in_bucket nat_cmp old.actions (actions.code_of action) at)
+  pub tables : (table : TableName) (at : ℕ) → is_in_bucket table_cmp new.tables table at ≡ (((enabled && has_object_part table policy) && (place == at)) || is_in_bucket table_cmp old.tables table at)
+  pub privileges : (privilege : Privilege) (at : ℕ) → is_in_bucket nat_cmp new.privileges (privileges.code_of privilege) at ≡ (((enabled && has_privilege_part privilege policy) && (place == at)) || is_in_bucket nat_cmp old.privileges (privileges.code_of privilege) at)
+  pub roles : (role : List ℕ) (at : ℕ) → is_in_bucket (slice_cmp nat_cmp) new.roles role at ≡ (((enabled && has_role_part role policy) && (place == at)) || is_in_bucket (slice_cmp nat_cmp) old.roles role at)

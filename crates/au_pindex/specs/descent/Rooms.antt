@@ -14,7 +14,7 @@ use Rattle.au_entries.specs.declared.policy.AuditPolicy.{AuditPolicy}
 use Rattle.au_pindex.specs.Buckets.{is_in_bucket}
 use Rattle.au_pindex.specs.declared.bucketed.Bucketed.{Bucketed}
 use Rattle.au_pindex.specs.Indexing.{table_cmp}
-use Rattle.au_pindex.specs.Naming.{names_action, names_privilege, names_role, names_table}
+use Rattle.au_pindex.specs.Naming.{has_action_part, has_object_part, has_privilege_part, has_role_part}
 use Rattle.au_pindex.specs.Places.{passes_at}
 
 -- how many more places a bucket takes in the room that it has: none where there is no bucket
@@ -45,10 +45,10 @@ StillTake {K} cmp place old new = (key : K) → takes_in cmp old key place ≡ t
 
 -- the bucket of each key that the policy names has room for one more place
 pub record HasRoomFor (policy : AuditPolicy) (buckets : Bucketed) : Type 0 where
-  pub actions : (action : Action) → names_action action policy ≡ true → 0 < room_in nat_cmp buckets.actions (actions.code_of action)
-  pub tables : (table : TableName) → names_table table policy ≡ true → 0 < room_in table_cmp buckets.tables table
-  pub privileges : (privilege : Privilege) → names_privilege privilege policy ≡ true → 0 < room_in nat_cmp buckets.privileges (privileges.code_of privilege)
-  pub roles : (role : List ℕ) → names_role role policy ≡ true → 0 < room_in (slice_cmp nat_cmp) buckets.roles role
+  pub actions : (action : Action) → has_action_part action policy ≡ true → 0 < room_in nat_cmp buckets.actions (actions.code_of action)
+  pub tables : (table : TableName) → has_object_part table policy ≡ true → 0 < room_in table_cmp buckets.tables table
+  pub privileges : (privilege : Privilege) → has_privilege_part privilege policy ≡ true → 0 < room_in nat_cmp buckets.privileges (privileges.code_of privilege)
+  pub roles : (role : List ℕ) → has_role_part role policy ≡ true → 0 < room_in (slice_cmp nat_cmp) buckets.roles role
 
 -- no bucket has less room than it had
 pub record KeepsRoom (old new : Bucketed) : Type 0 where

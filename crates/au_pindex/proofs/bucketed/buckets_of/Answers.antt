@@ -3,7 +3,7 @@ use Rattle.std.proofs.lemmas.List.{take_all}
 use Rattle.std.specs.Prelude.{◌==◌}
 use Rattle.au_entries.specs.declared.policy.AuditPolicy.{AuditPolicy}
 use Rattle.au_pindex.specs.Indexing.{AreBucketsOf, is_listed}
-use Rattle.au_pindex.specs.Naming.{names_action, names_privilege, names_role, names_table}
+use Rattle.au_pindex.specs.Naming.{has_action_part, has_object_part, has_privilege_part, has_role_part}
 use Rattle.au_pindex.specs.Places.{passes_at}
 use Rattle.au_pindex.proofs.Placing.{one_more}
 use Rattle.au_pindex.proofs.bucketed.buckets_of.Goals as goal
@@ -19,10 +19,10 @@ loop-place-preserved c =
     let more : (test : AuditPolicy → Bool) (at : ℕ) → ((test x && (n == at)) || passes_at test (take n policies) at) ≡ passes_at test (take (n + 1) policies) at
     = λ test at. sym (ap (λ m. passes_at test (take m policies) at) (add-one n) ∙ one_more test policies n x at c.loop-place-test.true c.index-policies-place.is) in
     record {
-      actions = λ action at. added.actions action at ∙ ap (λ old. (is_listed names_action enabled action x && (n == at)) || old) (before.actions action at) ∙ more (is_listed names_action enabled action) at;
-      tables = λ table at. added.tables table at ∙ ap (λ old. (is_listed names_table enabled table x && (n == at)) || old) (before.tables table at) ∙ more (is_listed names_table enabled table) at;
-      privileges = λ privilege at. added.privileges privilege at ∙ ap (λ old. (is_listed names_privilege enabled privilege x && (n == at)) || old) (before.privileges privilege at) ∙ more (is_listed names_privilege enabled privilege) at;
-      roles = λ role at. added.roles role at ∙ ap (λ old. (is_listed names_role enabled role x && (n == at)) || old) (before.roles role at) ∙ more (is_listed names_role enabled role) at;
+      actions = λ action at. added.actions action at ∙ ap (λ old. (is_listed has_action_part enabled action x && (n == at)) || old) (before.actions action at) ∙ more (is_listed has_action_part enabled action) at;
+      tables = λ table at. added.tables table at ∙ ap (λ old. (is_listed has_object_part enabled table x && (n == at)) || old) (before.tables table at) ∙ more (is_listed has_object_part enabled table) at;
+      privileges = λ privilege at. added.privileges privilege at ∙ ap (λ old. (is_listed has_privilege_part enabled privilege x && (n == at)) || old) (before.privileges privilege at) ∙ more (is_listed has_privilege_part enabled privilege) at;
+      roles = λ role at. added.roles role at ∙ ap (λ old. (is_listed has_role_part enabled role x && (n == at)) || old) (before.roles role at) ∙ more (is_listed has_role_part enabled role) at;
     }
 
 pub returns : goal.returns

@@ -2,7 +2,7 @@ use Rattle.std.specs.Prelude.{◌==◌}
 use Rattle.au_base.specs.Actions.{code_of}
 use Rattle.au_pindex.specs.Naming.{is_of_action, is_on_table}
 use Rattle.au_pindex.proofs.Keys.{next_key}
-use Rattle.au_pindex.proofs.Spared.{any_here}
+use Rattle.au_pindex.proofs.Reserved.{any_here}
 use Rattle.au_pindex.proofs.joining.join_actions.Goals as goal
 
 pub join_part-requires : goal.join_part-requires

@@ -5,7 +5,7 @@ use Rattle.au_base.specs.Privileges.{code_of}
 use Rattle.au_base.specs.Sameness.{same_privilege}
 use Rattle.au_pindex.proofs.Keys.{next_key}
 use Rattle.au_pindex.proofs.Placing.{is_itself}
-use Rattle.au_pindex.proofs.Spared.{any_here, reread}
+use Rattle.au_pindex.proofs.Reserved.{any_here, reread}
 use Rattle.au_pindex.proofs.joining.join_privileges.Goals as goal
 
 pub join_privilege-requires : goal.join_privilege-requires

@@ -3,7 +3,7 @@ use Rattle.std.specs.Cmp.Lexicographic.{bytes_decides}
 use Rattle.std.specs.Prelude.{◌==◌}
 use Rattle.std.specs.Str.{bytes_eq}
 use Rattle.au_pindex.proofs.Keys.{next_key}
-use Rattle.au_pindex.proofs.Spared.{any_here}
+use Rattle.au_pindex.proofs.Reserved.{any_here}
 use Rattle.au_pindex.proofs.joining.join_roles.Goals as goal
 
 pub join_role-requires : goal.join_role-requires

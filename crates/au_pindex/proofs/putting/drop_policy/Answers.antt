@@ -1,7 +1,7 @@
 use Rattle.std.proofs.Common.{subst, sym}
 use Rattle.au_grants.specs.Changing.{without}
 use Rattle.au_pindex.specs.descent.Finding.{BelongsAt, StandsAt, is_named}
-use Rattle.au_pindex.specs.Staging.{Leads}
+use Rattle.au_pindex.specs.descent.Leading.{Leads}
 use Rattle.au_pindex.proofs.Leading.{gone_leads, none_gone_leads}
 use Rattle.au_pindex.proofs.putting.drop_policy.Goals as goal
 

@@ -1,6 +1,6 @@
 use Rattle.std.proofs.Common.{◌∙◌, ◌<◌, ◌^◌, length, sym, ap, arith}
 use Rattle.au_pindex.specs.Indexing.{condition_of}
-use Rattle.au_pindex.specs.Staging.{conditions_after}
+use Rattle.au_pindex.specs.descent.Leading.{conditions_after}
 use Rattle.au_pindex.proofs.Edited.{edited_of}
 use Rattle.au_pindex.proofs.Laid.{length_mapped}
 use Rattle.au_pindex.proofs.settling.edit_index.Goals as goal

@@ -1,6 +1,6 @@
 use Rattle.std.proofs.Common.{◌∙◌, subst, sym}
 use Rattle.au_catalog.specs.Settling.{catalog_after_all}
-use Rattle.au_pindex.specs.Staging.{Leads}
+use Rattle.au_pindex.specs.descent.Leading.{Leads}
 use Rattle.au_pindex.proofs.Afterwards.{enabled_all_stay, no_edit_to, policies_all_stay}
 use Rattle.au_pindex.proofs.staging.staged_apart.Goals as goal
 

@@ -1,6 +1,6 @@
 use Rattle.std.proofs.Common.{subst, sym}
 use Rattle.au_entries.specs.Changing.{enabled_after, policies_after}
-use Rattle.au_pindex.specs.Staging.{Leads}
+use Rattle.au_pindex.specs.descent.Leading.{Leads}
 use Rattle.au_pindex.proofs.Afterwards.{unaffected}
 use Rattle.au_pindex.proofs.staging.unaffected.Goals as goal
 

@@ -15,7 +15,7 @@ use Rattle.au_pindex.specs.declared.bucketed.Bucketed.{Bucketed}
 use Rattle.au_pindex.specs.descent.Adding.{AddsPolicy}
 use Rattle.au_pindex.specs.descent.Rooms.{KeepAllPlaces, KeepPlaces}
 use Rattle.au_pindex.specs.Indexing.{table_cmp}
-use Rattle.au_pindex.specs.Naming.{names_action, names_privilege, names_role, names_table}
+use Rattle.au_pindex.specs.Naming.{has_action_part, has_object_part, has_privilege_part, has_role_part}
 
 pub keep_on : {K : Type 0} (cmp : K → K → Ordering) (a b c : BTreeMap K (Vec ℕ Global)) → KeepPlaces cmp a b → KeepPlaces cmp b c → KeepPlaces cmp a c
 keep_on cmp a b c one two = record { places = λ key at. two.places key at ∙ one.places key at; rooms = λ key. omega (arith, one.rooms key, two.rooms key) }
@@ -61,8 +61,8 @@ any_here test (y ∷ ys) (suc i) x within is passes = or_right (test y) (list_an
 
 pub adds_from : (policy : AuditPolicy) (place : ℕ) (old between new : Bucketed) → KeepAllPlaces old between → AddsPolicy true policy place between new → AddsPolicy true policy place old new
 adds_from policy place old between new keeps adds = record {
-  actions = λ action at. adds.actions action at ∙ ap (λ was. (names_action action policy && (place == at)) || was) (keeps.actions.places (actions.code_of action) at);
-  tables = λ table at. adds.tables table at ∙ ap (λ was. (names_table table policy && (place == at)) || was) (keeps.tables.places table at);
-  privileges = λ privilege at. adds.privileges privilege at ∙ ap (λ was. (names_privilege privilege policy && (place == at)) || was) (keeps.privileges.places (privileges.code_of privilege) at);
-  roles = λ role at. adds.roles role at ∙ ap (λ was. (names_role role policy && (place == at)) || was) (keeps.roles.places role at);
+  actions = λ action at. adds.actions action at ∙ ap (λ was. (has_action_part action policy && (place == at)) || was) (keeps.actions.places (actions.code_of action) at);
+  tables = λ table at. adds.tables table at ∙ ap (λ was. (has_object_part table policy && (place == at)) || was) (keeps.tables.places table at);
+  privileges = λ privilege at. adds.privileges privilege at ∙ ap (λ was. (has_privilege_part privilege policy && (place == at)) || was) (keeps.privileges.places (privileges.code_of privilege) at);
+  roles = λ role at. adds.roles role at ∙ ap (λ was. (has_role_part role policy && (place == at)) || was) (keeps.roles.places role at);
 }

@@ -7,7 +7,7 @@ use Rattle.au_base.specs.Actions.{code_of}
 use Rattle.au_pindex.specs.descent.Rooms.{KeepPlaces, room_in}
 use Rattle.au_pindex.specs.Indexing.{table_cmp}
 use Rattle.au_pindex.specs.Naming.{is_of_action, is_on_table}
-use Rattle.au_pindex.proofs.sparing.spare_actions.Given as goal
+use Rattle.au_pindex.proofs.reserving.reserve_actions.Given as goal
 
 -- the buckets have the places that they had, and those of the parts so far have room
 abbrev pub invariant-loop-part : goal.invariant-loop-part

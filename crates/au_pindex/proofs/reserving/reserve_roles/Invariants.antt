@@ -4,7 +4,7 @@ use Rattle.std.specs.List.{list_any}
 use Rattle.std.specs.Ordering.{nat_cmp}
 use Rattle.std.specs.Str.{bytes_eq}
 use Rattle.au_pindex.specs.descent.Rooms.{KeepPlaces, room_in}
-use Rattle.au_pindex.proofs.sparing.spare_roles.Given as goal
+use Rattle.au_pindex.proofs.reserving.reserve_roles.Given as goal
 
 -- the buckets have the places that they had, and those of the roles so far have room
 abbrev pub invariant-loop-role : goal.invariant-loop-role

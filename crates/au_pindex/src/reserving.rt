@@ -15,7 +15,7 @@ ghost use Rattle.au_pindex.specs.Indexing.{table_cmp};
 ghost use Rattle.au_pindex.specs.Naming.{is_of_action, is_on_table};
 
 use crate::bucketed::Bucketed;
-use crate::buckets::spare;
+use crate::buckets::reserve;
 use au_base::{Action, Memory, Name, Privilege, TableName};
 use au_entries::AuditPolicy;
 use std::alloc::Global;
@@ -23,7 +23,7 @@ use std::collections::BTreeMap;
 
 /// Makes room for the place of the policy in the buckets of all that its parts name. A bucket that
 /// isn't there is made.
-pub(crate) fn spare_policy(
+pub(crate) fn reserve_policy(
     alloc: Global,
     buckets: &mut Bucketed,
     policy: &AuditPolicy,
@@ -31,17 +31,17 @@ pub(crate) fn spare_policy(
     ensures stays { KeepAllPlaces buckets.old buckets.new }
     ensures room { OnOk result (HasRoomFor policy.now buckets.new) }
 {
-    spare_actions(
+    reserve_actions(
         alloc,
         &mut buckets.actions,
         &mut buckets.tables,
         policy.actions.as_slice(),
     )?;
-    spare_privileges(alloc, &mut buckets.privileges, policy.privileges.as_slice())?;
-    spare_roles(alloc, &mut buckets.roles, policy.roles.as_slice())
+    reserve_privileges(alloc, &mut buckets.privileges, policy.privileges.as_slice())?;
+    reserve_roles(alloc, &mut buckets.roles, policy.roles.as_slice())
 }
 
-fn spare_actions(
+fn reserve_actions(
     alloc: Global,
     actions: &mut BTreeMap<u8, Vec<usize>>,
     tables: &mut BTreeMap<TableName, Vec<usize>>,
@@ -53,12 +53,12 @@ fn spare_actions(
     ensures on_tables { OnOk result ((table : Table) → list_any (is_on_table table) parts.now ≡ true → 0 < room_in table_cmp tables.new table) }
 {
     for part in parts {
-        spare_part(alloc, actions, tables, part)?;
+        reserve_part(alloc, actions, tables, part)?;
     }
     Ok(())
 }
 
-fn spare_part(
+fn reserve_part(
     alloc: Global,
     actions: &mut BTreeMap<u8, Vec<usize>>,
     tables: &mut BTreeMap<TableName, Vec<usize>>,
@@ -70,12 +70,12 @@ fn spare_part(
     ensures on_tables { OnOk result ((table : Table) → is_on_table table part.now ≡ true → 0 < room_in table_cmp tables.new table) }
 {
     match &part.1 {
-        None => spare_action(alloc, actions, part.0),
-        Some(table) => spare_table(alloc, tables, table),
+        None => reserve_action(alloc, actions, part.0),
+        Some(table) => reserve_table(alloc, tables, table),
     }
 }
 
-fn spare_action(
+fn reserve_action(
     alloc: Global,
     buckets: &mut BTreeMap<u8, Vec<usize>>,
     action: Action,
@@ -83,10 +83,10 @@ fn spare_action(
     ensures stays { KeepPlaces nat_cmp buckets.old buckets.new }
     ensures room { OnOk result ((other : AnyAction) → same_action action other ≡ true → 0 < room_in nat_cmp buckets.new (numbers.code_of other)) }
 {
-    spare(alloc, buckets, action.code())
+    reserve(alloc, buckets, action.code())
 }
 
-fn spare_table(
+fn reserve_table(
     alloc: Global,
     buckets: &mut BTreeMap<TableName, Vec<usize>>,
     table: &TableName,
@@ -95,10 +95,10 @@ fn spare_table(
     ensures room { OnOk result ((other : Table) → same_table table.now other ≡ true → 0 < room_in table_cmp buckets.new other) }
 {
     let key = table.clone()?;
-    spare(alloc, buckets, key)
+    reserve(alloc, buckets, key)
 }
 
-fn spare_privileges(
+fn reserve_privileges(
     alloc: Global,
     buckets: &mut BTreeMap<u8, Vec<usize>>,
     privileges: &[Privilege],
@@ -107,12 +107,12 @@ fn spare_privileges(
     ensures room { OnOk result ((privilege : AnyPrivilege) → list_any (λ part. same_privilege part privilege) privileges.now ≡ true → 0 < room_in nat_cmp buckets.new (ranks.code_of privilege)) }
 {
     for privilege in privileges {
-        spare_privilege(alloc, buckets, *privilege)?;
+        reserve_privilege(alloc, buckets, *privilege)?;
     }
     Ok(())
 }
 
-fn spare_privilege(
+fn reserve_privilege(
     alloc: Global,
     buckets: &mut BTreeMap<u8, Vec<usize>>,
     privilege: Privilege,
@@ -120,10 +120,10 @@ fn spare_privilege(
     ensures stays { KeepPlaces nat_cmp buckets.old buckets.new }
     ensures room { OnOk result ((other : AnyPrivilege) → same_privilege privilege other ≡ true → 0 < room_in nat_cmp buckets.new (ranks.code_of other)) }
 {
-    spare(alloc, buckets, privilege.code())
+    reserve(alloc, buckets, privilege.code())
 }
 
-fn spare_roles(
+fn reserve_roles(
     alloc: Global,
     buckets: &mut BTreeMap<Name, Vec<usize>>,
     roles: &[Name],
@@ -132,12 +132,12 @@ fn spare_roles(
     ensures room { OnOk result ((role : Sequence ℕ) → list_any (λ part. bytes_eq part role) roles.now ≡ true → 0 < room_in (slice_cmp nat_cmp) buckets.new role) }
 {
     for role in roles {
-        spare_role(alloc, buckets, role)?;
+        reserve_role(alloc, buckets, role)?;
     }
     Ok(())
 }
 
-fn spare_role(
+fn reserve_role(
     alloc: Global,
     buckets: &mut BTreeMap<Name, Vec<usize>>,
     role: &Name,
@@ -146,5 +146,5 @@ fn spare_role(
     ensures room { OnOk result ((other : Sequence ℕ) → bytes_eq role.now other ≡ true → 0 < room_in (slice_cmp nat_cmp) buckets.new other) }
 {
     let key = role.clone()?;
-    spare(alloc, buckets, key)
+    reserve(alloc, buckets, key)
 }

@@ -2,12 +2,12 @@ use Rattle.std.specs.Ordering.{nat_cmp}
 use Rattle.au_base.specs.Actions.{code_of}
 use Rattle.au_pindex.specs.Indexing.{table_cmp}
 use Rattle.au_pindex.specs.Naming.{is_of_action, is_on_table}
-use Rattle.au_pindex.proofs.Spared.{keep_on, next_room}
-use Rattle.au_pindex.proofs.sparing.spare_actions.Goals as goal
+use Rattle.au_pindex.proofs.Reserved.{keep_on, next_room}
+use Rattle.au_pindex.proofs.reserving.reserve_actions.Goals as goal
 
 pub loop-part-preserved : goal.loop-part-preserved
 loop-part-preserved c =
-    let said = c.in_ok-spare_part.ensures in
+    let said = c.in_ok-reserve_part.ensures in
     let before = c.loop-part.invariant in (
       keep_on nat_cmp _ _ _ before.0 said.actions,
       keep_on table_cmp _ _ _ before.1 said.tables,

@@ -5,7 +5,7 @@ use Rattle.au_base.specs.declared.privilege.Privilege.{Privilege}
 use Rattle.au_base.specs.Privileges.{code_of}
 use Rattle.au_base.specs.Sameness.{same_privilege}
 use Rattle.au_pindex.specs.descent.Rooms.{KeepPlaces, room_in}
-use Rattle.au_pindex.proofs.sparing.spare_privileges.Given as goal
+use Rattle.au_pindex.proofs.reserving.reserve_privileges.Given as goal
 
 -- the buckets have the places that they had, and those of the privileges so far have room
 abbrev pub invariant-loop-privilege : goal.invariant-loop-privilege
