@@ -9,7 +9,7 @@ use Rattle.au_base.specs.declared.numbers.RowNo.{RowNo}
 use Rattle.std.specs.Borrow.{Bor}
 use Rattle.au_query.specs.declared.source.Source.{Source}
 use Rattle.au_query.specs.Combos.{AreSoundRows, Line, cells_of, lines, product, rows_of, views}
-use Rattle.au_query.specs.Inside.{cell_views, cells_in, found_in}
+use Rattle.au_query.specs.descent.Inside.{cell_views, cells_in, found_in}
 
 differs : true ≡ false → ⊥
 differs e = cc
@@ -26,7 +26,7 @@ or_same : (a : Bool) → (a || a) ≡ a
 or_same true = refl
 or_same false = refl
 
-any_same : {X : Type 0} (p q : X → Bool) → ((x : X) → p x ≡ q x) → (xs : List X) → list_any p xs ≡ list_any q xs
+pub any_same : {X : Type 0} (p q : X → Bool) → ((x : X) → p x ≡ q x) → (xs : List X) → list_any p xs ≡ list_any q xs
 any_same p q e [] = refl
 any_same p q e (x ∷ xs) = ap (λ b. b || list_any p xs) (e x) ∙ ap (λ b. q x || b) (any_same p q e xs)
 
@@ -34,7 +34,7 @@ pub any_append : {X : Type 0} (p : X → Bool) (xs ys : List X) → list_any p (
 any_append p [] ys = refl
 any_append p (x ∷ xs) ys = ap (λ b. p x || b) (any_append p xs ys) ∙ sym (or_assoc (p x) (list_any p xs) (list_any p ys))
 
-any_map : {X Y : Type 0} (p : Y → Bool) (f : X → Y) (xs : List X) → list_any p (map f xs) ≡ list_any (λ x. p (f x)) xs
+pub any_map : {X Y : Type 0} (p : Y → Bool) (f : X → Y) (xs : List X) → list_any p (map f xs) ≡ list_any (λ x. p (f x)) xs
 any_map p f [] = refl
 any_map p f (x ∷ xs) = ap (λ b. p (f x) || b) (any_map p f xs)
 

@@ -20,7 +20,7 @@ use Rattle.au_expr.specs.Values.{is_met}
 use Rattle.au_query.specs.Combos.{Line, cells_of, combos, passes, product, views}
 use Rattle.au_query.specs.declared.cutting.Test.{Test}
 use Rattle.au_query.specs.declared.source.Source.{Source}
-use Rattle.au_query.specs.Inside.{AreMetTogether, ArePartsOf, IsReach, gathered, refuses, trees_in_tests}
+use Rattle.au_query.specs.descent.Inside.{AreMetTogether, ArePartsOf, IsReach, gathered, refuses, trees_in_tests}
 
 differs : true ≡ false → ⊥
 differs e = cc

@@ -39,7 +39,7 @@ use Rattle.au_expr.specs.Sessions.{Session}
 use Rattle.au_expr.specs.Values.{Value, Is, Holds, is_met, is_overflow}
 use Rattle.au_query.specs.Combos.{overflows as some_overflows}
 use Rattle.au_query.specs.Fixed.{IsFixed, NeverOverflows}
-use Rattle.au_query.specs.Inside.{IsAlways, IsColumnAt}
+use Rattle.au_query.specs.descent.Inside.{IsAlways, IsColumnAt}
 use Rattle.au_query.specs.Queries.{on_of}
 use Rattle.au_query.proofs.Anywhere.{nowhere}
 

@@ -1,28 +1,31 @@
 -- What is left of a comparison gives what the condition does.
-use Rattle.std.proofs.Common.{◌≡◌, ◌∙◌, refl, sym, ap, ℕ, zero, suc, ℤ, Bool, true, false, not, ◌&&◌, ◌<◌, ◌+◌, List, [], ◌∷◌, ◌++◌, length, drop, get_or, add-one, ap₂, Option, Some, None, if◌then◌else◌, arith}
+use Rattle.std.proofs.Common.{◌≡◌, ◌∙◌, refl, sym, ap, ℕ, zero, suc, ℤ, Bool, true, false, not, ◌&&◌, ◌||◌, ◌<◌, ◌+◌, List, [], ◌∷◌, ◌++◌, length, map, take, drop, get_or, add-one, ap₂, Option, Some, None, if◌then◌else◌, arith}
 use Rattle.std.specs.Prelude.{IfSome}
 use Rattle.std.specs.Borrow.{Bor}
-use Rattle.std.specs.List.{flat_map, list_all, slice_get}
+use Rattle.std.specs.List.{flat_map, list_all, list_any}
 use Rattle.au_base.specs.declared.numbers.RowNo.{RowNo}
 use Rattle.std.proofs.Math.Seq.{drop-cons}
 use Rattle.std.proofs.lemmas.List.{map-append}
+use Rattle.std.proofs.lemmas.List.Folds.{list_all-append, list_all_more, list_any_more}
 use Rattle.au_base.specs.declared.cell.Cell.{Cell}
 use Rattle.au_base.specs.declared.cell.Cell.TheVariants.{Null, Num, Text, Moment}
 use Rattle.sql_ast.specs.declared.expression.Relation.{Relation}
-use Rattle.au_expr.specs.declared.placed.Place.{Place}
 use Rattle.au_expr.specs.declared.placed.Placed.{Placed}
 use Rattle.au_expr.specs.declared.placed.Placed.TheOpen as part
 use Rattle.au_expr.specs.declared.placed.Placed.TheVariants as tree
 use Rattle.au_expr.specs.declared.placed.Placed.TheFolds.{fold-roll-Placed}
-use Rattle.au_expr.specs.Operators.{added, compare_value, number, sum_from, sum_value}
-use Rattle.au_expr.specs.Placing.{cell_at, cell_in_row, cell_or_null, signed_values_at, step, value_at}
+use Rattle.au_expr.specs.Operators.{added, and_value, compare_value, least, number, sign_value, sum_from, sum_value}
+use Rattle.au_expr.specs.Placing.{signed_values_at, step, value_at, values_at}
 use Rattle.au_expr.specs.Sessions.{Session}
-use Rattle.au_expr.specs.Values.{Value, Is, Holds, Overflows, is_met, is_overflow}
+use Rattle.au_expr.specs.Values.{Value, Is, Holds, Overflows, is_met, is_overflow, truth_in}
+use Rattle.au_query.proofs.Anywhere.{any_map, any_same}
 use Rattle.au_query.specs.Combos.{Line, cells_of, lent, lines, passes}
 use Rattle.au_query.specs.declared.cutting.Test.{Test}
-use Rattle.au_query.specs.Inside.{gathered, trees_in_tests}
-use Rattle.au_query.specs.Residuals.{IsSieve, is_left_out, number_of, residual_value, sides}
+use Rattle.au_query.specs.declared.source.Source.{Source}
+use Rattle.au_query.specs.descent.Inside.{cell_views, found_in, gathered, trees_in_tests}
+use Rattle.au_query.specs.descent.Residuals.{IsResidual, IsSieve, is_left_out, number_of, overflows_behind, residual_value, side_value, sides}
 use Rattle.au_query.specs.declared.residual.Residual.{Residual}
+use Rattle.au_query.specs.declared.residual.Side.TheVariants as side
 
 differs : true ≡ false → ⊥
 differs e = cc
@@ -37,30 +40,11 @@ pub sum_is : (rows : List (List Cell)) (session : Session) (parts : List (Bool �
     → value_at rows session (tree.Sum parts) ≡ sum_value (signed_values_at rows session parts)
 sum_is rows session parts = ap (value_at rows session) (sym (tree.rolls-Sum parts)) ∙ fold-roll-Placed Value (step rows session) (part.Sum parts)
 
-pub number_is : (rows : List (List Cell)) (session : Session) (n : ℤ) → value_at rows session (tree.Number n) ≡ number n
-number_is rows session n = ap (value_at rows session) (sym (tree.rolls-Number n)) ∙ fold-roll-Placed Value (step rows session) (part.Number n)
+pub sign_is : (rows : List (List Cell)) (session : Session) (a : Placed) → value_at rows session (tree.Negate a) ≡ sign_value (value_at rows session a)
+sign_is rows session a = ap (value_at rows session) (sym (tree.rolls-Negate a)) ∙ fold-roll-Placed Value (step rows session) (part.Negate a)
 
-pub column_is : (rows : List (List Cell)) (session : Session) (place : Place) → value_at rows session (tree.Column place) ≡ Is (cell_at rows place)
-column_is rows session place = ap (value_at rows session) (sym (tree.rolls-Column place)) ∙ fold-roll-Placed Value (step rows session) (part.Column place)
-
--- ---- cells of rows before, and of the row behind them
-
-last_row : {X : Type 0} (before : List X) (x : X) → slice_get (before ++ x ∷ []) (length before) ≡ Some x
-last_row [] x = refl
-last_row (y ∷ before) x = last_row before x
-
-row_before : {X : Type 0} (before : List X) (x y : X) (range : ℕ) → slice_get before range ≡ Some y → slice_get (before ++ x ∷ []) range ≡ Some y
-row_before [] x y range e = absurd (cc)
-row_before (z ∷ before) x y zero e = e
-row_before (z ∷ before) x y (suc range) e = row_before before x y range e
-
-pub cell_of_last : (before : List (List Cell)) (cells : List Cell) (place : Place) → place.range ≡ length before
-    → cell_at (before ++ cells ∷ []) place ≡ cell_or_null (slice_get cells place.column)
-cell_of_last before cells place e = ap (λ n. cell_in_row place.column (slice_get (before ++ cells ∷ []) n)) e ∙ ap (cell_in_row place.column) (last_row before cells)
-
-pub cell_before : (before : List (List Cell)) (cells row : List Cell) (place : Place) → slice_get before place.range ≡ Some row
-    → cell_at (before ++ cells ∷ []) place ≡ cell_or_null (slice_get row place.column)
-cell_before before cells row place e = ap (cell_in_row place.column) (row_before before cells row place.range e)
+and_is : (rows : List (List Cell)) (session : Session) (parts : List Placed) → value_at rows session (tree.And parts) ≡ and_value (values_at rows session parts)
+and_is rows session parts = ap (value_at rows session) (sym (tree.rolls-And parts)) ∙ fold-roll-Placed Value (step rows session) (part.And parts)
 
 -- ---- comparisons with a number
 
@@ -96,6 +80,11 @@ overflow_is true r (Is c) k = refl
 overflow_is false r Overflows k = refl
 overflow_is false r (Holds t) k = refl
 overflow_is false r (Is c) k = refl
+
+pub met_by_number : (residual : Residual) (n : ℤ) → residual.side ≡ side.Number n
+    → is_met (sides residual.number_first residual.relation (number n) (number residual.number)) ≡ true
+    → (cells : List Cell) → is_met (residual_value residual cells) ≡ true
+met_by_number residual n is met cells = ap (λ s. is_met (sides residual.number_first residual.relation (side_value s cells) (number residual.number))) is ∙ met
 
 -- ---- rows that are left out
 
@@ -151,11 +140,83 @@ one_fails p [] i test within is fails = absurd (omega (arith, within))
 one_fails p (first ∷ tests) zero test within is fails = ap (λ b. b && list_all p (trees_in_tests tests)) (ap (λ (t : Test). p t.condition.now) (sym is) ∙ fails)
 one_fails p (first ∷ tests) (suc i) test within is fails = all_behind (p first.condition.now) (list_all p (trees_in_tests tests)) (one_fails p tests i test (omega (arith, within)) is fails)
 
-pub lone_is : (p : Placed → Bool) (trees : List Placed) (tree : Placed) → length trees ≡ 1 → tree ≡ get_or trees 0 tree → list_all p trees ≡ p tree
-lone_is p [] tree one is = absurd (omega (arith, one))
-lone_is p (first ∷ []) tree one is = and_true (p first) ∙ ap p (sym is)
+pub lone_list : {X : Type 0} (xs : List X) (x : X) → length xs ≡ 1 → x ≡ get_or xs 0 x → x ∷ [] ≡ xs
+lone_list [] x one is = absurd (omega (arith, one))
+lone_list (y ∷ []) x one is = ap (λ z. z ∷ []) is
+lone_list (y ∷ z ∷ xs) x one is = absurd (omega (arith, one))
+
+pub and_true : (b : Bool) → (b && true) ≡ b
+and_true true = refl
+and_true false = refl
+
+-- one more condition, and what is left of it
+pub left_more : (p : Placed → Bool) (q : Residual → Bool) (trees : List Placed) (i : ℕ) (tree : Placed) (residuals more : List Residual) (residual : Residual)
+    → i < length trees → tree ≡ get_or trees i tree → more ≡ residuals ++ residual ∷ [] → p tree ≡ q residual
+    → list_all p (take i trees) ≡ list_all q residuals → list_all p (take (i + 1) trees) ≡ list_all q more
+left_more p q trees i tree residuals more residual within is pushed same so_far =
+    list_all_more p trees i tree within
+    ∙ ap₂ (λ a b. a && b) so_far (ap p (sym is) ∙ same)
+    ∙ sym (ap (list_all q) pushed ∙ list_all-append q residuals (residual ∷ []) ∙ ap (λ b. list_all q residuals && b) (and_true (q residual)))
+
+-- ---- an overflow of one of several conditions
+
+any_never : {X : Type 0} (xs : List X) → list_any (λ x. false) xs ≡ false
+any_never [] = refl
+any_never (x ∷ xs) = any_never xs
+
+crossed : (a b c d : Bool) → ((a || b) || (c || d)) ≡ ((a || c) || (b || d))
+crossed true b c d = refl
+crossed false true true d = refl
+crossed false true false d = refl
+crossed false false c d = refl
+
+any_both : {X : Type 0} (p q : X → Bool) (xs : List X) → (list_any p xs || list_any q xs) ≡ list_any (λ x. p x || q x) xs
+any_both p q [] = refl
+any_both p q (x ∷ xs) = crossed (p x) (list_any p xs) (q x) (list_any q xs) ∙ ap (λ b. (p x || q x) || b) (any_both p q xs)
+
+any_swapped : {X Y : Type 0} (f : X → Y → Bool) (xs : List X) (ys : List Y) → list_any (λ x. list_any (f x) ys) xs ≡ list_any (λ y. list_any (λ x. f x y) xs) ys
+any_swapped f [] ys = sym (any_never ys)
+any_swapped f (x ∷ xs) ys = ap (λ b. list_any (f x) ys || b) (any_swapped f xs ys) ∙ any_both (f x) (λ y. list_any (λ z. f z y) xs) ys
+
+overflow_among : (values : List Value) → is_overflow (and_value values) ≡ list_any is_overflow values
+overflow_among values = told (list_any is_overflow values)
   where
-    and_true : (b : Bool) → (b && true) ≡ b
-    and_true true = refl
-    and_true false = refl
-lone_is p (first ∷ second ∷ trees) tree one is = absurd (omega (arith, one))
+    told : (b : Bool) → is_overflow (if b then Overflows else Holds (least (map truth_in values))) ≡ b
+    told true = refl
+    told false = refl
+
+and_overflows : (rows : List (List Cell)) (session : Session) (parts : List Placed)
+    → is_overflow (value_at rows session (tree.And parts)) ≡ list_any (λ (p : Placed). is_overflow (value_at rows session p)) parts
+and_overflows rows session parts = ap is_overflow (and_is rows session parts) ∙ overflow_among (values_at rows session parts) ∙ any_map is_overflow (value_at rows session) parts
+
+-- an AND overflows over one of the rows where a part of it does
+pub parts_overflow : (session : Session) (before rows : List (List Cell)) (parts : List Placed)
+    → list_any (overflows_behind session before rows) parts ≡ overflows_behind session before rows (tree.And parts)
+parts_overflow session before rows parts =
+    any_swapped (λ (p : Placed) (cells : List Cell). is_overflow (value_at (before ++ cells ∷ []) session p)) parts rows
+    ∙ any_same (λ cells. list_any (λ (p : Placed). is_overflow (value_at (before ++ cells ∷ []) session p)) parts)
+    (λ cells. is_overflow (value_at (before ++ cells ∷ []) session (tree.And parts)))
+    (λ cells. sym (and_overflows (before ++ cells ∷ []) session parts)) rows
+
+-- what is left of a condition overflows where the condition does
+pub residual_overflows : (session : Session) (before rows : List (List Cell)) (tree : Placed) (residual : Residual) → IsResidual before tree residual
+    → list_any (λ cells. is_overflow (residual_value residual cells)) rows ≡ overflows_behind session before rows tree
+residual_overflows session before rows tree residual is =
+    any_same (λ cells. is_overflow (residual_value residual cells)) (λ cells. is_overflow (value_at (before ++ cells ∷ []) session tree))
+    (λ cells. ap is_overflow (sym (is session cells))) rows
+
+-- none of these overflows, nor does one more
+pub none_more : (p : Placed → Bool) (parts : List Placed) (i : ℕ) (part : Placed) → i < length parts → part ≡ get_or parts i part → p part ≡ false
+    → list_any p (take i parts) ≡ false → list_any p (take (i + 1) parts) ≡ false
+none_more p parts i part within is off so_far = list_any_more p parts i part within ∙ ap₂ (λ a b. a || b) so_far (ap p (sym is) ∙ off)
+
+pub none_left : (sources : List Source) → length sources ≡ 0 → cell_views sources ≡ []
+none_left [] none = refl
+none_left (source ∷ sources) none = absurd (omega (arith, none))
+
+-- a search over the rows of one more table
+pub found_among : {X : Type 0} (test : List X → Bool) (named : ℕ → Bool) (row view rows : List X) (rest : List (List X)) (place : ℕ) (found b : Bool)
+    → place ≡ length row → named place ≡ b → rows ≡ (if b then view else take 1 view) → found ≡ list_any (λ x. found_in test named (row ++ x ∷ []) rest) rows
+    → found ≡ found_in test named row (view ∷ rest)
+found_among test named row view rows rest place found b here is those told =
+    told ∙ ap (list_any (λ x. found_in test named (row ++ x ∷ []) rest)) (those ∙ ap (λ c. if c then view else take 1 view) (sym is ∙ ap named here))

@@ -11,7 +11,7 @@ use Rattle.au_expr.specs.Placing.{value_at}
 use Rattle.au_expr.specs.Sessions.{Session}
 use Rattle.au_expr.specs.Values.{is_met}
 use Rattle.au_query.specs.Combos.{Line, cells_of, passes, product}
-use Rattle.au_query.specs.Inside.{IsKept, gathered}
+use Rattle.au_query.specs.descent.Inside.{IsKept, gathered}
 
 module _ {X : Type 0} (p : List X → Bool) where
   moved : (row : List X) (x : X) (rows : List (List X)) → map (λ r. (row ++ x ∷ []) ++ r) rows ≡ map (λ r. row ++ r) (map (λ r. x ∷ r) rows)

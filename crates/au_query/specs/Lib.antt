@@ -2,10 +2,7 @@ pub mod Answers
 pub mod Combos
 pub mod Counts
 pub mod Fixed
-pub mod Inside
 pub mod Ordering
-pub mod Outputs
-pub mod Plans
 pub mod Queries
 pub mod Refusals
-pub mod Residuals
+pub mod descent

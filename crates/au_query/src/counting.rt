@@ -6,22 +6,21 @@ ghost use Rattle.au_base.specs.Limits as limits;
 ghost use Rattle.au_expr.specs.Resolving.{placed};
 ghost use Rattle.au_query.specs.Answers.{Comes, named_by};
 ghost use Rattle.au_query.specs.Combos as combos;
-ghost use Rattle.au_expr.specs.Values.{is_met};
 ghost use Rattle.au_query.specs.Combos.{AreSoundRows, Line, lines, rows_of};
 ghost use Rattle.au_query.specs.Counts as spec;
 ghost use Rattle.au_query.specs.Counts.{IsCounted, IsTally, numbers_of, passing_rows, tally_refusal, where_refusal};
-ghost use Rattle.au_query.specs.Plans.{Finds};
-ghost use Rattle.au_query.specs.Residuals.{AreLeft, IsResidual, residual_value};
+ghost use Rattle.au_query.specs.descent.Plans.{Finds};
+ghost use Rattle.au_query.specs.descent.Residuals.{AreLeft, IsResidual, are_met_by};
 
 use crate::naming::named;
 use crate::planning::{Plan, with_where};
 use crate::query::conditions_overflow;
 use crate::refusing::condition_code;
-use crate::residual::{Residual, residual_of};
+use crate::residual::{Residual, are_all_met, residual_of};
 use crate::scan::are_met;
 use crate::{Selected, Source};
 use au_base::{Cell, Code, Column, List, Memory, Name, Reply, RowNo, Text};
-use au_expr::{Resolved, Row, SessionFacts};
+use au_expr::{Placed, Resolved, Row, SessionFacts, parts_of_and_are_met};
 use sql_ast::Count;
 use std::alloc::Global;
 use std::slice;
@@ -102,39 +101,69 @@ fn passing(
 ) -> Result<List<RowNo>, Memory>
     ensures { IfOk result (λ numbers. numbers ≡ numbers_of (passing_rows session.now conditions.now (lines rows.now))) }
 {
-    match lone_comparison(conditions) {
-        Some(comparison) => compared(alloc, rows, comparison),
+    match comparisons(alloc, conditions)? {
+        Some(comparisons) => compared(alloc, rows, comparisons.as_slice()),
         None => tested(alloc, rows, session, conditions),
     }
 }
 
-// The one condition that there is, where it is a comparison of a number in a column.
-fn lone_comparison(conditions: &[Resolved]) -> Option<Residual>
-    ensures { IfSome result (AreLeft conditions.now) }
+// What is left of WHERE, or of each condition that AND joins in it. `None` where nothing is left of
+// one of them.
+fn comparisons(alloc: Global, conditions: &[Resolved]) -> Result<Option<Vec<Residual>>, Memory>
+    ensures { IfOk result (λ found. IfSome found (λ residuals. AreLeft conditions.now residuals.items)) }
 {
     match conditions {
-        [condition] => comparison_in(condition),
-        _ => None,
+        [condition] => comparisons_in(alloc, condition),
+        _ => Ok(None),
     }
 }
 
-fn comparison_in(condition: &Resolved) -> Option<Residual>
-    ensures { IfSome result (IsResidual [] condition.now) }
+fn comparisons_in(alloc: Global, condition: &Resolved) -> Result<Option<Vec<Residual>>, Memory>
+    ensures { IfOk result (λ found. IfSome found (λ residuals. AreLeft (condition.now ∷ []) residuals.items)) }
+{
+    parts_of_and_are_met();
+    match condition.tree() {
+        Placed::And(parts) => {
+            let found = residuals_of(alloc, parts.as_slice())?;
+            Ok(found)
+        }
+        tree => {
+            let found = residuals_of(alloc, slice::from_ref(tree))?;
+            Ok(found)
+        }
+    }
+}
+
+fn residuals_of(alloc: Global, trees: &[Placed]) -> Result<Option<Vec<Residual>>, Memory>
+    ensures { IfOk result (λ found. IfSome found (λ residuals. AreLeft trees.now residuals.items)) }
+{
+    let mut residuals = Vec::new(alloc);
+    for tree in trees {
+        match comparison_in(tree) {
+            Some(comparison) => residuals.push(comparison)?,
+            None => return Ok(None),
+        }
+    }
+    Ok(Some(residuals))
+}
+
+fn comparison_in(tree: &Placed) -> Option<Residual>
+    ensures { IfSome result (IsResidual [] tree.now) }
 {
     let row = Row::new();
-    residual_of(condition.tree(), &row)
+    residual_of(tree, &row)
 }
 
 fn compared(
     alloc: Global,
     rows: &[(RowNo, &[Cell])],
-    comparison: Residual,
+    comparisons: &[Residual],
 ) -> Result<List<RowNo>, Memory>
-    ensures { IfOk result (λ numbers. numbers ≡ numbers_of (filter (λ (line : Line). is_met (residual_value comparison line.1)) (lines rows.now))) }
+    ensures { IfOk result (λ numbers. numbers ≡ numbers_of (filter (λ (line : Line). are_met_by line.1 comparisons.now) (lines rows.now))) }
 {
     let mut numbers = List::new(alloc);
     for (number, cells) in rows {
-        if comparison.is_met(*cells) {
+        if are_all_met(comparisons, *cells) {
             numbers.push(*number)?;
         }
     }

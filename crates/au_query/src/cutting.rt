@@ -9,7 +9,7 @@ ghost use Rattle.au_expr.specs.Ranges.{names_range};
 ghost use Rattle.au_expr.specs.Resolving.{placed};
 ghost use Rattle.au_expr.specs.Values as values;
 ghost use Rattle.au_query.specs.Combos.{Line, cells_of, passes, views};
-ghost use Rattle.au_query.specs.Inside.{AreMetTogether, ArePartsOf, ArePartsOfLast, IsReach, gathered, refuses, trees_in_tests};
+ghost use Rattle.au_query.specs.descent.Inside.{AreMetTogether, ArePartsOf, ArePartsOfLast, IsReach, gathered, refuses, trees_in_tests};
 
 use crate::Source;
 use crate::scan::is_met;

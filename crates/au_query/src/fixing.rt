@@ -12,8 +12,8 @@ ghost use Rattle.au_expr.specs.Sessions.{Session};
 ghost use Rattle.au_expr.specs.Values.{Is};
 ghost use Rattle.au_query.specs.Counts.{condition_of};
 ghost use Rattle.au_query.specs.Fixed.{AreFixed, IsFixed, NeverOverflows};
-ghost use Rattle.au_query.specs.Inside.{IsAlways, IsColumnAt, trees_of_conditions};
-ghost use Rattle.au_query.specs.Outputs.{tree_of, trees_in};
+ghost use Rattle.au_query.specs.descent.Inside.{IsAlways, IsColumnAt, trees_of_conditions};
+ghost use Rattle.au_query.specs.descent.Outputs.{tree_of, trees_in};
 ghost use Rattle.au_query.specs.Queries.{conditions_of, items_of, on_of, ons_of};
 ghost use Rattle.sql_ast.specs.declared.expression.Relation.TheVariants as relation;
 

@@ -5,8 +5,8 @@ ghost use Rattle.au_base.specs.declared.table.Column.{Column as Of};
 ghost use Rattle.au_expr.specs.Ranges.{names_column};
 ghost use Rattle.au_query.specs.Answers as spec;
 ghost use Rattle.au_query.specs.Answers.{columns_at, named_by, places_of};
-ghost use Rattle.au_query.specs.Outputs.{trees_in};
-ghost use Rattle.au_query.specs.Plans.{keys_trees, trees_in_plan};
+ghost use Rattle.au_query.specs.descent.Outputs.{trees_in};
+ghost use Rattle.au_query.specs.descent.Plans.{keys_trees, trees_in_plan};
 
 use crate::Source;
 use crate::output::Output;

@@ -6,7 +6,7 @@ ghost use Rattle.au_expr.specs.Placing.{value_at};
 ghost use Rattle.au_expr.specs.Ranges as ranges;
 ghost use Rattle.au_expr.specs.Values.{cell_in};
 ghost use Rattle.au_query.specs.Combos.{cells_over};
-ghost use Rattle.au_query.specs.Outputs.{tree_of, trees_in};
+ghost use Rattle.au_query.specs.descent.Outputs.{tree_of, trees_in};
 
 use au_base::{Cell, List, Memory};
 use au_expr::{ExprKind, Place, Resolved, Row, SessionFacts, value};

@@ -3,18 +3,18 @@ ghost use Rattle.std.specs.Prelude.{◌≡◌, ◌≤◌, ◌+◌, ◌++◌, ◌
 ghost use Rattle.std.specs.List.{list_any};
 ghost use Rattle.au_base.specs.Limits as limits;
 ghost use Rattle.au_query.specs.Combos.{AreSoundRows, overflows_over, product, views};
-ghost use Rattle.au_base.specs.declared.cell.Cell.{Cell as AnyCell};
 ghost use Rattle.au_expr.specs.Sessions.{Session};
 ghost use Rattle.au_expr.specs.Values.{is_overflow};
-ghost use Rattle.au_query.specs.Inside.{cell_views, cells_in, found_in, names_in, overflows_in};
-ghost use Rattle.au_query.specs.Residuals.{IsResidual, residual_value};
+ghost use Rattle.au_query.specs.descent.Inside.{cell_views, cells_in, found_in, names_in, overflows_in};
+ghost use Rattle.au_query.specs.descent.Residuals.{overflows_behind, residual_value};
 
 use crate::Source;
 use crate::residual::{Residual, residual_of};
 use crate::size::has_empty_table;
 use au_base::{Cell, RowNo};
 use au_expr::{
-    Resolved, Row, SessionFacts, named_ranges_suffice, no_overflow_where_none_can, overflows_at,
+    Placed, Resolved, Row, SessionFacts, named_ranges_suffice, no_overflow_where_none_can,
+    overflows_at,
 };
 
 /// Whether an expression overflows over some combination. Only the rows of tables that it names are
@@ -55,8 +55,8 @@ fn search<'a>(
             } else {
                 first_of(source.rows.as_slice())
             };
-            if let Some(residual) = last_residual(expr, row, rest) {
-                return one_overflows(residual, rows);
+            if let Some(found) = found_at_last(expr, row, rest, rows) {
+                return found;
             }
             for (_, cells) in rows {
                 row.push(*cells);
@@ -71,24 +71,52 @@ fn search<'a>(
     }
 }
 
-// What is left of the expression over the table before `rest`, where that is the last one.
-fn last_residual(expr: &Resolved, row: &Row<'_>, rest: &[Source<'_>]) -> Option<Residual>
-    ensures { IfSome result (λ residual. (session : Session) (cells : List AnyCell)
-        → found_in (overflows_in session expr.now) (names_in expr.now) (row.now ++ cells ∷ []) (cell_views rest.now) ≡ is_overflow (residual_value residual cells)) }
+// Whether the expression overflows over the rows given and one of these of the last table. `None`
+// where there are tables behind it, or where nothing is left of the expression or of one of the
+// conditions that AND joins in it.
+fn found_at_last(
+    expr: &Resolved,
+    row: &Row<'_>,
+    rest: &[Source<'_>],
+    rows: &[(RowNo, &[Cell])],
+) -> Option<bool>
+    ensures { IfSome result (λ found. (session : Session)
+        → found ≡ list_any (λ cells. found_in (overflows_in session expr.now) (names_in expr.now) (row.now ++ cells ∷ []) (cell_views rest.now)) (cells_in rows.now)) }
 {
-    match residual_if_last(expr, row, rest) {
-        Some(residual) => Some(residual),
-        None => None,
+    match rest.split_first() {
+        None => told_by_residuals(expr.tree(), row, rows),
+        Some(_) => None,
     }
 }
 
-fn residual_if_last(expr: &Resolved, row: &Row<'_>, rest: &[Source<'_>]) -> Option<Residual>
-    ensures residual { IfSome result (IsResidual row.now expr.now) }
-    ensures last { IfSome result (λ residual. cell_views rest.now ≡ []) }
+fn told_by_residuals(tree: &Placed, row: &Row<'_>, rows: &[(RowNo, &[Cell])]) -> Option<bool>
+    ensures { IfSome result (λ found. (session : Session) → found ≡ overflows_behind session row.now (cells_in rows.now) tree.now) }
 {
-    match rest.split_first() {
-        None => residual_of(expr.tree(), row),
-        Some(_) => None,
+    match tree {
+        Placed::And(parts) => told_of_parts(parts.as_slice(), row, rows),
+        _ => told_of_one(tree, row, rows),
+    }
+}
+
+// Whether one of the parts overflows over one of the rows.
+fn told_of_parts(parts: &[Placed], row: &Row<'_>, rows: &[(RowNo, &[Cell])]) -> Option<bool>
+    ensures { IfSome result (λ found. (session : Session) → found ≡ list_any (overflows_behind session row.now (cells_in rows.now)) parts.now) }
+{
+    for part in parts {
+        let found = told_of_one(part, row, rows)?;
+        if found {
+            return Some(true);
+        }
+    }
+    Some(false)
+}
+
+fn told_of_one(tree: &Placed, row: &Row<'_>, rows: &[(RowNo, &[Cell])]) -> Option<bool>
+    ensures { IfSome result (λ found. (session : Session) → found ≡ overflows_behind session row.now (cells_in rows.now) tree.now) }
+{
+    match residual_of(tree, row) {
+        Some(residual) => Some(one_overflows(residual, rows)),
+        None => None,
     }
 }
 

@@ -6,8 +6,8 @@ ghost use Rattle.au_expr.specs.Names as names;
 ghost use Rattle.au_expr.specs.Names.{first};
 ghost use Rattle.au_expr.specs.Resolving as resolving;
 ghost use Rattle.au_expr.specs.Resolving.{placed};
-ghost use Rattle.au_query.specs.Outputs.{tree_of, trees_in};
-ghost use Rattle.au_query.specs.Plans.{Finds, IsPlanOf, IsPlanned};
+ghost use Rattle.au_query.specs.descent.Outputs.{tree_of, trees_in};
+ghost use Rattle.au_query.specs.descent.Plans.{Finds, IsPlanOf, IsPlanned};
 ghost use Rattle.au_query.specs.Queries.{all_columns, columns_of_range, items_of, on_of, ons_of, order_of};
 ghost use Rattle.au_query.specs.Refusals.{code_if_there, item_codes, key_codes, kind_refusal, on_code, on_codes, where_code};
 

@@ -4,8 +4,8 @@ ghost use Rattle.au_base.specs.Limits as limits;
 ghost use Rattle.au_query.specs.Answers.{Comes, IsDone, IsReply, IsSelected};
 ghost use Rattle.au_query.specs.Combos as spec;
 ghost use Rattle.au_query.specs.Combos.{AreSoundRows, combos as combos_of, views};
-ghost use Rattle.au_query.specs.Outputs.{tree_of, trees_in};
-ghost use Rattle.au_query.specs.Plans.{IsPlanOf, run_refusal};
+ghost use Rattle.au_query.specs.descent.Outputs.{tree_of, trees_in};
+ghost use Rattle.au_query.specs.descent.Plans.{IsPlanOf, run_refusal};
 ghost use Rattle.au_query.specs.Queries.{query_of};
 
 use crate::combo::Combo;

@@ -3,7 +3,7 @@ ghost use Rattle.std.specs.Prelude.{◌≡◌, ◌++◌, IfOk, map};
 ghost use Rattle.std.specs.List.{enumerate_from, flat_map};
 ghost use Rattle.std.specs.Option.{option_copied};
 ghost use Rattle.au_query.specs.Combos.{cells_at};
-ghost use Rattle.au_query.specs.Outputs.{trees_in};
+ghost use Rattle.au_query.specs.descent.Outputs.{trees_in};
 ghost use Rattle.au_query.specs.Queries as spec;
 
 use crate::combo::Combo;

@@ -1,20 +1,20 @@
 //! What is left of a comparison over the rows of one more table, where those of the tables before it
 //! are given.
-ghost use Rattle.std.specs.Prelude.{◌≡◌, ◌++◌, ◌∷◌, [], List, IfSome};
+ghost use Rattle.std.specs.Prelude.{◌≡◌, ◌++◌, ◌∷◌, [], List, IfSome, true};
 ghost use Rattle.au_base.specs.declared.cell.Cell.{Cell as AnyCell};
-ghost use Rattle.au_expr.specs.Operators.{added, compare_value, sum_value};
+ghost use Rattle.au_expr.specs.Operators.{added, compare_value, sign_value, sum_value};
 ghost use Rattle.au_expr.specs.Operators as operators;
 ghost use Rattle.au_expr.specs.Placing.{cell_or_null, signed_values_at, value_at};
 ghost use Rattle.au_expr.specs.Sessions.{Session};
 ghost use Rattle.au_expr.specs.Values as values;
-ghost use Rattle.au_query.specs.Residuals as spec;
-ghost use Rattle.au_query.specs.Residuals.{IsResidual, IsSideOf, IsSieve, number_or_overflow, number_of, residual_value, side_value, sides};
-ghost use Rattle.au_query.specs.Inside.{trees_in_tests};
+ghost use Rattle.au_query.specs.descent.Residuals as spec;
+ghost use Rattle.au_query.specs.descent.Residuals.{IsResidual, IsSideOf, IsSieve, are_met_by, number_or_overflow, number_of, residual_value, side_value, sides};
+ghost use Rattle.au_query.specs.descent.Inside.{trees_in_tests};
 ghost use Rattle.std.specs.List.{slice_get};
 
 use crate::cutting::Test;
 use au_base::{Cell, add, subtract};
-use au_expr::{Place, Placed, Row};
+use au_expr::{Place, Placed, Resolved, Row};
 use sql_ast::Relation;
 
 /// One side of a comparison over a row of the next table.
@@ -57,6 +57,17 @@ impl Residual {
             return holds(self.relation, self.number, number);
         }
         holds(self.relation, number, self.number)
+    }
+
+    // Whether it is Yes over whatever cells, since none of them stands in it.
+    #[tactic(auto, using(crate::proofs::Residuals::met_by_number))]
+    fn is_always_met(self) -> bool
+        ensures { result ≡ true → (cells : List AnyCell) → values.is_met (residual_value self cells) ≡ true }
+    {
+        match self.side {
+            Side::Number(number) => self.holds_of(number),
+            _ => false,
+        }
     }
 
     /// Whether it overflows over these cells.
@@ -235,6 +246,25 @@ fn plain_side(tree: &Placed, row: &Row<'_>) -> Option<Side>
     ensures { IfSome result (IsSideOf row.now tree.now) }
 {
     match tree {
+        Placed::Negate(part) => negated_side(part.get(), row),
+        _ => unsigned_side(tree, row),
+    }
+}
+
+fn negated_side(tree: &Placed, row: &Row<'_>) -> Option<Side>
+    ensures { IfSome result (λ side. (session : Session) (cells : List AnyCell)
+        → sign_value (value_at (row.now ++ cells ∷ []) session tree.now) ≡ side_value side cells) }
+{
+    match unsigned_side(tree, row) {
+        Some(side) => with_side(Side::Number(0), true, side),
+        None => None,
+    }
+}
+
+fn unsigned_side(tree: &Placed, row: &Row<'_>) -> Option<Side>
+    ensures { IfSome result (IsSideOf row.now tree.now) }
+{
+    match tree {
         Placed::Number(number) => Some(Side::Number(*number)),
         Placed::Column(place) => column_side(*place, row),
         _ => None,
@@ -262,16 +292,26 @@ fn number_side(cells: &[Cell], column: usize) -> Option<Side>
     }
 }
 
-/// The first of the conditions that is such a comparison. It takes no memory.
+/// The first of the conditions that is such a comparison and not Yes over whatever row, as one of
+/// the earlier tables alone may be. It takes no memory.
 pub fn sieve_of(tests: &[Test<'_>], row: &Row<'_>) -> Option<Residual>
     ensures { IfSome result (IsSieve (trees_in_tests tests.now) row.now) }
 {
     for test in tests {
-        if let Some(residual) = residual_of(test.condition.tree(), row) {
+        if let Some(residual) = sieve_in(test.condition, row) {
             return Some(residual);
         }
     }
     None
+}
+
+fn sieve_in(condition: &Resolved, row: &Row<'_>) -> Option<Residual>
+    ensures { IfSome result (IsResidual row.now condition.now) }
+{
+    match residual_of(condition.tree(), row) {
+        Some(residual) if !residual.is_always_met() => Some(residual),
+        _ => None,
+    }
 }
 
 /// Whether there is such a comparison and it isn't Yes over these cells.
@@ -282,4 +322,16 @@ pub fn is_left_out(sieve: Option<Residual>, cells: &[Cell]) -> bool
         Some(residual) => !residual.is_met(cells),
         None => false,
     }
+}
+
+/// Whether each comparison is Yes over these cells.
+pub fn are_all_met(comparisons: &[Residual], cells: &[Cell]) -> bool
+    ensures { result ≡ are_met_by cells.now comparisons.now }
+{
+    for comparison in comparisons {
+        if !comparison.is_met(cells) {
+            return false;
+        }
+    }
+    true
 }

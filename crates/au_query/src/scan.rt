@@ -7,8 +7,8 @@ ghost use Rattle.au_expr.specs.Placing.{value_at};
 ghost use Rattle.au_expr.specs.Values as values;
 ghost use Rattle.au_query.specs.Combos as spec;
 ghost use Rattle.au_query.specs.Combos.{cells_of, passes, views};
-ghost use Rattle.au_query.specs.Residuals.{IsSieve};
-ghost use Rattle.au_query.specs.Inside.{IsKept, IsReach, gathered, trees_in_tests};
+ghost use Rattle.au_query.specs.descent.Residuals.{IsSieve};
+ghost use Rattle.au_query.specs.descent.Inside.{IsKept, IsReach, gathered, trees_in_tests};
 
 use crate::Source;
 use crate::combo::Combo;

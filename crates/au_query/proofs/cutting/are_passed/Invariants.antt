@@ -3,7 +3,7 @@ use Rattle.std.specs.List.{list_all}
 use Rattle.au_expr.specs.declared.placed.Placed.{Placed}
 use Rattle.au_expr.specs.Placing.{value_at}
 use Rattle.au_expr.specs.Values.{is_met}
-use Rattle.au_query.specs.Inside.{trees_in_tests}
+use Rattle.au_query.specs.descent.Inside.{trees_in_tests}
 use Rattle.au_query.proofs.cutting.are_passed.Given as goal
 
 abbrev pub invariant-loop-test : goal.invariant-loop-test

@@ -1,6 +1,6 @@
 use Rattle.std.proofs.Common.{◌≡◌, ◌∙◌, ◌∷◌, [], ap, map}
 use Rattle.au_expr.specs.Resolving.{placed}
-use Rattle.au_query.specs.Inside.{ArePartsOf}
+use Rattle.au_query.specs.descent.Inside.{ArePartsOf}
 use Rattle.au_query.proofs.Cuts.{parts_of, some_other}
 use Rattle.au_query.proofs.cutting.condition_parts.Goals as goal
 

@@ -1,6 +1,6 @@
 use Rattle.std.proofs.Common.{◌≡◌, drop}
 use Rattle.std.specs.List.{list_any}
-use Rattle.au_query.specs.Inside.{refuses}
+use Rattle.au_query.specs.descent.Inside.{refuses}
 use Rattle.au_query.proofs.cutting.is_refused.Given as goal
 
 abbrev pub invariant-loop-test : goal.invariant-loop-test

@@ -1,6 +1,6 @@
 use Rattle.std.proofs.Common.{◌≡◌, ◌++◌, take}
 use Rattle.std.specs.List.{AllByRecursion}
-use Rattle.au_query.specs.Inside.{IsReach, trees_in_tests}
+use Rattle.au_query.specs.descent.Inside.{IsReach, trees_in_tests}
 use Rattle.au_query.proofs.cutting.push_tests.Given as goal
 
 abbrev pub invariant-loop-condition : goal.invariant-loop-condition

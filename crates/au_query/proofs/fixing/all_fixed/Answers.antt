@@ -1,7 +1,7 @@
 use Rattle.std.proofs.Common.{[], arith, sym, subst}
 use Rattle.std.proofs.lemmas.List.{append-nil, drop_all}
 use Rattle.au_query.specs.Fixed.{AreFixed}
-use Rattle.au_query.specs.Inside.{trees_of_conditions}
+use Rattle.au_query.specs.descent.Inside.{trees_of_conditions}
 use Rattle.au_query.proofs.fixing.all_fixed.Goals as goal
 
 pub returns : goal.returns

@@ -1,7 +1,7 @@
 use Rattle.std.proofs.Common.{◌++◌, drop, List}
 use Rattle.au_base.specs.declared.cell.Cell.{Cell}
 use Rattle.au_query.specs.Fixed.{AreFixed}
-use Rattle.au_query.specs.Inside.{trees_of_conditions}
+use Rattle.au_query.specs.descent.Inside.{trees_of_conditions}
 use Rattle.au_query.proofs.fixing.all_fixed.Given as goal
 
 abbrev pub invariant-loop-column : goal.invariant-loop-column

@@ -1,7 +1,7 @@
 use Rattle.std.proofs.Common.{◌≡◌, drop}
 use Rattle.std.specs.List.{list_any}
 use Rattle.au_expr.specs.Overflows.{can_overflow}
-use Rattle.au_query.specs.Outputs.{trees_in}
+use Rattle.au_query.specs.descent.Outputs.{trees_in}
 use Rattle.au_query.proofs.fixing.can_output_overflow.Given as goal
 
 abbrev pub invariant-loop-output : goal.invariant-loop-output

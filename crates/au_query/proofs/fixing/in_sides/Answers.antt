@@ -3,7 +3,7 @@ use Rattle.au_expr.specs.declared.placed.Placed.TheVariants as tree
 use Rattle.au_expr.specs.Resolving.{placed}
 use Rattle.sql_ast.specs.declared.expression.Relation.TheVariants as relation
 use Rattle.au_query.specs.Fixed.{IsFixed}
-use Rattle.au_query.specs.Inside.{IsAlways}
+use Rattle.au_query.specs.descent.Inside.{IsAlways}
 use Rattle.au_query.proofs.Cuts.{some_other}
 use Rattle.au_query.proofs.Equalities.{left_fixed, right_fixed}
 use Rattle.au_query.proofs.fixing.in_sides.Goals as goal

@@ -3,7 +3,7 @@ use Rattle.au_expr.specs.Placing.{value_at}
 use Rattle.au_expr.specs.Ranges.{names_range}
 use Rattle.au_expr.specs.Resolving.{placed}
 use Rattle.au_expr.specs.Values.{Is}
-use Rattle.au_query.specs.Inside.{IsAlways}
+use Rattle.au_query.specs.descent.Inside.{IsAlways}
 use Rattle.au_query.proofs.Cuts.{some_other}
 use Rattle.au_query.proofs.Equalities.{always_so, none_named}
 use Rattle.au_query.proofs.fixing.lone_cell.Goals as goal

@@ -1,6 +1,6 @@
 use Rattle.std.proofs.Common.{◌∙◌, ◌++◌, ap₂, sym, subst}
 use Rattle.au_query.specs.Fixed.{NeverOverflows}
-use Rattle.au_query.specs.Outputs.{trees_in}
+use Rattle.au_query.specs.descent.Outputs.{trees_in}
 use Rattle.au_query.proofs.Equalities.{never, not_false}
 use Rattle.au_query.proofs.fixing.never_overflows.Goals as goal
 

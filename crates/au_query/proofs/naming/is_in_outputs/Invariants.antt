@@ -1,7 +1,7 @@
 use Rattle.std.proofs.Common.{◌≡◌, drop}
 use Rattle.std.specs.List.{list_any}
 use Rattle.au_expr.specs.Ranges.{names_column}
-use Rattle.au_query.specs.Outputs.{trees_in}
+use Rattle.au_query.specs.descent.Outputs.{trees_in}
 use Rattle.au_query.proofs.naming.is_in_outputs.Given as goal
 
 abbrev pub invariant-loop-output : goal.invariant-loop-output

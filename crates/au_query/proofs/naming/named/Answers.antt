@@ -3,7 +3,7 @@ use Rattle.std.specs.List.{enumerate_from}
 use Rattle.au_base.specs.declared.table.Column.{Column}
 use Rattle.au_base.specs.declared.table.TableName.{TableName}
 use Rattle.au_query.specs.Answers.{is_first, is_named, named_in, places_of}
-use Rattle.au_query.specs.Plans.{trees_in_plan}
+use Rattle.au_query.specs.descent.Plans.{trees_in_plan}
 use Rattle.au_query.proofs.Firsts.{left_out, next, told}
 use Rattle.au_query.proofs.naming.named.Goals as goal
 use Rattle.au_query.proofs.naming.named.Goals.{then-is_first+in_ok-named_table+in_ok-push, else-is_first}

@@ -1,7 +1,7 @@
 use Rattle.std.proofs.Common.{◌≡◌, ◌++◌, drop, map, filter}
 use Rattle.std.specs.List.{enumerate_from}
 use Rattle.au_query.specs.Answers.{is_first, named_by, named_in}
-use Rattle.au_query.specs.Plans.{trees_in_plan}
+use Rattle.au_query.specs.descent.Plans.{trees_in_plan}
 use Rattle.au_query.proofs.naming.named.Given as goal
 
 abbrev pub invariant-loop-range : goal.invariant-loop-range

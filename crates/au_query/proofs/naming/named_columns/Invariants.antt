@@ -2,7 +2,7 @@ use Rattle.std.proofs.Common.{◌≡◌, ℕ, ◌++◌, drop, map, filter}
 use Rattle.std.specs.List.{enumerate_from}
 use Rattle.au_base.specs.declared.table.Column.{Column}
 use Rattle.au_query.specs.Answers.{is_named}
-use Rattle.au_query.specs.Plans.{trees_in_plan}
+use Rattle.au_query.specs.descent.Plans.{trees_in_plan}
 use Rattle.au_query.proofs.naming.named_columns.Given as goal
 
 abbrev pub invariant-loop-number : goal.invariant-loop-number

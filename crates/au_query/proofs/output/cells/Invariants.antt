@@ -1,7 +1,7 @@
 use Rattle.std.proofs.Common.{◌≡◌, ◌++◌, drop, map}
 use Rattle.au_expr.specs.Placing.{value_at}
 use Rattle.au_expr.specs.Values.{cell_in}
-use Rattle.au_query.specs.Outputs.{trees_in}
+use Rattle.au_query.specs.descent.Outputs.{trees_in}
 use Rattle.au_query.proofs.output.cells.Given as goal
 
 abbrev pub invariant-loop-output : goal.invariant-loop-output

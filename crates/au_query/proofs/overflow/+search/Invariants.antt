@@ -1,6 +1,6 @@
 use Rattle.std.proofs.Common.{◌≡◌, ◌++◌, ◌∷◌, [], drop, length}
 use Rattle.std.specs.List.{list_any}
-use Rattle.au_query.specs.Inside.{cell_views, cells_in, found_in, names_in, overflows_in}
+use Rattle.au_query.specs.descent.Inside.{cell_views, cells_in, found_in, names_in, overflows_in}
 use Rattle.au_query.proofs.overflow.+search.Given as goal
 
 abbrev pub decreases-search : goal.decreases-search

@@ -1,8 +1,8 @@
 use Rattle.std.proofs.Common.{◌≡◌, drop}
 use Rattle.std.specs.List.{list_any}
 use Rattle.au_expr.specs.Values.{is_overflow}
-use Rattle.au_query.specs.Inside.{cells_in}
-use Rattle.au_query.specs.Residuals.{residual_value}
+use Rattle.au_query.specs.descent.Inside.{cells_in}
+use Rattle.au_query.specs.descent.Residuals.{residual_value}
 use Rattle.au_query.proofs.overflow.one_overflows.Given as goal
 
 abbrev pub invariant-loop-cells : goal.invariant-loop-cells

@@ -2,7 +2,7 @@ use Rattle.std.proofs.Common.{◌∙◌, sym, ap}
 use Rattle.au_expr.specs.Placing.{value_at}
 use Rattle.au_expr.specs.Values.{is_overflow}
 use Rattle.au_query.specs.Combos.{views}
-use Rattle.au_query.specs.Inside.{names_in, overflows_in}
+use Rattle.au_query.specs.descent.Inside.{names_in, overflows_in}
 use Rattle.au_query.proofs.Anywhere.{everywhere, nowhere}
 use Rattle.au_query.proofs.overflow.overflows_somewhere.Goals as goal
 

@@ -3,7 +3,7 @@ use Rattle.std.specs.Prelude.{None}
 use Rattle.sql_ast.specs.declared.query.Item.{Item}
 use Rattle.au_expr.specs.Names.{first}
 use Rattle.au_expr.specs.Resolving.{placed, value_code}
-use Rattle.au_query.specs.Outputs.{trees_in}
+use Rattle.au_query.specs.descent.Outputs.{trees_in}
 use Rattle.au_query.proofs.planning.listed.Given as goal
 
 abbrev pub invariant-loop-item : goal.invariant-loop-item

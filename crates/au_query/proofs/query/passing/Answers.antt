@@ -6,7 +6,7 @@ use Rattle.au_expr.specs.Placing.{value_at}
 use Rattle.au_expr.specs.Values.{is_met}
 use Rattle.au_base.specs.Limits.{REPLY_ROWS}
 use Rattle.au_query.specs.Combos.{combos, views}
-use Rattle.au_query.specs.Inside.{trees_in_tests}
+use Rattle.au_query.specs.descent.Inside.{trees_in_tests}
 use Rattle.au_query.proofs.Cuts.{same_combos}
 use Rattle.au_query.proofs.query.passing.Goals as goal
 

@@ -3,7 +3,7 @@ use Rattle.std.proofs.lemmas.List.{length-map}
 use Rattle.std.proofs.lemmas.List.Sorted.{length_permutation}
 use Rattle.au_query.specs.Combos.{cells_at}
 use Rattle.au_query.specs.Ordering.{IsOrdered}
-use Rattle.au_query.specs.Outputs.{trees_in}
+use Rattle.au_query.specs.descent.Outputs.{trees_in}
 use Rattle.au_query.specs.Queries.{query_of}
 use Rattle.au_query.proofs.query.reply.Goals as goal
 

@@ -1,6 +1,6 @@
 use Rattle.std.proofs.Common.{◌≡◌, ◌++◌, drop, map}
 use Rattle.au_query.specs.Combos.{cells_at}
-use Rattle.au_query.specs.Outputs.{trees_in}
+use Rattle.au_query.specs.descent.Outputs.{trees_in}
 use Rattle.au_query.proofs.reply.rows.Given as goal
 
 abbrev pub invariant-loop-combo : goal.invariant-loop-combo

@@ -1,4 +1,4 @@
-use Rattle.std.proofs.Common.{◌∙◌, ◌++◌, ◌∷◌, [], ap, sym}
+use Rattle.std.proofs.Common.{◌∙◌, ◌++◌, ◌∷◌, [], ap}
 use Rattle.au_expr.specs.Placing.{value_at}
 use Rattle.au_expr.specs.Values.{is_met}
 use Rattle.au_query.proofs.Residuals.{one_fails}
@@ -8,4 +8,4 @@ pub returns-in-Some : goal.returns-in-Some
 returns-in-Some c = λ session cells unmet.
     let rows = c.args.row.now ++ cells ∷ [] in
     one_fails (λ tree. is_met (value_at rows session tree)) c.args.tests.now c.loop-test.test-index c.test-item.result c.loop-test-test.true c.test-item.is
-    (ap is_met (ap (value_at rows session) (sym c.tree.ensures) ∙ c.in-Some.ensures session cells) ∙ unmet)
+    (ap is_met (c.in-Some.ensures session cells) ∙ unmet)

@@ -1,5 +1,5 @@
 use Rattle.std.proofs.Common.{◌++◌, ◌∷◌, []}
-use Rattle.au_query.specs.Residuals.{side_value}
+use Rattle.au_query.specs.descent.Residuals.{side_value}
 use Rattle.au_query.proofs.Residuals.{summand_added}
 use Rattle.au_query.proofs.residual.sum_side.Goals as goal
 

@@ -1,6 +1,6 @@
 use Rattle.std.proofs.Common.{◌∙◌, ap}
 use Rattle.au_expr.specs.Operators.{added}
-use Rattle.au_query.specs.Residuals.{side_value}
+use Rattle.au_query.specs.descent.Residuals.{side_value}
 use Rattle.au_query.proofs.Cuts.{some_other}
 use Rattle.au_query.proofs.residual.with_summand.Goals as goal
 

@@ -1,6 +1,6 @@
 use Rattle.std.proofs.Common.{◌∙◌, sym}
 use Rattle.au_query.specs.Combos.{lent, views}
-use Rattle.au_query.specs.Inside.{trees_in_tests}
+use Rattle.au_query.specs.descent.Inside.{trees_in_tests}
 use Rattle.au_query.proofs.Residuals.{none_behind, skipped}
 use Rattle.au_query.proofs.scan.+scan.Goals as goal
 

@@ -2,7 +2,7 @@ use Rattle.std.proofs.Common.{◌≡◌, ◌≤◌, ◌++◌, ◌∷◌, [], dro
 use Rattle.std.specs.List.{flat_map}
 use Rattle.au_base.specs.Limits.{REPLY_ROWS}
 use Rattle.au_query.specs.Combos.{lines, passes, views}
-use Rattle.au_query.specs.Inside.{gathered, trees_in_tests}
+use Rattle.au_query.specs.descent.Inside.{gathered, trees_in_tests}
 use Rattle.au_query.proofs.scan.+scan.Given as goal
 
 abbrev pub decreases-scan : goal.decreases-scan

@@ -1,5 +1,5 @@
 use Rattle.au_query.specs.Combos.{passes, views}
-use Rattle.au_query.specs.Inside.{trees_in_tests}
+use Rattle.au_query.specs.descent.Inside.{trees_in_tests}
 use Rattle.au_query.proofs.Scans.{all_kept, too_many}
 use Rattle.au_query.proofs.scan.combos.Goals as goal
 

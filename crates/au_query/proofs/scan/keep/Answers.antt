@@ -1,5 +1,5 @@
 use Rattle.std.proofs.Common.{arith, false, true}
-use Rattle.au_query.specs.Inside.{trees_in_tests}
+use Rattle.au_query.specs.descent.Inside.{trees_in_tests}
 use Rattle.au_query.proofs.Scans.{is_added, is_full, left_out, over_front}
 use Rattle.au_query.proofs.scan.keep.Goals as goal
 

@@ -10,7 +10,7 @@ use Rattle.au_expr.specs.declared.placed.Place.{Place}
 use Rattle.au_expr.specs.declared.placed.Placed.{Placed}
 use Rattle.au_query.specs.Answers.{column_tree}
 use Rattle.au_query.specs.declared.planning.Plan.{Plan}
-use Rattle.au_query.specs.Outputs.{trees_in}
+use Rattle.au_query.specs.descent.Outputs.{trees_in}
 use Rattle.au_query.specs.Queries.{Query, conditions_of, items_of, order_of}
 use Rattle.au_query.specs.Refusals.{kind_refusal, name_refusal, overflow_refusal, too_many_combinations, too_many_rows}
 

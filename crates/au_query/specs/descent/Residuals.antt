@@ -1,6 +1,6 @@
 -- What the code holds of a comparison over the rows of one more table. No promise of the crate rests on these.
 use Rattle.std.specs.Prelude.{◌≡◌, ℤ, Bool, true, false, not, List, [], ◌∷◌, ◌++◌, Option, None, Some}
-use Rattle.std.specs.List.{list_all, slice_get}
+use Rattle.std.specs.List.{list_all, list_any, slice_get}
 use Rattle.au_base.specs.declared.cell.Cell.{Cell}
 use Rattle.au_base.specs.declared.cell.Cell.TheVariants as cell
 use Rattle.sql_ast.specs.declared.expression.Relation.{Relation}
@@ -9,7 +9,7 @@ use Rattle.au_expr.specs.declared.placed.Placed.{Placed}
 use Rattle.au_expr.specs.Operators.{added, compare_value, number}
 use Rattle.au_expr.specs.Placing.{cell_at, cell_or_null, value_at}
 use Rattle.au_expr.specs.Sessions.{Session}
-use Rattle.au_expr.specs.Values.{Value, Is, Holds, Overflows, is_met}
+use Rattle.au_expr.specs.Values.{Value, Is, Holds, Overflows, is_met, is_overflow}
 use Rattle.au_query.specs.declared.residual.Residual.{Residual}
 use Rattle.au_query.specs.declared.residual.Side.{Side}
 use Rattle.au_query.specs.declared.residual.Side.TheVariants as side
@@ -67,7 +67,15 @@ abbrev pub is_left_out : Option Residual → List Cell → Bool
 is_left_out None cells = false
 is_left_out (Some residual) cells = not (is_met (residual_value residual cells))
 
--- over one row the conditions are all Yes exactly where the comparison is
-abbrev pub AreLeft : List Placed → Residual → Type 0
-AreLeft trees residual = (session : Session) (cells : List Cell)
-    → list_all (λ (tree : Placed). is_met (value_at (cells ∷ []) session tree)) trees ≡ is_met (residual_value residual cells)
+-- each comparison is Yes over these cells
+abbrev pub are_met_by : List Cell → List Residual → Bool
+are_met_by cells residuals = list_all (λ residual. is_met (residual_value residual cells)) residuals
+
+-- over one row the conditions are all Yes exactly where the comparisons are
+abbrev pub AreLeft : List Placed → List Residual → Type 0
+AreLeft trees residuals = (session : Session) (cells : List Cell)
+    → list_all (λ (tree : Placed). is_met (value_at (cells ∷ []) session tree)) trees ≡ are_met_by cells residuals
+
+-- the expression overflows over the rows before and one of these behind them
+abbrev pub overflows_behind : Session → List (List Cell) → List (List Cell) → Placed → Bool
+overflows_behind session before rows tree = list_any (λ cells. is_overflow (value_at (before ++ cells ∷ []) session tree)) rows
