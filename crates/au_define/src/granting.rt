@@ -16,8 +16,8 @@ use au_grants::GrantChange;
 use au_priv::{Decided, Known, decide};
 use std::alloc::Global;
 
-/// What is decided of GRANT or REVOKE. The lists of what is there stand in order, and the names that the
-/// statement names are looked up in them.
+/// What is decided of GRANT or REVOKE. The lists of what is there stand in order: the statement's
+/// names are looked up in them, and of all names these alone are copied.
 pub fn grant(alloc: Global, case: &Case<'_>, statement: &GrantStatement) -> Result<Decision, Memory>
     requires order { IsSorted case.now }
     ensures { IfOk result (DecidesGrant (lent case.now) statement.now) }

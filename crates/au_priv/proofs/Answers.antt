@@ -18,7 +18,7 @@ use Rattle.au_grants.specs.Rights.{Name}
 use Rattle.au_priv.proofs.Tables.{same_table-is, same_table-refl}
 
 -- the privileges that allow some action on any table
-pub some_action : (privilege : Privilege) → is_any_table privilege ≡ true → (action : Action) × (any_table_privilege action ≡ Some privilege)
+some_action : (privilege : Privilege) → is_any_table privilege ≡ true → (action : Action) × (any_table_privilege action ≡ Some privilege)
 some_action SelectAnyTable is = (A.Select, refl)
 some_action InsertAnyTable is = (A.Insert, refl)
 some_action UpdateAnyTable is = (A.Update, refl)
@@ -40,7 +40,7 @@ any_table_held grants user = (
 )
 
 -- there is one code for a missing right
-pub one_refusal : (grants : Grants) (user : Name) (table : TableName) (a b : Code) → IsRefusal grants user table a → IsRefusal grants user table b → a ≡ b
+one_refusal : (grants : Grants) (user : Name) (table : TableName) (a b : Code) → IsRefusal grants user table a → IsRefusal grants user table b → a ≡ b
 one_refusal grants user table a b (inl (some, is)) (inl (too, other)) = is ∙ sym other
 one_refusal grants user table a b (inl (some, is)) (inr (nothing, other)) = absurd (nothing some)
 one_refusal grants user table a b (inr (nothing, is)) (inl (some, other)) = absurd (nothing some)

@@ -11,22 +11,19 @@ use Rattle.au_priv.specs.Allowing.{HasSomething}
 use Rattle.au_priv.proofs.Answers.{any_table_held}
 
 -- the first right, where it is held
-pub first_is : (grants : Grants) (user : Name) (right : Sought) (rights : List Sought) (place : ℕ) → place ≡ 0 → IsFirstHeld grants user (right ∷ rights) place → Holds grants user right
+first_is : (grants : Grants) (user : Name) (right : Sought) (rights : List Sought) (place : ℕ) → place ≡ 0 → IsFirstHeld grants user (right ∷ rights) place → Holds grants user right
 first_is grants user right rights zero at ((other, is, holds), none) = subst (λ (r : Sought). Holds grants user r) (sym (same_Some right other is)) holds
 first_is grants user right rights (suc place) at is = absurd (omega (arith, at))
 
 -- else a further right is the first of the others
-pub later_is : (grants : Grants) (user : Name) (right : Sought) (rights : List Sought) (place : ℕ) → (place ≡ 0 → ⊥) → IsFirstHeld grants user (right ∷ rights) place
+later_is : (grants : Grants) (user : Name) (right : Sought) (rights : List Sought) (place : ℕ) → (place ≡ 0 → ⊥) → IsFirstHeld grants user (right ∷ rights) place
     → (¬ Holds grants user right) × ((k : ℕ) × (place ≡ suc k) × IsFirstHeld grants user rights k)
 later_is grants user right rights zero apart is = absurd (apart refl)
 later_is grants user right rights (suc k) apart (here, none) = (none 0 right (omega arith) refl, (k, refl, (here, λ j other less at. none (suc j) other (omega (arith, less)) at)))
 
 -- where none is held, the first isn't and none of the others
-pub none_is : (grants : Grants) (user : Name) (right : Sought) (rights : List Sought) → HoldsNone grants user (right ∷ rights) → (¬ Holds grants user right) × HoldsNone grants user rights
+none_is : (grants : Grants) (user : Name) (right : Sought) (rights : List Sought) → HoldsNone grants user (right ∷ rights) → (¬ Holds grants user right) × HoldsNone grants user rights
 none_is grants user right rights none = (none 0 right refl, λ k other at. none (suc k) other at)
-
-nothing_first : (grants : Grants) (user : Name) (place : ℕ) → IsFirstHeld grants user [] place → ⊥
-nothing_first grants user place ((other, is, holds), none) = absurd (let e : None ≡ Some other = is in cc)
 
 -- who holds one of the last two rights has something on the table
 pub something : (grants : Grants) (user : Name) (table : TableName) (some : Sought) (place : ℕ) → ((Holds grants user some) → HasSomeObjectPrivilege grants user table)
@@ -44,7 +41,7 @@ nothing grants user table some from none (inl object) = (none_is grants user som
 nothing grants user table some from none (inr any) = (none_is grants user AnyTable [] (none_is grants user some (AnyTable ∷ []) none).1).0 ((any_table_held grants user).1 any)
 
 -- whether one of two rights is held
-pub one_of_two : (grants : Grants) (user : Name) (a b : Sought) (place : ℕ) → IsFirstHeld grants user (a ∷ b ∷ []) place → Holds grants user a ⊎ Holds grants user b
+one_of_two : (grants : Grants) (user : Name) (a b : Sought) (place : ℕ) → IsFirstHeld grants user (a ∷ b ∷ []) place → Holds grants user a ⊎ Holds grants user b
 one_of_two grants user a b zero is = inl (first_is grants user a (b ∷ []) 0 refl is)
 one_of_two grants user a b (suc zero) is =
     let later = later_is grants user a (b ∷ []) 1 (λ same. absurd (omega (arith, same))) is in

@@ -1,8 +1,10 @@
 pub mod Answers
+pub mod Asides
 pub mod Circles
 pub mod FirstHeld
 pub mod Limits
 pub mod Needing
 pub mod Refusals
+pub mod Stands
 pub mod Tables
 pub mod Walks

@@ -44,6 +44,12 @@ module _ (adds : (grants : Grants) (change : GrantChange) → grant_count (appli
     ]
   ]
 
+  -- each of some changes adds one grant at most
+  pub count_after : (changes : List GrantChange) (grants : Grants) → grant_count (applied_all changes grants) ≤ grant_count grants + length changes
+  count_after [] grants = omega arith
+  count_after (change ∷ changes) grants =
+      (let one = adds grants change in let at_most = one_length change (is_new grants change) in let later = count_after changes (applied change grants) in omega (arith, one, at_most, later))
+
   one_at : (change : GrantChange) (grants : Grants) (b : Bool) → grant_count (applied_all (cond b (change ∷ []) []) grants) ≤ grant_count grants + length (filter (is_new grants) (change ∷ []))
   one_at change grants true = adds grants change
   one_at change grants false = omega arith

@@ -68,8 +68,7 @@ needing_all grants known user rights i privilege role whole at = (
   (needs_all grants user rights i GrantAnyPrivilege privilege whole at.privilege_is, needs_all grants user rights i GrantAnyRole role whole at.role_is),
 )
 
--- a right that isn't refused
-
+-- a system privilege that isn't refused
 pub passed_privilege : (grants : Grants) (known : Known) (user : Name) (right : Right) (p : Privilege) (needed role next : Bool) → right ≡ SystemRight p → AreNeededHeld grants user needed role
     → IsNeededWith grants user needed (PrivilegeWithAdmin p) GrantAnyPrivilege next
     → ((code : Code) → ¬ RefusesRight grants known user right code) × AreNeededWith grants user right needed role next role
@@ -89,33 +88,7 @@ passed_privilege grants known user right p needed role next same held is =
       },
     )
 
-pub passed_role : (grants : Grants) (known : Known) (user : Name) (right : Right) (name : Name) (sought : Sought) (privilege needed next : Bool) → right ≡ Role name → ¬ IsNoRole known right
-    → (Holds grants user sought ↔ AdministersRole grants user name) → AreNeededHeld grants user privilege needed → IsNeededWith grants user needed sought GrantAnyRole next
-    → ((code : Code) → ¬ RefusesRight grants known user right code) × AreNeededWith grants user right privilege needed privilege next
-passed_role grants known user right name sought privilege needed next same there means held is =
-    let there_is : ¬ IsNoRole known (Role name) = subst (λ (r : Right). ¬ IsNoRole known r) same there in
-    subst (λ (r : Right). ((code : Code) → ¬ RefusesRight grants known user r code) × AreNeededWith grants user r privilege needed privilege next) (sym same) (
-      λ code refuses. elim refuses [
-        | inl no_role ↦ there_is no_role.0
-        | inr neither ↦ elim is.suffices [ inl holds ↦ neither.1 (means.0 holds) | inr any ↦ neither.2 any ]
-      ],
-      record {
-        held = (held.0, is.held);
-        privilege_is = (λ before. inl before, λ either. elim either [ inl before ↦ before | inr other ↦ absurd (let e : GrantAnyRole ≡ GrantAnyPrivilege = other.0 in cc) ]);
-        role_is = (
-          λ now. elim (is.needed_is.0 now) [ inl before ↦ inl before | inr here ↦ inr (refl, λ administers. here (means.1 administers)) ],
-          λ either. is.needed_is.1 (elim either [ inl before ↦ inl before | inr here ↦ inr (λ holds. here.1 (means.0 holds)) ]),
-        );
-      },
-    )
-
--- a right that is refused
-
-pub refused_privilege : (grants : Grants) (known : Known) (user : Name) (right : Right) (p : Privilege) (code : Code) → right ≡ SystemRight p
-    → (¬ Holds grants user (PrivilegeWithAdmin p)) × (¬ HoldsPrivilege grants user GrantAnyPrivilege) × (code ≡ PRIVILEGE_MISSING) → RefusesRight grants known user right code
-refused_privilege grants known user right p code same lacks =
-    subst (λ (r : Right). RefusesRight grants known user r code) (sym same) (inr (λ no_role. no_role, lacks.0, lacks.1, lacks.2))
-
+-- a role that is refused
 pub refused_role : (grants : Grants) (known : Known) (user : Name) (right : Right) (name : Name) (sought : Sought) (code : Code) → right ≡ Role name → ¬ IsNoRole known right
     → (Holds grants user sought ↔ AdministersRole grants user name) → (¬ Holds grants user sought) × (¬ HoldsPrivilege grants user GrantAnyRole) × (code ≡ PRIVILEGE_MISSING) → RefusesRight grants known user right code
 refused_role grants known user right name sought code same there means lacks =

@@ -7,13 +7,13 @@ use Rattle.au_base.specs.declared.table.TableName.{TableName}
 use Rattle.au_base.specs.Sameness.{same_table}
 use Rattle.au_grants.specs.Rights.{Name}
 
-same_name-is : (a b : Name) → bytes_eq a b ≡ true → a ≡ b
+pub same_name-is : (a b : Name) → bytes_eq a b ≡ true → a ≡ b
 same_name-is a b is = (bytes_eq-Decides a b).0 is
 
-same_name-to : (a b : Name) → a ≡ b → bytes_eq a b ≡ true
+pub same_name-to : (a b : Name) → a ≡ b → bytes_eq a b ≡ true
 same_name-to a b same = (bytes_eq-Decides a b).1 same
 
-same_name-refl : (a : Name) → bytes_eq a a ≡ true
+pub same_name-refl : (a : Name) → bytes_eq a a ≡ true
 same_name-refl a = (bytes_eq-Decides a a).1 refl
 
 pub same_table-is : (a b : TableName) → same_table a b ≡ true → a ≡ b

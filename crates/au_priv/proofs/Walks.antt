@@ -5,11 +5,10 @@ use Rattle.std.proofs.lemmas.List.{append-nil, take_more, take_all, take-append-
 use Rattle.au_base.specs.declared.code.Code.{Code}
 use Rattle.au_grants.specs.declared.change.GrantChange.{GrantChange}
 use Rattle.au_grants.specs.declared.grants.Grants.{Grants}
-use Rattle.au_priv.specs.declared.walking.Progress.{Progress}
 use Rattle.au_grants.specs.Changing.{applied_all}
 use Rattle.au_priv.specs.Pairs.{Pair}
 use Rattle.au_priv.specs.Walking.{AllPass, RefusesPair, SomeRefused, made, made_all}
-use Rattle.au_priv.specs.descent.Progressing.{Walked}
+use Rattle.au_priv.specs.descent.Progressing.{Done, Walked}
 
 pub applied_joined : (xs ys : List GrantChange) (grants : Grants) → applied_all (xs ++ ys) grants ≡ applied_all ys (applied_all xs grants)
 applied_joined [] ys grants = refl
@@ -44,12 +43,8 @@ refused_sooner [] ys grants code never = absurd never
 refused_sooner (x ∷ xs) ys grants code (inl here) = inl here
 refused_sooner (x ∷ xs) ys grants code (inr (passes, later)) = inr (passes, refused_sooner xs ys _ code later)
 
--- nothing is done yet
-pub walked_none : (start : Progress) → Walked start [] (Ok start)
-walked_none start = (tt, sym (append-nil start.changes), refl)
-
 -- pairs, and then more pairs
-pub walked_then : (start mid end : Progress) (xs ys : List Pair) → Walked start xs (Ok mid) → Walked mid ys (Ok end) → Walked start (xs ++ ys) (Ok end)
+walked_then : (start mid end : Done) (xs ys : List Pair) → Walked start xs (Ok mid) → Walked mid ys (Ok end) → Walked start (xs ++ ys) (Ok end)
 walked_then start mid end xs ys (pass, changes, after) (passes, more, later) =
     let passes_on : AllPass (applied_all (made_all start.after xs) start.after) ys = subst (λ (grants : Grants). AllPass grants ys) after passes in (
       pass_joined xs ys start.after pass passes_on,
@@ -63,7 +58,7 @@ walked_then start mid end xs ys (pass, changes, after) (passes, more, later) =
     )
 
 -- pairs, and then one that is refused
-pub walked_refused : (start mid : Progress) (xs ys : List Pair) (code : Code) → Walked start xs (Ok mid) → Walked mid ys (Err code) → Walked start (xs ++ ys) (Err code)
+walked_refused : (start mid : Done) (xs ys : List Pair) (code : Code) → Walked start xs (Ok mid) → Walked mid ys (Err code) → Walked start (xs ++ ys) (Err code)
 walked_refused start mid xs ys code (pass, changes, after) refused =
     refused_later xs ys start.after code pass (subst (λ (grants : Grants). SomeRefused grants ys code) after refused)
 
@@ -72,7 +67,7 @@ flat_map_joined F [] ys = refl
 flat_map_joined F (x ∷ xs) ys = ap (λ rest. F x ++ rest) (flat_map_joined F xs ys) ∙ sym (append_assoc (F x) _ _)
 
 -- a loop over the list, one element further
-pub walked_more : {X : Type 0} (F : X → List Pair) (xs : List X) (i : ℕ) (read : X) (start mid end : Progress) → i < length xs
+walked_more : {X : Type 0} (F : X → List Pair) (xs : List X) (i : ℕ) (read : X) (start mid end : Done) → i < length xs
     → Walked start (flat_map F (take i xs)) (Ok mid) → Walked mid (F (get_or xs i read)) (Ok end) → Walked start (flat_map F (take (i + 1) xs)) (Ok end)
 walked_more F xs i read start mid end within before here =
     let one : flat_map F (get_or xs i read ∷ []) ≡ F (get_or xs i read) = append-nil (F (get_or xs i read)) in
@@ -81,7 +76,7 @@ walked_more F xs i read start mid end within before here =
     subst (λ (pairs : List Pair). Walked start pairs (Ok end)) (sym list) (walked_then start mid end _ _ before here)
 
 -- a loop over the list that stops at an element
-pub walked_stops : {X : Type 0} (F : X → List Pair) (xs : List X) (i : ℕ) (read : X) (start mid : Progress) (code : Code) → i < length xs
+walked_stops : {X : Type 0} (F : X → List Pair) (xs : List X) (i : ℕ) (read : X) (start mid : Done) (code : Code) → i < length xs
     → Walked start (flat_map F (take i xs)) (Ok mid) → Walked mid (F (get_or xs i read)) (Err code) → Walked start (flat_map F xs) (Err code)
 walked_stops {X = X} F xs i read start mid code within before here =
     let list : flat_map F xs ≡ flat_map F (take i xs) ++ (F (get_or xs i read) ++ flat_map F (drop (i + 1) xs)) =
@@ -90,7 +85,7 @@ walked_stops {X = X} F xs i read start mid code within before here =
     (walked_refused start mid _ _ code before (refused_sooner (F (get_or xs i read)) _ mid.after code here))
 
 -- a loop over the whole list
-pub walked_all : {X : Type 0} (F : X → List Pair) (xs : List X) (i : ℕ) (start end : Progress) → length xs ≤ i
+pub walked_all : {X : Type 0} (F : X → List Pair) (xs : List X) (i : ℕ) (start end : Done) → length xs ≤ i
     → Walked start (flat_map F (take i xs)) (Ok end) → Walked start (flat_map F xs) (Ok end)
 walked_all {X = X} F xs i start end whole done = subst (λ (list : List X). Walked start (flat_map F list) (Ok end)) (take_all i xs whole) done
 
@@ -98,50 +93,50 @@ walked_all {X = X} F xs i start end whole done = subst (λ (list : List X). Walk
 abbrev pub single : {X : Type 0} → (X → Pair) → X → List Pair
 single make x = make x ∷ []
 
-pub each_single : {X : Type 0} (make : X → Pair) (xs : List X) → flat_map (single make) xs ≡ map make xs
+each_single : {X : Type 0} (make : X → Pair) (xs : List X) → flat_map (single make) xs ≡ map make xs
 each_single make [] = refl
 each_single make (x ∷ xs) = ap (λ rest. make x ∷ rest) (each_single make xs)
 
-pub walked_each : {X : Type 0} (make : X → Pair) (xs : List X) (start : Progress) (end : Result Progress Code) → Walked start (flat_map (single make) xs) end → Walked start (map make xs) end
+pub walked_each : {X : Type 0} (make : X → Pair) (xs : List X) (start : Done) (end : Result Done Code) → Walked start (flat_map (single make) xs) end → Walked start (map make xs) end
 walked_each make xs start end done = subst (λ (pairs : List Pair). Walked start pairs end) (each_single make xs) done
 
 -- a step of a loop over the list, as its body knows it
-step : {X : Type 0} (make : X → Pair) (xs : List X) (i : ℕ) (read : X) (mid : Progress) (given pair : Pair) (walked end : Result Progress Code)
+step : {X : Type 0} (make : X → Pair) (xs : List X) (i : ℕ) (read : X) (mid : Done) (given pair : Pair) (walked end : Result Done Code)
     → Walked mid (given ∷ []) walked → given ≡ pair → pair ≡ make read → read ≡ get_or xs i read → walked ≡ end → Walked mid (single make (get_or xs i read)) end
 step make xs i read mid given pair walked end done first second third last =
-    subst (λ (r : Result Progress Code). Walked mid (single make (get_or xs i read)) r) last
+    subst (λ (r : Result Done Code). Walked mid (single make (get_or xs i read)) r) last
     (subst (λ (p : Pair). Walked mid (p ∷ []) walked) (first ∙ (second ∙ ap make third)) done)
 
-pub stops_at : {X : Type 0} (make : X → Pair) (xs : List X) (i : ℕ) (read : X) (start mid : Progress) (given pair : Pair) (walked : Result Progress Code) (code : Code)
+pub stops_at : {X : Type 0} (make : X → Pair) (xs : List X) (i : ℕ) (read : X) (start mid : Done) (given pair : Pair) (walked : Result Done Code) (code : Code)
     → i < length xs → Walked start (flat_map (single make) (take i xs)) (Ok mid) → Walked mid (given ∷ []) walked → given ≡ pair → pair ≡ make read → read ≡ get_or xs i read → walked ≡ Err code
     → Walked start (map make xs) (Err code)
 stops_at make xs i read start mid given pair walked code within before done first second third last =
     walked_each make xs start (Err code) (walked_stops (single make) xs i read start mid code within before (step make xs i read mid given pair walked (Err code) done first second third last))
 
-pub more_at : {X : Type 0} (make : X → Pair) (xs : List X) (i : ℕ) (read : X) (start mid end : Progress) (given pair : Pair) (walked : Result Progress Code)
+pub more_at : {X : Type 0} (make : X → Pair) (xs : List X) (i : ℕ) (read : X) (start mid end : Done) (given pair : Pair) (walked : Result Done Code)
     → i < length xs → Walked start (flat_map (single make) (take i xs)) (Ok mid) → Walked mid (given ∷ []) walked → given ≡ pair → pair ≡ make read → read ≡ get_or xs i read → walked ≡ Ok end
     → Walked start (flat_map (single make) (take (i + 1) xs)) (Ok end)
 more_at make xs i read start mid end given pair walked within before done first second third last =
     walked_more (single make) xs i read start mid end within before (step make xs i read mid given pair walked (Ok end) done first second third last)
 
-pub stops_in : {X : Type 0} (F : X → List Pair) (xs : List X) (i : ℕ) (item read : X) (start mid : Progress) (walked : Result Progress Code) (code : Code)
+pub stops_in : {X : Type 0} (F : X → List Pair) (xs : List X) (i : ℕ) (item read : X) (start mid : Done) (walked : Result Done Code) (code : Code)
     → i < length xs → Walked start (flat_map F (take i xs)) (Ok mid) → Walked mid (F item) walked → item ≡ get_or xs i read → walked ≡ Err code → Walked start (flat_map F xs) (Err code)
 stops_in F xs i item read start mid walked code within before done third last =
     walked_stops F xs i read start mid code within before
-    (subst (λ (r : Result Progress Code). Walked mid (F (get_or xs i read)) r) last (subst (λ x. Walked mid (F x) walked) third done))
+    (subst (λ (r : Result Done Code). Walked mid (F (get_or xs i read)) r) last (subst (λ x. Walked mid (F x) walked) third done))
 
-pub more_in : {X : Type 0} (F : X → List Pair) (xs : List X) (i : ℕ) (item read : X) (start mid end : Progress) (walked : Result Progress Code)
+pub more_in : {X : Type 0} (F : X → List Pair) (xs : List X) (i : ℕ) (item read : X) (start mid end : Done) (walked : Result Done Code)
     → i < length xs → Walked start (flat_map F (take i xs)) (Ok mid) → Walked mid (F item) walked → item ≡ get_or xs i read → walked ≡ Ok end → Walked start (flat_map F (take (i + 1) xs)) (Ok end)
 more_in F xs i item read start mid end walked within before done third last =
     walked_more F xs i read start mid end within before
-    (subst (λ (r : Result Progress Code). Walked mid (F (get_or xs i read)) r) last (subst (λ x. Walked mid (F x) walked) third done))
+    (subst (λ (r : Result Done Code). Walked mid (F (get_or xs i read)) r) last (subst (λ x. Walked mid (F x) walked) third done))
 
 -- one pair more, which isn't refused
-pub walked_one : (start end : Progress) (pair : Pair) (grants : Grants) → grants ≡ start.after → ((code : Code) → ¬ RefusesPair start.after pair code) → end.changes ≡ start.changes ++ made grants pair
-    → end.after ≡ applied_all (made grants pair) grants → Walked start (pair ∷ []) (Ok end)
-walked_one start end pair grants same free changes after =
-    let all : made grants pair ≡ made start.after pair ++ [] = ap (λ (g : Grants). made g pair) same ∙ sym (append-nil (made start.after pair)) in (
+pub walked_one : (start mid end : Done) (pair : Pair) → mid ≡ start → ((code : Code) → ¬ RefusesPair start.after pair code) → end.changes ≡ mid.changes ++ made mid.after pair
+    → end.after ≡ applied_all (made mid.after pair) mid.after → Walked start (pair ∷ []) (Ok end)
+walked_one start mid end pair same free changes after =
+    let all : made start.after pair ≡ made start.after pair ++ [] = sym (append-nil (made start.after pair)) in (
       (free, tt),
-      changes ∙ ap (λ (list : List GrantChange). start.changes ++ list) all,
-      after ∙ ap (λ (g : Grants). applied_all (made grants pair) g) same ∙ ap (λ (list : List GrantChange). applied_all list start.after) all,
+      subst (λ (d : Done). end.changes ≡ d.changes ++ made d.after pair) same changes ∙ ap (λ (list : List GrantChange). start.changes ++ list) all,
+      subst (λ (d : Done). end.after ≡ applied_all (made d.after pair) d.after) same after ∙ ap (λ (list : List GrantChange). applied_all list start.after) all,
     )

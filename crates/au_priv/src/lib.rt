@@ -9,7 +9,8 @@ mod deciding;
 mod judging;
 mod laws;
 mod pair;
-mod seen;
+mod progress;
+mod standing;
 mod walking;
 
 pub use allowed::Allowed;

@@ -8,30 +8,20 @@ ghost use Rattle.au_priv.specs.Walking.{RefusesPair, ClosesCircle, IsOverLimit, 
 ghost use Rattle.au_priv.specs.descent.Progressing.{Walked};
 
 use crate::pair::{Way, changes_of_object_right, changes_of_right};
-use crate::seen::GrantsSeen;
-use au_base::limits::GRANTS;
+use crate::progress::Progress;
 use au_base::{Code, List, Memory, Name, ObjectRight, Right, TableName};
-use au_grants::{Course, GrantChange};
+use au_grants::GrantChange;
 use std::alloc::Global;
 
-/// How far the pairs of a statement are done.
-#[derive(Debug, Drop)]
-pub struct Progress {
-    /// The grants after the changes.
-    pub after: Course,
-    /// The changes.
-    pub changes: List<GrantChange>,
-}
-
 /// Does the pairs of rights and grantees, up to the first that is refused.
-pub fn walk_rights(
+pub fn walk_rights<'a>(
     alloc: Global,
-    start: Progress,
+    start: Progress<'a>,
     way: Way,
     rights: &[Right],
     grantees: &[Name],
-) -> Result<Result<Progress, Code>, Memory>
-    ensures { IfOk result (Walked start (pairs (right_pair way) rights.now grantees.now)) }
+) -> Result<Result<Progress<'a>, Code>, Memory>
+    ensures { IfOk result (Walked start.entry (pairs (right_pair way) rights.now grantees.now)) }
 {
     let mut progress = start;
     for right in rights {
@@ -43,14 +33,14 @@ pub fn walk_rights(
     Ok(Ok(progress))
 }
 
-fn walk_right(
+fn walk_right<'a>(
     alloc: Global,
-    start: Progress,
+    start: Progress<'a>,
     way: Way,
     right: &Right,
     grantees: &[Name],
-) -> Result<Result<Progress, Code>, Memory>
-    ensures { IfOk result (Walked start (map (right_pair way right.now) grantees.now)) }
+) -> Result<Result<Progress<'a>, Code>, Memory>
+    ensures { IfOk result (Walked start.entry (map (right_pair way right.now) grantees.now)) }
 {
     let mut progress = start;
     for grantee in grantees {
@@ -64,15 +54,15 @@ fn walk_right(
 }
 
 /// Does the pairs of rights on a table and grantees, up to the first that is refused.
-pub fn walk_object_rights(
+pub fn walk_object_rights<'a>(
     alloc: Global,
-    start: Progress,
+    start: Progress<'a>,
     way: Way,
     table: &TableName,
     rights: &[ObjectRight],
     grantees: &[Name],
-) -> Result<Result<Progress, Code>, Memory>
-    ensures { IfOk result (Walked start (pairs (object_pair way table.now) rights.now grantees.now)) }
+) -> Result<Result<Progress<'a>, Code>, Memory>
+    ensures { IfOk result (Walked start.entry (pairs (object_pair way table.now) rights.now grantees.now)) }
 {
     let mut progress = start;
     for right in rights {
@@ -84,15 +74,15 @@ pub fn walk_object_rights(
     Ok(Ok(progress))
 }
 
-fn walk_object_right(
+fn walk_object_right<'a>(
     alloc: Global,
-    start: Progress,
+    start: Progress<'a>,
     way: Way,
     table: &TableName,
     right: ObjectRight,
     grantees: &[Name],
-) -> Result<Result<Progress, Code>, Memory>
-    ensures { IfOk result (Walked start (map (object_pair way table.now right) grantees.now)) }
+) -> Result<Result<Progress<'a>, Code>, Memory>
+    ensures { IfOk result (Walked start.entry (map (object_pair way table.now right) grantees.now)) }
 {
     let mut progress = start;
     for grantee in grantees {
@@ -105,183 +95,182 @@ fn walk_object_right(
     Ok(Ok(progress))
 }
 
-fn walk_pair(
+fn walk_pair<'a>(
     alloc: Global,
-    start: Progress,
+    start: Progress<'a>,
     pair: &[GrantChange],
-) -> Result<Result<Progress, Code>, Memory>
-    ensures { IfOk result (Walked start (pair.now ∷ [])) }
+) -> Result<Result<Progress<'a>, Code>, Memory>
+    ensures { IfOk result (Walked start.entry (pair.now ∷ [])) }
 {
-    let Progress { after, changes } = start;
-    let mut after = after;
-    match pair_refusal(alloc, &mut after, pair)? {
+    let mut progress = start;
+    match pair_refusal(alloc, &mut progress, pair)? {
         Some(code) => Ok(Err(code)),
-        None => Ok(Ok(walked_on(alloc, after, changes, pair)?)),
+        None => Ok(Ok(walked_on(alloc, progress, pair)?)),
     }
 }
 
 // How far a statement is done after one pair more, which isn't refused.
-fn walked_on(
+fn walked_on<'a>(
     alloc: Global,
-    after: Course,
-    changes: List<GrantChange>,
+    progress: Progress<'a>,
     pair: &[GrantChange],
-) -> Result<Progress, Memory>
-    ensures changes { IfOk result (λ end. end.changes ≡ changes ++ made after pair.now) }
-    ensures after { IfOk result (λ end. end.after ≡ applied_all (made after pair.now) after) }
+) -> Result<Progress<'a>, Memory>
+    ensures changes { IfOk result (λ end. end.changes ≡ progress.entry.changes ++ made progress.entry.after pair.now) }
+    ensures after { IfOk result (λ end. end.after ≡ applied_all (made progress.entry.after pair.now) progress.entry.after) }
 {
-    let made = effective(alloc, &after, pair)?;
-    let after = after.after(made.as_slice())?;
-    Ok(Progress {
-        after,
-        changes: joined(changes, made)?,
-    })
+    let made = effective(alloc, &progress, pair)?;
+    progress.with(alloc, made)
 }
 
-/// What the pair changes.
-pub fn effective<G: GrantsSeen>(
+// What the pair changes.
+fn effective(
     alloc: Global,
-    grants: &G,
+    progress: &Progress<'_>,
     pair: &[GrantChange],
 ) -> Result<List<GrantChange>, Memory>
-    ensures { IfOk result (λ changes. changes ≡ made (G.seen grants.now) pair.now) }
+    ensures { IfOk result (λ changes. changes ≡ made progress.now.after pair.now) }
 {
     let mut changes = List::new(alloc);
     for change in pair {
-        if has_effect(grants, change) {
+        if has_effect(progress, change) {
             changes.push(change.clone()?)?;
         }
     }
     Ok(changes)
 }
 
-fn joined(changes: List<GrantChange>, more: List<GrantChange>) -> Result<List<GrantChange>, Memory>
-    ensures { IfOk result (λ all. all ≡ changes ++ more) }
-{
-    let mut all = changes.into_vec();
-    let mut rest = more.into_vec();
-    all.append(&mut rest)?;
-    Ok(List::from_vec(all))
-}
-
-/// The refusal of the pair. The grants are as they were.
-pub fn pair_refusal<G: GrantsSeen>(
+// The refusal of the pair. The grants are as they were.
+fn pair_refusal(
     alloc: Global,
-    grants: &mut G,
+    progress: &mut Progress<'_>,
     pair: &[GrantChange],
 ) -> Result<Option<Code>, Memory>
-    ensures refusal { IfOk result (λ found. MatchOption found ((code : Code) → ¬ RefusesPair (G.seen grants.old) pair.now code) (RefusesPair (G.seen grants.old) pair.now)) }
-    ensures same { G.seen grants.new ≡ G.seen grants.old }
+    ensures refusal { IfOk result (λ found. MatchOption found ((code : Code) → ¬ RefusesPair progress.old.after pair.now code) (RefusesPair progress.old.after pair.now)) }
+    ensures same { progress.new ≡ progress.old }
 {
-    if closes_circle(alloc, grants, pair)? {
+    if closes_circle(alloc, progress, pair)? {
         return Ok(Some(Code::CIRCULAR_ROLE_GRANT));
     }
-    Ok(open_refusal(&*grants, pair))
+    open_refusal(alloc, progress, pair)
 }
 
 // The refusal of a pair that closes no circle.
-fn open_refusal<G: GrantsSeen>(grants: &G, pair: &[GrantChange]) -> Option<Code>
-    requires { ¬ ClosesCircle (G.seen grants.now).role pair.now }
-    ensures { MatchOption result ((code : Code) → ¬ RefusesPair (G.seen grants.now) pair.now code) (RefusesPair (G.seen grants.now) pair.now) }
+fn open_refusal(
+    alloc: Global,
+    progress: &mut Progress<'_>,
+    pair: &[GrantChange],
+) -> Result<Option<Code>, Memory>
+    requires { ¬ ClosesCircle progress.old.after.role pair.now }
+    ensures refusal { IfOk result (λ found. MatchOption found ((code : Code) → ¬ RefusesPair progress.old.after pair.now code) (RefusesPair progress.old.after pair.now)) }
+    ensures same { progress.new ≡ progress.old }
 {
-    if is_over_limit(grants, pair) {
-        return Some(Code::TOO_MANY_OBJECTS);
+    if is_over_limit(alloc, progress, pair)? {
+        return Ok(Some(Code::TOO_MANY_OBJECTS));
     }
-    if has_some_effect(grants, pair) {
+    Ok(effect_refusal(&*progress, pair))
+}
+
+// The refusal of a pair that closes no circle and finds room.
+fn effect_refusal(progress: &Progress<'_>, pair: &[GrantChange]) -> Option<Code>
+    requires open { ¬ ClosesCircle progress.now.after.role pair.now }
+    requires room { ¬ IsOverLimit progress.now.after pair.now }
+    ensures { MatchOption result ((code : Code) → ¬ RefusesPair progress.now.after pair.now code) (RefusesPair progress.now.after pair.now) }
+{
+    if has_some_effect(progress, pair) {
         return None;
     }
     missing(pair)
 }
 
-fn closes_circle<G: GrantsSeen>(
+fn closes_circle(
     alloc: Global,
-    grants: &mut G,
+    progress: &mut Progress<'_>,
     pair: &[GrantChange],
 ) -> Result<bool, Memory>
-    ensures closes { IfOk result (λ closes. IsTrue closes ↔ ClosesCircle (G.seen grants.old).role pair.now) }
-    ensures same { G.seen grants.new ≡ G.seen grants.old }
+    ensures closes { IfOk result (λ closes. IsTrue closes ↔ ClosesCircle progress.old.after.role pair.now) }
+    ensures same { progress.new ≡ progress.old }
 {
     for change in pair {
-        if closes(alloc, grants, change)? {
+        if closes(alloc, progress, change)? {
             return Ok(true);
         }
     }
     Ok(false)
 }
 
-fn closes<G: GrantsSeen>(
-    alloc: Global,
-    grants: &mut G,
-    change: &GrantChange,
-) -> Result<bool, Memory>
-    ensures closes { IfOk result (λ closes. IsTrue closes ↔ Closes (G.seen grants.old).role change.now) }
-    ensures same { G.seen grants.new ≡ G.seen grants.old }
+fn closes(alloc: Global, progress: &mut Progress<'_>, change: &GrantChange) -> Result<bool, Memory>
+    ensures closes { IfOk result (λ closes. IsTrue closes ↔ Closes progress.old.after.role change.now) }
+    ensures same { progress.new ≡ progress.old }
 {
     match change {
-        GrantChange::RoleGrant(grantee, role, _) => grants.closes_circle(alloc, grantee, role),
+        GrantChange::RoleGrant(grantee, role, _) => progress.closes_circle(alloc, grantee, role),
         _ => Ok(false),
     }
 }
 
-fn is_over_limit<G: GrantsSeen>(grants: &G, pair: &[GrantChange]) -> bool
-    ensures { IsTrue result ↔ IsOverLimit (G.seen grants.now) pair.now }
+fn is_over_limit(
+    alloc: Global,
+    progress: &mut Progress<'_>,
+    pair: &[GrantChange],
+) -> Result<bool, Memory>
+    ensures over { IfOk result (λ over. IsTrue over ↔ IsOverLimit progress.old.after pair.now) }
+    ensures same { progress.new ≡ progress.old }
 {
-    let (system, role, object) = grants.counts();
-    let room = GRANTS
-        .saturating_sub(system)
-        .saturating_sub(role)
-        .saturating_sub(object);
-    room < new_count(grants, pair)
+    let more = new_count(&*progress, pair);
+    if more == 0 {
+        return Ok(false);
+    }
+    progress.is_full(alloc, more)
 }
 
-fn new_count<G: GrantsSeen>(grants: &G, pair: &[GrantChange]) -> usize
-    ensures { result ≡ length (filter (is_new (G.seen grants.now)) pair.now) }
+fn new_count(progress: &Progress<'_>, pair: &[GrantChange]) -> usize
+    ensures { result ≡ length (filter (is_new progress.now.after) pair.now) }
 {
     pair.iter()
-        .filter(|change| is_new_grant(grants, change))
+        .filter(|change| is_new_grant(progress, change))
         .count()
 }
 
-fn has_some_effect<G: GrantsSeen>(grants: &G, pair: &[GrantChange]) -> bool
-    ensures { result ≡ list_any (is_effective (G.seen grants.now)) pair.now }
+fn has_some_effect(progress: &Progress<'_>, pair: &[GrantChange]) -> bool
+    ensures { result ≡ list_any (is_effective progress.now.after) pair.now }
 {
-    pair.iter().any(|change| has_effect(grants, change))
+    pair.iter().any(|change| has_effect(progress, change))
 }
 
-fn has_effect<G: GrantsSeen>(grants: &G, change: &GrantChange) -> bool
-    ensures { result ≡ is_effective (G.seen grants.now) change.now }
+fn has_effect(progress: &Progress<'_>, change: &GrantChange) -> bool
+    ensures { result ≡ is_effective progress.now.after change.now }
 {
     match change {
         GrantChange::SystemGrant(grantee, privilege, admin) => {
-            !grants.has_privilege_as(grantee, *privilege, *admin)
+            !progress.has_privilege_as(grantee, *privilege, *admin)
         }
         GrantChange::SystemRevoke(grantee, privilege) => {
-            grants.has_privilege(grantee, *privilege)
+            progress.has_privilege(grantee, *privilege)
         }
         GrantChange::RoleGrant(grantee, role, admin) => {
-            !grants.has_role_as(grantee, role.as_str(), *admin)
+            !progress.has_role_as(grantee, role.as_str(), *admin)
         }
-        GrantChange::RoleRevoke(grantee, role) => { grants.has_role(grantee, role.as_str()) }
+        GrantChange::RoleRevoke(grantee, role) => { progress.has_role(grantee, role.as_str()) }
         GrantChange::ObjectGrant(grantee, table, action) => {
-            !grants.has_object(grantee, table, *action)
+            !progress.has_object(grantee, table, *action)
         }
         GrantChange::ObjectRevoke(grantee, table, action) => {
-            grants.has_object(grantee, table, *action)
+            progress.has_object(grantee, table, *action)
         }
         _ => true,
     }
 }
 
-fn is_new_grant<G: GrantsSeen>(grants: &G, change: &GrantChange) -> bool
-    ensures { result ≡ is_new (G.seen grants.now) change.now }
+fn is_new_grant(progress: &Progress<'_>, change: &GrantChange) -> bool
+    ensures { result ≡ is_new progress.now.after change.now }
 {
     match change {
         GrantChange::SystemGrant(grantee, privilege, _) => {
-            !grants.has_privilege(grantee, *privilege)
+            !progress.has_privilege(grantee, *privilege)
         }
-        GrantChange::RoleGrant(grantee, role, _) => { !grants.has_role(grantee, role.as_str()) }
+        GrantChange::RoleGrant(grantee, role, _) => { !progress.has_role(grantee, role.as_str()) }
         GrantChange::ObjectGrant(grantee, table, action) => {
-            !grants.has_object(grantee, table, *action)
+            !progress.has_object(grantee, table, *action)
         }
         _ => false,
     }

@@ -1,15 +1,19 @@
 -- Each reader of an expression reads exactly its rule.
 use Rattle.std.proofs.Common.{◌≡◌, ℕ, zero, suc, ◌<◌, ◌≤◌, Bool, true, false, cond, ◌||◌, List, [], ◌∷◌, length, Option, Some, None, refl, sym, ap, subst, ◌∙◌, arith, inl, inr}
 use Rattle.std.specs.Prelude.{codes, ◌==◌}
+use Rattle.std.specs.List.{list_any}
 use Rattle.std.specs.Str.{bytes_eq}
 use Rattle.std.proofs.lemmas.Slice.Eq.{bytes_eq-Decides}
 use Rattle.sql_lex.specs.declared.token.Kind.{Kind}
 use Rattle.sql_lex.specs.declared.token.Kind.TheVariants.{Word, Quoted, Number, Text, Mark}
+use Rattle.sql_ast.specs.declared.context.Attribute.{Attribute}
+use Rattle.sql_ast.specs.declared.context.Attribute.TheVariants as attribute
 use Rattle.sql_ast.specs.declared.expression.Expr.{Expr}
 use Rattle.sql_ast.specs.declared.expression.Expr.TheVariants as e
 use Rattle.sql_ast.specs.declared.expression.Relation.{Relation}
 use Rattle.sql_ast.specs.declared.expression.Relation.TheVariants as relation
 use Rattle.std.specs.Prelude.{◌&&◌, ◌⊎◌}
+use Rattle.sql_ast.specs.Attributes.{attribute_name, each_attribute, namespace}
 use Rattle.sql_lex.specs.declared.token.Mark.{Mark as MarkName}
 use Rattle.sql_lex.specs.declared.token.Mark.TheVariants as mark
 use Rattle.sql_parse.specs.descent.MomentReading.{moment_read}
@@ -120,21 +124,25 @@ literal_sound (k ∷ o) y h =
     let b = bind_some (read.literal_of k) (λ t. Some (t, o)) y h in
     subst (λ (z : List ℕ × List Kind). k ∷ o ≡ Text z.0 ∷ z.1) (some_is (b.0, o) y b.2) (ap (λ (l : Kind). l ∷ o) (literal_of_sound k b.0 b.1))
 
-attribute_is : (t : List ℕ) → read.is_attribute t ≡ true → g.IsAttribute t
-attribute_is t h = go (bytes_eq t (codes "SESSION_USER")) refl h
-  where
-    go : (b : Bool) → bytes_eq t (codes "SESSION_USER") ≡ b → (b || bytes_eq t (codes "SESSIONID")) ≡ true → g.IsAttribute t
-    go true e h = inl ((bytes_eq-Decides t (codes "SESSION_USER")).0 e)
-    go false e h = inr ((bytes_eq-Decides t (codes "SESSIONID")).0 h)
+either : (a b : Bool) → (a || b) ≡ true → (a ≡ true) ⊎ (b ≡ true)
+either true b h = inl refl
+either false b h = inr h
 
-either : (a b : Bool) → (a ≡ true) ⊎ (b ≡ true) → (a || b) ≡ true
-either true b h = refl
-either false b (inl e) = absurd cc
-either false b (inr e) = e
+attribute_is : (t : List ℕ) → read.is_attribute t ≡ true → g.IsAttribute t
+unfolding read.is_attribute read.is_named
+attribute_is t h = among each_attribute h
+  where
+    among : (each : List Attribute) → list_any (read.is_named t) each ≡ true → g.IsAttribute t
+    among [] e = absurd cc
+    among (x ∷ xs) e = elim (either (bytes_eq t (attribute_name x)) (list_any (read.is_named t) xs) e) [
+      | inl named ↦ (x, (bytes_eq-Decides t (attribute_name x)).0 named)
+      | inr later ↦ among xs later
+    ]
 
 attribute_test : (t : List ℕ) → g.IsAttribute t → read.is_attribute t ≡ true
-attribute_test t (inl e) = either _ _ (inl ((bytes_eq-Decides t (codes "SESSION_USER")).1 e))
-attribute_test t (inr e) = either _ _ (inr ((bytes_eq-Decides t (codes "SESSIONID")).1 e))
+unfolding read.is_attribute read.is_named
+attribute_test t (attribute.SessionUser, e) = rw e refl
+attribute_test t (attribute.SessionId, e) = rw e refl
 
 both : (a b : Bool) → (a && b) ≡ true → (a ≡ true) × (b ≡ true)
 both true b h = (refl, h)
@@ -160,14 +168,14 @@ module _ (Inner : List Kind → Expr → List Kind → Type 0) where
       let b = bind_some (expect comma a.0.1) (λ m. read.literal m >>= λ t. expect closing t.1 >>= λ o. read.attribute_of a.0.0 t.0 o) y a.2 in
       let c = bind_some (read.literal b.0) (λ t. expect closing t.1 >>= λ o. read.attribute_of a.0.0 t.0 o) y b.2 in
       let d = bind_some (expect closing c.0.1) (λ o. read.attribute_of a.0.0 c.0.0 o) y c.2 in
-      let t = guard (bytes_eq (g.upper a.0.0) (codes "USERENV") && read.is_attribute (g.upper c.0.0)) (Some (e.Context (g.upper c.0.0), d.0)) y d.2 in
-      let u = both (bytes_eq (g.upper a.0.0) (codes "USERENV")) (read.is_attribute (g.upper c.0.0)) t.0 in
+      let t = guard (bytes_eq (g.upper a.0.0) namespace && read.is_attribute (g.upper c.0.0)) (Some (e.Context (g.upper c.0.0), d.0)) y d.2 in
+      let u = both (bytes_eq (g.upper a.0.0) namespace) (read.is_attribute (g.upper c.0.0)) t.0 in
       let second : b.0 ≡ Text c.0.0 ∷ closing ∷ d.0 = literal_sound b.0 c.0 c.1 ∙ ap (λ (r : List Kind). Text c.0.0 ∷ r) (expect_is closing c.0.1 d.0 d.1) in
       let here : i ≡ Text a.0.0 ∷ comma ∷ Text c.0.0 ∷ closing ∷ d.0 =
       literal_sound i a.0 a.1 ∙ ap (λ (r : List Kind). Text a.0.0 ∷ r) (expect_is comma a.0.1 b.0 b.1) ∙ ap (λ (r : List Kind). Text a.0.0 ∷ comma ∷ r) second in
       subst (λ (z : Expr × List Kind). g.Atom Inner (Word (codes "SYS_CONTEXT") ∷ opening ∷ i) z.0 z.1) (some_is (e.Context (g.upper c.0.0), d.0) y t.1)
       (subst (λ (j : List Kind). g.Atom Inner (Word (codes "SYS_CONTEXT") ∷ opening ∷ j) (e.Context (g.upper c.0.0)) d.0) (sym here)
-      (g.context ((bytes_eq-Decides (g.upper a.0.0) (codes "USERENV")).0 u.0) (attribute_is (g.upper c.0.0) u.1)))
+      (g.context ((bytes_eq-Decides (g.upper a.0.0) namespace).0 u.0) (attribute_is (g.upper c.0.0) u.1)))
 
   worded_atom_sound : (i : List Kind) (y : Expr × List Kind) → read.worded_atom i ≡ Some y → g.Atom Inner i y.0 y.1
   unfolding read.worded_atom
@@ -246,7 +254,7 @@ module _ (Inner : List Kind → Expr → List Kind → Type 0) (inner : List Kin
   atom_complete i o x (g.column d) f = atom_of_column i o x d (not_seen opening o 1 (omega arith) f) ∙ column_complete i o x d (not_seen dot o 1 (omega arith) f)
   atom_complete i o x (g.moment {t = t} {m = m} d) f = rw (moment_complete t m d) refl
   atom_complete i o x (g.context {n = n} {t = t} d a) f =
-      rw ((bytes_eq-Decides (g.upper n) (codes "USERENV")).1 d, attribute_test (g.upper t) a) refl
+      rw ((bytes_eq-Decides (g.upper n) namespace).1 d, attribute_test (g.upper t) a) refl
   atom_complete i o x (g.inner {i = j} d) f = rw (r.complete j (closing ∷ o) x d (omega arith)) refl
 
   atom_shorter : (i o : List Kind) (x : Expr) → g.Atom Inner i x o → length o < length i

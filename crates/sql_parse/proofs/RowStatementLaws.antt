@@ -125,5 +125,5 @@ pub found : {X : Type 0} (ts : List Kind) (view : X → Statement × List Kind) 
     → Gives view r (reader ts) → Ends view r answer → opens_few 0 ts ≡ true → Finds (g.IsRowStatement ts) answer
 found ts view r answer gives ends = whole_found (λ ks. ks) Rule reader rows_read ts answer (ended_gives (λ ks. ks) view r (reader ts) answer gives ends)
 
-pub too_many : (ts : List Kind) → opens_few 0 ts ≡ false → g.IsNoRowStatement ts
+pub too_many : (ts : List Kind) → opens_few 0 ts ≡ false → (x : Statement) → ¬ (g.IsRowStatement ts x)
 too_many = none_opens_many (λ ks. ks) Rule reader rows_read

@@ -38,7 +38,3 @@ pub data AuditStatement : List Kind → Statement → List Kind → Type 0 where
 -- the tokens are this statement, with `;` behind it or without
 abbrev pub IsAuditStatement : List Kind → Statement → Type 0
 IsAuditStatement = WholeOf AuditStatement
-
--- the tokens are no such statement
-abbrev pub IsNoAuditStatement : List Kind → Type 0
-IsNoAuditStatement ts = (x : Statement) → ¬ (IsAuditStatement ts x)

@@ -10,7 +10,6 @@ use Rattle.sql_ast.specs.declared.call.Call.{Call}
 use Rattle.sql_ast.specs.declared.call.Parameter.{Parameter}
 use Rattle.sql_ast.specs.declared.call.Parameter.TheVariants as parameter
 use Rattle.sql_ast.specs.declared.call.Procedure.{Procedure}
-use Rattle.sql_ast.specs.declared.call.Procedure.TheVariants as procedure
 use Rattle.sql_ast.specs.declared.call.Value.{Value}
 use Rattle.sql_ast.specs.declared.call.Value.TheVariants as value
 use Rattle.sql_ast.specs.declared.statement.Statement.{Statement}
@@ -84,7 +83,3 @@ pub data CallStatement : List Kind → Statement → List Kind → Type 0 where
 -- the tokens are this statement, with `;` behind it or without
 abbrev pub IsCallStatement : List Kind → Statement → Type 0
 IsCallStatement = WholeOf CallStatement
-
--- the tokens are no such statement
-abbrev pub IsNoCallStatement : List Kind → Type 0
-IsNoCallStatement ts = (x : Statement) → ¬ (IsCallStatement ts x)

@@ -1,12 +1,14 @@
 -- The grammar of expressions and conditions, rule by rule (SQL Language Reference, "Expressions", "Conditions" and
 -- "SYS_CONTEXT"; the choice of rules is this project's profile).
-use Rattle.std.specs.Prelude.{◌≡◌, ℕ, zero, suc, Bool, true, false, List, [], ◌∷◌, Some, None, codes, ◌⊎◌, map}
+use Rattle.std.specs.Prelude.{◌≡◌, ℕ, zero, suc, Bool, true, false, List, [], ◌∷◌, Some, None, codes, map}
 use Rattle.sql_lex.specs.declared.token.Kind.{Kind}
 use Rattle.sql_lex.specs.declared.token.Kind.TheVariants.{Word, Quoted, Number, Text, Mark}
+use Rattle.sql_ast.specs.declared.context.Attribute.{Attribute}
 use Rattle.sql_ast.specs.declared.expression.Expr.{Expr}
 use Rattle.sql_ast.specs.declared.expression.Expr.TheVariants as e
 use Rattle.sql_ast.specs.declared.expression.Relation.{Relation}
 use Rattle.sql_ast.specs.declared.expression.Relation.TheVariants as relation
+use Rattle.sql_ast.specs.Attributes.{attribute_name, namespace}
 use Rattle.std.specs.Char.{to_ascii_uppercase}
 use Rattle.au_base.specs.Moments.{TellsMoment}
 use Rattle.sql_lex.specs.declared.token.Mark.TheVariants as mark
@@ -56,9 +58,9 @@ pub data Negation : List Kind → Bool → List Kind → Type 0 where
 abbrev pub upper : List ℕ → List ℕ
 upper text = map to_ascii_uppercase text
 
--- what SYS_CONTEXT tells of USERENV
+-- the name of an attribute that SYS_CONTEXT tells
 abbrev pub IsAttribute : List ℕ → Type 0
-IsAttribute t = (t ≡ codes "SESSION_USER") ⊎ (t ≡ codes "SESSIONID")
+IsAttribute t = (attribute : Attribute) × (t ≡ attribute_name attribute)
 
 -- `Inner` is the rule of a condition within parentheses.
 module _ (Inner : List Kind → Expr → List Kind → Type 0) where
@@ -72,7 +74,7 @@ module _ (Inner : List Kind → Expr → List Kind → Type 0) where
     now : {o : List Kind} → Atom (Word (codes "SYSTIMESTAMP") ∷ o) e.Now o
     column : {i o : List Kind} {x : Expr} → Column i x o → Atom i x o
     moment : {t : List ℕ} {m : ℕ} {o : List Kind} → TellsMoment t m → Atom (Word (codes "TIMESTAMP") ∷ Text t ∷ o) (e.Moment m) o
-    context : {n t : List ℕ} {o : List Kind} → upper n ≡ codes "USERENV" → IsAttribute (upper t)
+    context : {n t : List ℕ} {o : List Kind} → upper n ≡ namespace → IsAttribute (upper t)
         → Atom (Word (codes "SYS_CONTEXT") ∷ opening ∷ Text n ∷ comma ∷ Text t ∷ closing ∷ o) (e.Context (upper t)) o
     inner : {i o : List Kind} {x : Expr} → Inner i x (closing ∷ o) → Atom (opening ∷ i) x o
 

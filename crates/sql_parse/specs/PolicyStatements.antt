@@ -1,6 +1,6 @@
 -- What a statement CREATE AUDIT POLICY is (SQL Language Reference, "CREATE AUDIT POLICY (Unified Auditing)"; the choice of
 -- rules is this project's profile).
-use Rattle.std.specs.Prelude.{◌≡◌, ℕ, true, ◌||◌, List, [], ◌∷◌, ◌++◌, Option, Some, None, is_some, codes}
+use Rattle.std.specs.Prelude.{◌≡◌, ℕ, true, ◌||◌, List, ◌∷◌, ◌++◌, Option, Some, None, is_some, codes}
 use Rattle.au_base.specs.declared.action.Action.{Action}
 use Rattle.au_base.specs.declared.action.Action.TheVariants as actions
 use Rattle.au_base.specs.declared.privilege.Privilege.{Privilege}
@@ -66,7 +66,3 @@ pub data PolicyStatement : List Kind → Statement → List Kind → Type 0 wher
 -- the tokens are this statement, with `;` behind it or without
 abbrev pub IsPolicyStatement : List Kind → Statement → Type 0
 IsPolicyStatement = WholeOf PolicyStatement
-
--- the tokens are no such statement
-abbrev pub IsNoPolicyStatement : List Kind → Type 0
-IsNoPolicyStatement ts = (x : Statement) → ¬ (IsPolicyStatement ts x)

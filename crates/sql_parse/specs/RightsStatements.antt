@@ -31,7 +31,3 @@ pub data RightsStatement : List Kind → Statement → List Kind → Type 0 wher
 -- the tokens are this statement, with `;` behind it or without
 abbrev pub IsRightsStatement : List Kind → Statement → Type 0
 IsRightsStatement = WholeOf RightsStatement
-
--- the tokens are no such statement
-abbrev pub IsNoRightsStatement : List Kind → Type 0
-IsNoRightsStatement ts = (x : Statement) → ¬ (IsRightsStatement ts x)

@@ -31,7 +31,3 @@ module _ (Inner : List Kind → Expr → List Kind → Type 0) where
 -- the tokens are this row statement, with `;` behind it or without, however deep it nests
 abbrev pub IsRowStatement : List Kind → Statement → Type 0
 IsRowStatement = Whole (λ ks. ks) (λ depth. RowStatement (Within depth))
-
--- the tokens are no row statement
-abbrev pub IsNoRowStatement : List Kind → Type 0
-IsNoRowStatement ts = (x : Statement) → ¬ (IsRowStatement ts x)

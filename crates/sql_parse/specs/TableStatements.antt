@@ -55,7 +55,3 @@ pub data TableStatement : List Kind → Statement → List Kind → Type 0 where
 -- the tokens are this statement, with `;` behind it or without
 abbrev pub IsTableStatement : List Kind → Statement → Type 0
 IsTableStatement = WholeOf TableStatement
-
--- the tokens are no such statement
-abbrev pub IsNoTableStatement : List Kind → Type 0
-IsNoTableStatement ts = (x : Statement) → ¬ (IsTableStatement ts x)

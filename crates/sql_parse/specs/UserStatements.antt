@@ -33,7 +33,3 @@ pub data UserStatement (text : List ℕ) : List Token → Statement → List Tok
 -- the tokens of the text are this statement, with `;` behind it or without
 abbrev pub IsUserStatement : List ℕ → List Token → Statement → Type 0
 IsUserStatement text = Whole kinds (λ depth. UserStatement text)
-
--- the tokens are no such statement
-abbrev pub IsNoUserStatement : List ℕ → List Token → Type 0
-IsNoUserStatement text ts = (x : Statement) → ¬ (IsUserStatement text ts x)

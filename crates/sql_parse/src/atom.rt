@@ -1,4 +1,5 @@
 //! What a word begins in an expression.
+ghost use Rattle.std.specs.List.{list_any};
 ghost use Rattle.std.specs.Option.{option_map};
 ghost use Rattle.std.specs.Prelude.{◌≡◌, Some};
 ghost use Rattle.sql_parse.specs.Expressions.{upper};
@@ -11,7 +12,7 @@ use crate::literals::{literal, moment_of};
 use crate::names::column;
 use crate::stop::Stop;
 use au_base::Text;
-use sql_ast::Expr;
+use sql_ast::{Attribute, Expr};
 use sql_lex::{Mark, Token};
 use std::alloc::Global;
 
@@ -66,7 +67,7 @@ fn attribute_of<'t>(
 {
     let namespace = upper(namespace)?;
     let parameter = upper(parameter)?;
-    if namespace.as_str() == "USERENV" && is_attribute(parameter.as_str()) {
+    if namespace.as_str() == Attribute::NAMESPACE && is_attribute(parameter.as_str()) {
         Ok((Expr::Context(parameter), rest))
     } else {
         Err(Stop::Unread)
@@ -81,8 +82,25 @@ fn upper(text: &Text) -> Result<Text, Stop>
     Ok(copy)
 }
 
-fn is_attribute(parameter: &str) -> bool
-    ensures { result ≡ spec.is_attribute parameter.now }
+// Whether an attribute has this name.
+#[tactic(auto, unfolding(crate::specs::descent::Reading::is_attribute))]
+fn is_attribute(name: &str) -> bool
+    ensures { result ≡ spec.is_attribute name.now }
 {
-    parameter == "SESSION_USER" || parameter == "SESSIONID"
+    is_name_of_any(&Attribute::EACH, name)
+}
+
+fn is_name_of_any(attributes: &[Attribute], name: &str) -> bool
+    ensures { result ≡ list_any (spec.is_named name.now) attributes.now }
+{
+    attributes
+        .iter()
+        .any(|attribute| is_named(*attribute, name))
+}
+
+#[tactic(auto, unfolding(crate::specs::descent::Reading::is_named))]
+fn is_named(attribute: Attribute, name: &str) -> bool
+    ensures { result ≡ spec.is_named name.now attribute }
+{
+    name == attribute.name()
 }

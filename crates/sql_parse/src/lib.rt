@@ -17,5 +17,5 @@ mod stop;
 pub mod tables;
 
 pub use conditions::{condition, one_condition, opens_few, tree_is_condition};
-pub use row_statements::{one_row_statement, row_statement};
+pub use row_statements::{one_row_statement, row_statement, shallow_row_statement};
 pub use stop::Stop;

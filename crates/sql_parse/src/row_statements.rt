@@ -1,11 +1,11 @@
 //! Statements that read and change rows.
-ghost use Rattle.std.specs.Prelude.{◌≡◌, true, List, IfOk, MatchOption};
+ghost use Rattle.std.specs.Prelude.{◌≡◌, true, List};
 ghost use Rattle.sql_lex.specs.declared.token.Kind.{Kind as TokenKind};
 ghost use Rattle.sql_ast.specs.declared.statement.Statement.{Statement as Tree};
 ghost use Rattle.sql_parse.specs.Symbols.{kinds};
 ghost use Rattle.sql_parse.specs.descent.Reading.{Gives, inside};
 ghost use Rattle.sql_parse.specs.descent.ReadStatements as spec;
-ghost use Rattle.sql_parse.specs.RowStatements.{IsNoRowStatement, IsRowStatement};
+ghost use Rattle.sql_parse.specs.RowStatements.{IsRowStatement};
 ghost use Rattle.sql_parse.specs.Conditions.{opens_few};
 ghost use Rattle.sql_parse.specs.Whole.{Finds};
 
@@ -23,7 +23,7 @@ use std::alloc::Global;
 /// The SELECT, INSERT, UPDATE, DELETE, COMMIT or ROLLBACK that the tokens are, with `;` behind it
 /// or without, in which no more than 100 parentheses are open at once. `None` where they are none.
 pub fn row_statement(alloc: Global, tokens: &[Token]) -> Result<Option<Statement>, Memory>
-    ensures { IfOk result (λ found. MatchOption found (IsNoRowStatement (kinds tokens.now)) (IsRowStatement (kinds tokens.now))) }
+    ensures { Finds (IsRowStatement (kinds tokens.now)) result }
 {
     if !opens_few(tokens) {
         return Ok(None);
@@ -31,7 +31,8 @@ pub fn row_statement(alloc: Global, tokens: &[Token]) -> Result<Option<Statement
     shallow_row_statement(alloc, tokens)
 }
 
-/// The same of tokens that open no more than 100 parentheses at once, which it doesn't ask.
+/// The same of tokens whose parentheses were counted. Nothing is said of tokens that open over 100
+/// parentheses at once.
 pub fn shallow_row_statement(alloc: Global, tokens: &[Token]) -> Result<Option<Statement>, Memory>
     ensures { opens_few 0 (kinds tokens.now) ≡ true → Finds (IsRowStatement (kinds tokens.now)) result }
 {

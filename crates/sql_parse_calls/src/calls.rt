@@ -20,7 +20,7 @@ use sql_parse::endings::whole;
 use std::alloc::Global;
 
 /// The call that the tokens are, behind CALL or in a block, with `;` behind it or without. `None`
-/// where they are none.
+/// where they are none. Nothing is said of tokens that open over 100 parentheses at once.
 pub fn call_statement(alloc: Global, tokens: &[Token]) -> Result<Option<Statement>, Memory>
     ensures { opens_few 0 (kinds tokens.now) ≡ true → Finds (IsCallStatement (kinds tokens.now)) result }
 {

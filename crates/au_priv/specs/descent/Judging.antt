@@ -3,7 +3,7 @@ use Rattle.std.specs.Prelude.{◌≡◌, List, Result, Ok, Err}
 use Rattle.au_base.specs.declared.code.Code.{Code}
 use Rattle.au_grants.specs.declared.change.GrantChange.{GrantChange}
 use Rattle.au_grants.specs.declared.grants.Grants.{Grants}
-use Rattle.au_priv.specs.declared.walking.Progress.{Progress}
+use Rattle.au_priv.specs.descent.Progressing.{Done}
 use Rattle.au_priv.specs.Pairs.{Pair}
 use Rattle.au_priv.specs.Walking.{AllPass, SomeRefused, made_all}
 
@@ -13,6 +13,6 @@ Judged grants pairs (Ok changes) = AllPass grants pairs × (changes ≡ made_all
 Judged grants pairs (Err code) = SomeRefused grants pairs code
 
 -- the changes of a walk that came to its end
-abbrev pub changes_in : Result Progress Code → Result (List GrantChange) Code
+abbrev pub changes_in : Result Done Code → Result (List GrantChange) Code
 changes_in (Ok end) = Ok end.changes
 changes_in (Err code) = Err code

@@ -1,12 +1,15 @@
 -- Reading by descent: what each function of the code answers.
 use Rattle.std.specs.Prelude.{◌≡◌, ℕ, zero, suc, Bool, false, ◌||◌, ◌&&◌, ◌==◌, if◌then◌else◌, List, [], ◌∷◌, ◌++◌, length, Option, Some, None, Result, Ok, Err, codes}
+use Rattle.std.specs.List.{list_any}
 use Rattle.std.specs.Str.{bytes_eq}
 use Rattle.sql_lex.specs.declared.token.Kind.{Kind}
 use Rattle.sql_lex.specs.declared.token.Kind.TheVariants.{Word, Quoted, Number, Text, Mark}
+use Rattle.sql_ast.specs.declared.context.Attribute.{Attribute}
 use Rattle.sql_ast.specs.declared.expression.Expr.{Expr}
 use Rattle.sql_ast.specs.declared.expression.Expr.TheVariants as e
 use Rattle.sql_ast.specs.declared.expression.Relation.{Relation}
 use Rattle.sql_ast.specs.declared.expression.Relation.TheVariants as relation
+use Rattle.sql_ast.specs.Attributes.{attribute_name, each_attribute, namespace}
 use Rattle.sql_parse.specs.declared.stop.Stop.{Stop}
 use Rattle.sql_parse.specs.declared.stop.Stop.TheVariants as stop
 use Rattle.sql_parse.specs.Symbols.{mark_number, sees, opening, closing, star, plus, comma, minus, dot, is_free}
@@ -116,11 +119,16 @@ literal (k ∷ o) = literal_of k >>= λ t. Some (t, o)
 unfoldable pub moment : Reader Expr
 moment i = literal i >>= λ t. moment_read t.0 >>= λ m. Some (e.Moment m, t.1)
 
-abbrev pub is_attribute : List ℕ → Bool
-is_attribute t = bytes_eq t (codes "SESSION_USER") || bytes_eq t (codes "SESSIONID")
+-- whether the attribute has this name
+unfoldable pub is_named : List ℕ → Attribute → Bool
+is_named t attribute = bytes_eq t (attribute_name attribute)
+
+-- whether an attribute has this name
+unfoldable pub is_attribute : List ℕ → Bool
+is_attribute t = list_any (is_named t) each_attribute
 
 abbrev pub attribute_of : List ℕ → List ℕ → List Kind → Option (Expr × List Kind)
-attribute_of n t o = if bytes_eq (upper n) (codes "USERENV") && is_attribute (upper t) then Some (e.Context (upper t), o) else None
+attribute_of n t o = if bytes_eq (upper n) namespace && is_attribute (upper t) then Some (e.Context (upper t), o) else None
 
 -- behind the opening parenthesis of SYS_CONTEXT
 unfoldable pub context : Reader Expr

@@ -5,4 +5,4 @@ use Rattle.au_grants.specs.Changing.{Closes}
 use Rattle.au_priv.proofs.walking.closes_circle.Given as goal
 
 abbrev pub invariant-loop-change : goal.invariant-loop-change
-invariant-loop-change g l = ((k : ℕ) (change : GrantChange) → k < l.change-index → slice_get l.pair k ≡ Some change → ¬ Closes (g.G.GrantsSeen.seen l.fn.grants).role change) × (g.G.GrantsSeen.seen l.grants ≡ g.G.GrantsSeen.seen l.fn.grants)
+invariant-loop-change l = ((k : ℕ) (change : GrantChange) → k < l.change-index → slice_get l.pair k ≡ Some change → ¬ Closes l.fn.progress.after.role change) × (l.progress ≡ l.fn.progress)

@@ -4,4 +4,4 @@ use Rattle.au_priv.specs.Walking.{is_effective}
 use Rattle.au_priv.proofs.walking.effective.Given as goal
 
 abbrev pub invariant-loop-change : goal.invariant-loop-change
-invariant-loop-change g l = l.changes ≡ filter (is_effective (g.G.GrantsSeen.seen l.grants)) (take l.change-index l.pair)
+invariant-loop-change l = l.changes ≡ filter (is_effective l.progress.after) (take l.change-index l.pair)
