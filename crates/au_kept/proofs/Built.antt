@@ -190,19 +190,3 @@ whole_is kept seen changes same user (Ok whole) is = (
 whole_is kept seen changes same user (Err e) is = is
 
 -- ---- change by change
-
-pub all_step : (image : Bool) (start kept next : Kept) (change : Change) (all left rest : List Change) → left ≡ change ∷ rest → next ≡ changed conditions.tree change kept → GoesOn conditions image kept change
-    → (AllGoOn conditions image start all ↔ AllGoOn conditions image kept left) → AllGoOn conditions image start all ↔ AllGoOn conditions image next rest
-all_step image start kept next change all left rest at made goes so_far = (
-  λ holds. subst (λ (k : Kept). AllGoOn conditions image k rest) (sym made) (subst (AllGoOn conditions image kept) at (so_far.0 holds)).1,
-  λ more. so_far.1 (subst (AllGoOn conditions image kept) (sym at) (goes, subst (λ (k : Kept). AllGoOn conditions image k rest) made more)),
-)
-
-pub made_step : (kept next last : Kept) (change : Change) (left rest : List Change) → left ≡ change ∷ rest → next ≡ changed conditions.tree change kept → changed_all conditions.tree left kept ≡ last → changed_all conditions.tree rest next ≡ last
-made_step kept next last change left rest at made so_far = ap (changed_all conditions.tree rest) made ∙ sym (ap (λ (cs : List Change). changed_all conditions.tree cs kept) at) ∙ so_far
-
-pub stops : (image : Bool) (start kept : Kept) (change : Change) (all left rest : List Change) (goes : Bool) → left ≡ change ∷ rest → goes ≡ false → (IsTrue goes ↔ GoesOn conditions image kept change)
-    → (AllGoOn conditions image start all ↔ AllGoOn conditions image kept left) → AllGoOn conditions image start all → ⊥
-stops image start kept change all left rest goes at fails is so_far holds =
-    let yes = is.1 (subst (AllGoOn conditions image kept) at (so_far.0 holds)).0 in
-    let e : true ≡ false = sym yes ∙ fails in cc

@@ -1,17 +1,16 @@
 -- What few changes of which none is of a row leave of what is kept, and that each can be tested before it is made.
-use Rattle.std.proofs.Common.{◌≡◌, ◌≢◌, ◌∙◌, ℕ, suc, ◌+◌, ◌≤◌, ◌<◌, Bool, true, false, not, cond, ◌⊎◌, inl, inr, List, [], ◌∷◌, ◌++◌, length, refl, sym, ap, subst, arith}
+use Rattle.std.proofs.Common.{◌≡◌, ◌≢◌, ◌∙◌, ℕ, ◌≤◌, Bool, true, false, not, ◌⊎◌, inl, inr, List, [], ◌∷◌, length, refl, sym, ap, subst}
 use Rattle.std.specs.Prelude.{◌↔◌, ◌||◌, IfOk, IsTrue, None, Result, Ok, Err}
 use Rattle.std.specs.List.{AllByRecursion, Contains, filter, list_any}
 use Rattle.std.specs.Str.{bytes_eq}
 use Rattle.std.specs.declared.cmp.Ordering.{Ordering}
-use Rattle.std.specs.declared.cmp.Ordering.TheVariants.{Less, Equal, Greater}
+use Rattle.std.specs.declared.cmp.Ordering.TheVariants.{Equal}
 use Rattle.std.specs.Ordering.{is_gt, is_lt}
 use Rattle.std.proofs.lemmas.Bool.{and_parts}
-use Rattle.std.proofs.lemmas.List.{length-append}
 use Rattle.std.proofs.lemmas.List.Elements.{Contains-append_cases, Contains-append_right}
 use Rattle.std.proofs.lemmas.Slice.Eq.{bytes_eq-Decides}
 use Rattle.au_base.specs.BuiltIn.{sys}
-use Rattle.au_base.specs.Limits.{CATALOG_OBJECTS, GRANTS, LAST_MOMENT, TABLE_COLUMNS}
+use Rattle.au_base.specs.Limits.{GRANTS, LAST_MOMENT, TABLE_COLUMNS}
 use Rattle.au_base.specs.Sameness.{same_table}
 use Rattle.au_base.specs.declared.numbers.ClientNo.{ClientNo}
 use Rattle.au_base.specs.declared.numbers.RowNo.{RowNo}
@@ -19,144 +18,35 @@ use Rattle.au_base.specs.declared.numbers.Stamp.{Stamp}
 use Rattle.au_base.specs.declared.table.TableName.{TableName}
 use Rattle.au_entries.specs.declared.change.Change.{Change}
 use Rattle.au_entries.specs.declared.change.Change.TheVariants as change
-use Rattle.au_entries.specs.declared.fine_grained.FgaPolicy.{FgaPolicy}
 use Rattle.au_entries.specs.declared.kept.Kept.{Kept}
-use Rattle.au_entries.specs.declared.policy.AuditPolicy.{AuditPolicy}
 use Rattle.au_entries.specs.declared.table.Table.{Table}
 use Rattle.au_entries.specs.declared.trail_record.Record.{Record}
-use Rattle.au_entries.specs.Changing.{by_fields, by_name, changed, changed_all, fga_after, grants_after, policies_after, put_in_order, roles_after, table_fields, tables_after, users_after}
+use Rattle.au_entries.specs.Changing.{by_fields, by_name, changed, changed_all, put_in_order, table_fields, users_after}
 use Rattle.au_entries.specs.Frames.{PartsGoOn}
 use Rattle.au_entries.specs.Lawful.{IsFounded, IsLawful, IsWhole}
 use Rattle.au_entries.specs.Replaying.{AllGoOn, Conditions, GoesOn, has_grantee, has_role, has_table, has_user}
-use Rattle.au_grants.specs.declared.change.GrantChange.{GrantChange}
-use Rattle.au_grants.specs.declared.change.GrantChange.TheVariants as grant
-use Rattle.au_grants.specs.Changing.{applied, is_new, without}
-use Rattle.au_grants.specs.Rights.{Grants, IsChain, IsHolder, IsRoleGranted, RoleEntry, grant_count}
+use Rattle.au_grants.specs.Changing.{without}
+use Rattle.au_grants.specs.Rights.{IsHolder, grant_count}
 use Rattle.au_kept.specs.Keeping.{Contents, desk_of}
-use Rattle.au_kept.specs.Quick.{AreApart, AreInPlace, HasGrantee, HasNewGrantee, IsGrantApart, IsGrantOf, IsLone, IsNewRole, IsPlain, IsRoleMade, IsRoomy}
+use Rattle.au_kept.specs.Quick.{AreApart, AreInPlace, HasGrantee, HasNewGrantee, IsGrant, IsGrantOf, IsLone, IsNewRole, IsPlain, IsRoleMade}
 use Rattle.au_kept.specs.Sound.{IsKept}
 use Rattle.au_kept.specs.Staging.{CanSettle, IsFree, IsOfRow}
 use Rattle.au_kept.proofs.Among.{all_at, any_from, any_to, here, split}
+use Rattle.au_kept.proofs.Apart.{IsGrantFounded, first_granted, is_false}
 use Rattle.au_kept.proofs.Chosen.{filtered, filtered_from, still_there}
 use Rattle.au_kept.proofs.CommitRows.{same_text}
 use Rattle.au_kept.proofs.OpenKeys.{found as found_table}
 use Rattle.au_kept.proofs.Replayed.{TouchedSuffices}
+use Rattle.au_kept.proofs.Room.{AddsOne, all_few}
 use Rattle.au_kept.proofs.Written.{open_lists}
 use Rattle.au_replay.specs.Reading.{conditions}
-use Rattle.au_replay.specs.Touched.{AreFew, makes_table, puts_into, puts_row}
+use Rattle.au_replay.specs.Touched.{makes_table, puts_into, puts_row}
 use Rattle.au_txn.specs.Desks.{Contents as Desk, open_of}
 use Rattle.au_txn.specs.Logs.{Changes, changes_of}
 use Rattle.au_txn.specs.Transactions.{names_table}
 use Rattle.rec_codec.specs.Changes.{IsChangeSpellable}
 use Rattle.rec_codec.specs.Records.{trail_record}
 use Rattle.sql_ast.specs.declared.expression.Expr.{Expr}
-
--- ---- lists grow by one entry at most
-
-kept_at : {X : Type 0} (b : Bool) (x : X) (ys : List X) (n : ℕ) → length ys ≤ n → length (cond b (x ∷ ys) ys) ≤ suc n
-kept_at true x ys n few = omega arith
-kept_at false x ys n few = omega arith
-
-left_few : {X : Type 0} (test : X → Bool) (xs : List X) → length (without test xs) ≤ length xs
-left_few test [] = omega arith
-left_few test (x ∷ xs) = kept_at (not (test x)) x (without test xs) (length xs) (left_few test xs)
-
-left_more : {X : Type 0} (test : X → Bool) (xs : List X) → length (without test xs) ≤ length xs + 1
-left_more test xs = let few = left_few test xs in omega arith
-
-parted_at : {X : Type 0} (o : Ordering) (x : X) (lesser greater : List X) (n : ℕ) → length lesser + length greater ≤ n → length (cond (is_lt o) (x ∷ lesser) lesser) + length (cond (is_gt o) (x ∷ greater) greater) ≤ suc n
-parted_at Less x lesser greater n few = omega arith
-parted_at Equal x lesser greater n few = omega arith
-parted_at Greater x lesser greater n few = omega arith
-
-parted : {X : Type 0} (order : X → Ordering) (xs : List X) → length (filter (λ x. is_lt (order x)) xs) + length (filter (λ x. is_gt (order x)) xs) ≤ length xs
-parted order [] = omega arith
-parted order (x ∷ xs) = parted_at (order x) x _ _ (length xs) (parted order xs)
-
-put_few : {X : Type 0} (order : X → Ordering) (entry : X) (xs : List X) → length (put_in_order order entry xs) ≤ length xs + 1
-put_few {X} order entry xs =
-    let parts = parted order xs in
-    let joined = length-append (filter (λ (x : X). is_lt (order x)) xs) (entry ∷ filter (λ (x : X). is_gt (order x)) xs) in
-    omega (arith, parts, joined)
-
--- ---- part by part
-
-users_few : (c : Change) (users : List (List ℕ × List ℕ)) → length (users_after c users) ≤ length users + 1
-users_few (change.User name verifier) users = put_few _ (name, verifier) users
-users_few (change.UserGone name) users = left_more _ users
-users_few _ users = omega arith
-
-roles_few : (c : Change) (roles : List (List ℕ)) → length (roles_after c roles) ≤ length roles + 1
-roles_few (change.Role name) roles = put_few _ name roles
-roles_few (change.RoleGone name) roles = left_more _ roles
-roles_few _ roles = omega arith
-
-tables_few : (c : Change) (tables : List Table) → length (tables_after c tables) ≤ length tables + 1
-tables_few (change.Table name columns key) tables = put_few _ _ tables
-tables_few (change.TableGone name) tables = left_more _ tables
-tables_few _ tables = omega arith
-
-policies_few : (tree : List ℕ → Expr) (c : Change) (policies : List AuditPolicy) → length (policies_after tree c policies) ≤ length policies + 1
-policies_few tree (change.Policy name privileges actions roles when) policies = put_few _ _ policies
-policies_few tree (change.PolicyGone name) policies = left_more _ policies
-policies_few tree _ policies = omega arith
-
-fga_few : (tree : List ℕ → Expr) (c : Change) (policies : List FgaPolicy) → length (fga_after tree c policies) ≤ length policies + 1
-fga_few tree (change.Fga table policy condition columns all types enabled) policies = put_few _ _ policies
-fga_few tree (change.FgaGone table policy) policies = left_more _ policies
-fga_few tree (change.TableGone table) policies = left_more _ policies
-fga_few tree _ policies = omega arith
-
--- a change of grants adds one at most, as the law has it
-abbrev pub AddsOne : Type 0
-AddsOne = (grants : Grants) (change : GrantChange) → grant_count (applied change grants) ≤ grant_count grants + length (filter (is_new grants) (change ∷ []))
-
-applied_few : AddsOne → (grants : Grants) (made : GrantChange) → grant_count (applied made grants) ≤ grant_count grants + 1
-applied_few adds grants made =
-    let law = adds grants made in
-    let one : length (filter (is_new grants) (made ∷ [])) ≤ 1 = kept_at (is_new grants made) made [] 0 (omega arith) in
-    omega (arith, law, one)
-
-grants_few : AddsOne → (c : Change) (grants : Grants) → grant_count (grants_after c grants) ≤ grant_count grants + 1
-grants_few adds (change.UserGone name) grants = applied_few adds grants (grant.UserGone name)
-grants_few adds (change.RoleGone name) grants = applied_few adds grants (grant.RoleGone name)
-grants_few adds (change.SysGrant grantee privilege admin) grants = applied_few adds grants (grant.SystemGrant grantee privilege admin)
-grants_few adds (change.SysRevoke grantee privilege) grants = applied_few adds grants (grant.SystemRevoke grantee privilege)
-grants_few adds (change.RoleGrant grantee role admin) grants = applied_few adds grants (grant.RoleGrant grantee role admin)
-grants_few adds (change.RoleRevoke grantee role) grants = applied_few adds grants (grant.RoleRevoke grantee role)
-grants_few adds (change.ObjGrant grantee table action) grants = applied_few adds grants (grant.ObjectGrant grantee table action)
-grants_few adds (change.ObjRevoke grantee table action) grants = applied_few adds grants (grant.ObjectRevoke grantee table action)
-grants_few adds (change.TableGone table) grants = applied_few adds grants (grant.TableGone table)
-grants_few adds _ grants = omega arith
-
--- ---- room for the changes
-
-roomier_at : (n m more limit : ℕ) → n ≤ m + 1 → m + suc more ≤ limit → n + more ≤ limit
-roomier_at n m more limit few room = omega arith
-
-few_at : (n limit : ℕ) → n + 0 ≤ limit → n ≤ limit
-few_at n limit room = omega arith
-
-roomier : AddsOne → (tree : List ℕ → Expr) (c : Change) (kept : Kept) (more : ℕ) → IsRoomy kept (suc more) → IsRoomy (changed tree c kept) more
-roomier adds tree c kept more roomy = record {
-  users = roomier_at _ _ more CATALOG_OBJECTS (users_few c kept.users) roomy.users;
-  roles = roomier_at _ _ more CATALOG_OBJECTS (roles_few c kept.roles) roomy.roles;
-  tables = roomier_at _ _ more CATALOG_OBJECTS (tables_few c kept.tables) roomy.tables;
-  policies = roomier_at _ _ more CATALOG_OBJECTS (policies_few tree c kept.policies) roomy.policies;
-  fga = roomier_at _ _ more CATALOG_OBJECTS (fga_few tree c kept.fga) roomy.fga;
-  grants = roomier_at _ _ more GRANTS (grants_few adds c kept.grants) roomy.grants;
-}
-
-pub all_few : AddsOne → (tree : List ℕ → Expr) (changes : List Change) (kept : Kept) → IsRoomy kept (length changes) → AreFew (changed_all tree changes kept)
-all_few adds tree [] kept roomy = record {
-  users = few_at _ CATALOG_OBJECTS roomy.users;
-  roles = few_at _ CATALOG_OBJECTS roomy.roles;
-  tables = few_at _ CATALOG_OBJECTS roomy.tables;
-  policies = few_at _ CATALOG_OBJECTS roomy.policies;
-  fga = few_at _ CATALOG_OBJECTS roomy.fga;
-  grants = few_at _ GRANTS roomy.grants;
-}
-all_few adds tree (c ∷ changes) kept roomy = all_few adds tree changes (changed tree c kept) (roomier adds tree c kept (length changes) roomy)
 
 -- ---- which changes there are
 
@@ -169,19 +59,19 @@ plain_rowless (change.Put table number cells) plain = absurd plain
 plain_rowless (change.Gone table number) plain = absurd plain
 plain_rowless _ plain = λ row. row
 
-apart_rowless : (kept : Kept) (c : Change) → IsGrantApart kept c → IsRowless c
-apart_rowless kept (change.Put table number cells) apart = absurd apart
-apart_rowless kept (change.Gone table number) apart = absurd apart
-apart_rowless kept _ apart = λ row. row
+grant_rowless : (c : Change) → IsGrant c → IsRowless c
+grant_rowless (change.Put table number cells) is = absurd is
+grant_rowless (change.Gone table number) is = absurd is
+grant_rowless _ is = λ row. row
 
-grant_rowless : (name : List ℕ) (c : Change) → IsGrantOf name c → IsRowless c
-grant_rowless name (change.Put table number cells) is = absurd is
-grant_rowless name (change.Gone table number) is = absurd is
-grant_rowless name _ is = λ row. row
+-- a grant of a role is a grant
+is_grant : (name : List ℕ) (c : Change) → IsGrantOf name c → IsGrant c
+is_grant name (change.RoleGrant grantee role admin) is = tt
+is_grant name _ is = absurd is
 
-all_rowless : (kept : Kept) (changes : List Change) → AllByRecursion (IsGrantApart kept) changes → AllByRecursion IsRowless changes
-all_rowless kept [] apart = tt
-all_rowless kept (c ∷ changes) apart = (apart_rowless kept c apart.0, all_rowless kept changes apart.1)
+all_rowless : (changes : List Change) → AllByRecursion IsGrant changes → AllByRecursion IsRowless changes
+all_rowless [] grants = tt
+all_rowless (c ∷ changes) grants = (grant_rowless c grants.0, all_rowless changes grants.1)
 
 lone_rowless : (changes : List Change) → IsLone changes → AllByRecursion IsRowless changes
 lone_rowless [] lone = absurd lone
@@ -193,7 +83,7 @@ made_rowless kept (change.Role name) second made = λ row. row
 made_rowless kept _ second made = absurd made
 
 made_grant : (kept : Kept) (first second : Change) → IsRoleMade kept first second → IsRowless second
-made_grant kept (change.Role name) second made = grant_rowless name second made.1
+made_grant kept (change.Role name) second made = grant_rowless second (is_grant name second made.1)
 made_grant kept _ second made = absurd made
 
 role_rowless : (kept : Kept) (changes : List Change) → IsNewRole kept changes → AllByRecursion IsRowless changes
@@ -205,7 +95,7 @@ role_rowless kept (first ∷ second ∷ third ∷ changes) new = absurd new
 pub few_rowless : (kept : Kept) (changes : List Change) → AreInPlace kept changes → AllByRecursion IsRowless changes
 few_rowless kept changes (inl new, roomy) = role_rowless kept changes new
 few_rowless kept changes (inr (inl lone), roomy) = lone_rowless changes lone
-few_rowless kept changes (inr (inr apart), roomy) = all_rowless kept changes apart
+few_rowless kept changes (inr (inr apart), roomy) = all_rowless changes apart.0
 
 -- ---- no row is put, and a table that is made is narrow
 
@@ -233,28 +123,21 @@ none_put table (c ∷ changes) rowless = or_false _ _ (none_into table c rowless
 abbrev MakesNone : Change → Type 0
 MakesNone c = (table : TableName) → makes_table table c ≡ false
 
-apart_none : (kept : Kept) (c : Change) → IsGrantApart kept c → MakesNone c
-apart_none kept (change.Table name columns key) apart = absurd apart
-apart_none kept _ apart = λ table. refl
-
-grant_none : (name : List ℕ) (c : Change) → IsGrantOf name c → MakesNone c
-grant_none name (change.Table other columns key) is = absurd is
-grant_none name _ is = λ table. refl
+grant_none : (c : Change) → IsGrant c → MakesNone c
+grant_none (change.Table name columns key) is = absurd is
+grant_none _ is = λ table. refl
 
 none_made : (changes : List Change) → AllByRecursion MakesNone changes → (table : TableName) → list_any (makes_table table) changes ≡ false
 none_made [] none table = refl
 none_made (c ∷ changes) none table = or_false _ _ (none.0 table) (none_made changes none.1 table)
 
-all_none : (kept : Kept) (changes : List Change) → AllByRecursion (IsGrantApart kept) changes → AllByRecursion MakesNone changes
-all_none kept [] apart = tt
-all_none kept (c ∷ changes) apart = (apart_none kept c apart.0, all_none kept changes apart.1)
+all_none : (changes : List Change) → AllByRecursion IsGrant changes → AllByRecursion MakesNone changes
+all_none [] grants = tt
+all_none (c ∷ changes) grants = (grant_none c grants.0, all_none changes grants.1)
 
 role_none : (kept : Kept) (first second : Change) → IsRoleMade kept first second → AllByRecursion MakesNone (first ∷ second ∷ [])
-role_none kept (change.Role name) second made = ((λ table. refl), (grant_none name second made.1, tt))
+role_none kept (change.Role name) second made = ((λ table. refl), (grant_none second (is_grant name second made.1), tt))
 role_none kept _ second made = absurd made
-
-is_false : (b : Bool) → b ≡ false → b ≡ true → ⊥
-is_false b is other = let e : false ≡ true = sym is ∙ other in cc
 
 -- ---- entries that are put and taken away
 
@@ -333,7 +216,7 @@ few_narrow conditions kept (first ∷ second ∷ third ∷ changes) (inl new) go
 few_narrow conditions kept [] (inr (inl lone)) goes table has made = absurd lone
 few_narrow conditions kept (c ∷ []) (inr (inl lone)) goes table has made = lone_narrow conditions c kept lone goes.0 table has made
 few_narrow conditions kept (c ∷ other ∷ changes) (inr (inl lone)) goes table has made = absurd lone
-few_narrow conditions kept changes (inr (inr apart)) goes table has made = absurd (is_false _ (none_made changes (all_none kept changes apart) table.name) made)
+few_narrow conditions kept changes (inr (inr apart)) goes table has made = absurd (is_false _ (none_made changes (all_none changes apart.0) table.name) made)
 
 pub few_whole : AddsOne → TouchedSuffices → (conditions : Conditions) (kept : Kept) (changes : List Change) → IsLawful conditions kept → IsWhole kept → AreInPlace kept changes → AllGoOn conditions false kept changes
     → IsWhole (changed_all conditions.tree changes kept)
@@ -364,22 +247,17 @@ lone_user tree _ kept plain = refl
 abbrev UsersStay : Change → Type 0
 UsersStay c = (users : List (List ℕ × List ℕ)) → users_after c users ≡ users
 
-apart_stay : (kept : Kept) (c : Change) → IsGrantApart kept c → UsersStay c
-apart_stay kept (change.User name verifier) apart = absurd apart
-apart_stay kept (change.UserGone name) apart = absurd apart
-apart_stay kept _ apart = λ users. refl
+grant_stay : (c : Change) → IsGrant c → UsersStay c
+grant_stay (change.User name verifier) is = absurd is
+grant_stay (change.UserGone name) is = absurd is
+grant_stay _ is = λ users. refl
 
-grant_stay : (name : List ℕ) (c : Change) → IsGrantOf name c → UsersStay c
-grant_stay name (change.User other verifier) is = absurd is
-grant_stay name (change.UserGone other) is = absurd is
-grant_stay name _ is = λ users. refl
-
-all_stay : (kept : Kept) (changes : List Change) → AllByRecursion (IsGrantApart kept) changes → AllByRecursion UsersStay changes
-all_stay kept [] apart = tt
-all_stay kept (c ∷ changes) apart = (apart_stay kept c apart.0, all_stay kept changes apart.1)
+all_stay : (changes : List Change) → AllByRecursion IsGrant changes → AllByRecursion UsersStay changes
+all_stay [] grants = tt
+all_stay (c ∷ changes) grants = (grant_stay c grants.0, all_stay changes grants.1)
 
 role_stay : (kept : Kept) (first second : Change) → IsRoleMade kept first second → AllByRecursion UsersStay (first ∷ second ∷ [])
-role_stay kept (change.Role name) second made = ((λ users. refl), (grant_stay name second made.1, tt))
+role_stay kept (change.Role name) second made = ((λ users. refl), (grant_stay second (is_grant name second made.1), tt))
 role_stay kept _ second made = absurd made
 
 users_stay : (tree : List ℕ → Expr) (changes : List Change) (kept : Kept) → AllByRecursion UsersStay changes → has_user (changed_all tree changes kept) sys ≡ has_user kept sys
@@ -394,96 +272,7 @@ few_user tree kept (first ∷ second ∷ third ∷ changes) (inl new, roomy) = a
 few_user tree kept [] (inr (inl lone), roomy) = absurd lone
 few_user tree kept (c ∷ []) (inr (inl lone), roomy) = lone_user tree c kept lone
 few_user tree kept (c ∷ other ∷ changes) (inr (inl lone), roomy) = absurd lone
-few_user tree kept changes (inr (inr apart), roomy) = users_stay tree changes kept (all_stay kept changes apart)
-
--- ---- grants that don't depend on each other
-
--- who holds a role is granted it in the last place, and has another in the first
-last_granted : (roles : List RoleEntry) (from : List ℕ) (path : List (List ℕ)) (name : List ℕ) → IsChain roles from (path ++ name ∷ []) → (holder : List ℕ) × IsRoleGranted roles holder name
-last_granted roles from [] name chain = (from, chain.0)
-last_granted roles from (role ∷ path) name chain = last_granted roles role path name chain.1
-
-first_granted : (roles : List RoleEntry) (from : List ℕ) (path : List (List ℕ)) (name : List ℕ) → IsChain roles from (path ++ name ∷ []) → (role : List ℕ) × IsRoleGranted roles from role
-first_granted roles from [] name chain = (name, chain.0)
-first_granted roles from (role ∷ path) name chain = (role, chain.0)
-
--- the role and the grantee of a grant are there
-abbrev IsGrantFounded : Kept → RoleEntry → Type 0
-IsGrantFounded kept grant = IsTrue (has_grantee kept grant.0) × IsTrue (has_role kept grant.1)
-
-no_role_held : (kept : Kept) (role name : List ℕ) → IsFounded kept → has_role kept name ≡ false → has_role kept role ≡ true → IsHolder kept.grants.role role name → ⊥
-no_role_held kept role name founded none is (inl same) = is_false (has_role kept name) none (ap (λ (n : List ℕ). has_role kept n) same ∙ is)
-no_role_held kept role name founded none is (inr (path, chain)) =
-    let granted = last_granted kept.grants.role role path name chain in
-    is_false (has_role kept name) none (all_at (IsGrantFounded kept) kept.grants.role founded.role (granted.0, name, granted.1.0) granted.1.1).1
-
--- the same users, roles and tables
-record SameNames (source target : Kept) : Type 0 where
-  users : target.users ≡ source.users
-  roles : target.roles ≡ source.roles
-  tables : target.tables ≡ source.tables
-
-role_same : (source target : Kept) → SameNames source target → (name : List ℕ) → has_role target name ≡ has_role source name
-role_same source target same name = ap (λ (roles : List (List ℕ)). list_any (λ (role : List ℕ). bytes_eq role name) roles) same.roles
-
-grantee_same : (source target : Kept) → SameNames source target → (name : List ℕ) → has_grantee target name ≡ has_grantee source name
-grantee_same source target same name =
-    ap (λ (users : List (List ℕ × List ℕ)). list_any (λ (user : List ℕ × List ℕ). bytes_eq user.0 name) users || has_role target name) same.users
-    ∙ ap (λ (b : Bool). has_user source name || b) (role_same source target same name)
-
-table_there : (source target : Kept) → SameNames source target → (name : TableName) → has_table target name ≡ has_table source name
-table_there source target same name = ap (λ (tables : List Table). list_any (λ (table : Table). same_table table.name name) tables) same.tables
-
-apart_same : (source target : Kept) → SameNames source target → (c : Change) → IsGrantApart source c → IsGrantApart target c
-apart_same source target same (change.SysGrant grantee privilege admin) apart = apart
-apart_same source target same (change.ObjGrant grantee table action) apart = apart
-apart_same source target same (change.RoleGrant grantee role admin) apart = role_same source target same grantee ∙ apart
-apart_same source target same _ apart = absurd apart
-
-goes_same : (conditions : Conditions) (source target : Kept) → SameNames source target → IsFounded target → (c : Change) → IsGrantApart target c → GoesOn conditions false source c → GoesOn conditions false target c
-goes_same conditions source target same founded (change.SysGrant grantee privilege admin) apart goes = grantee_same source target same grantee ∙ goes
-goes_same conditions source target same founded (change.ObjGrant grantee table action) apart goes = (grantee_same source target same grantee ∙ goes.0, table_there source target same table ∙ goes.1)
-goes_same conditions source target same founded (change.RoleGrant grantee role admin) apart goes =
-    let there = role_same source target same role ∙ goes.1 in
-    (grantee_same source target same grantee ∙ goes.0, there, no_role_held target role grantee founded apart there)
-goes_same conditions source target same founded _ apart goes = absurd apart
-
-names_stay : (tree : List ℕ → Expr) (source target : Kept) → SameNames source target → (c : Change) → IsGrantApart source c → SameNames source (changed tree c target)
-names_stay tree source target same (change.SysGrant grantee privilege admin) apart = record { users = same.users; roles = same.roles; tables = same.tables }
-names_stay tree source target same (change.ObjGrant grantee table action) apart = record { users = same.users; roles = same.roles; tables = same.tables }
-names_stay tree source target same (change.RoleGrant grantee role admin) apart = record { users = same.users; roles = same.roles; tables = same.tables }
-names_stay tree source target same _ apart = absurd apart
-
-turned : (source target : Kept) → SameNames source target → SameNames target source
-turned source target same = record { users = sym same.users; roles = sym same.roles; tables = sym same.tables }
-
--- what is lawful stays so, as the law has it
-abbrev pub StaysLawful : Type 0
-StaysLawful = (conditions : Conditions) (image : Bool) (kept : Kept) (change : Change) → IsLawful conditions kept → GoesOn conditions image kept change → IsLawful conditions (changed conditions.tree change kept)
-
-each_goes : StaysLawful → (conditions : Conditions) (changes : List Change) (source target : Kept) → SameNames source target → IsLawful conditions target → AllByRecursion (IsGrantApart source) changes
-    → AllByRecursion (GoesOn conditions false source) changes → AllGoOn conditions false target changes
-each_goes stays conditions [] source target same lawful apart goes = tt
-each_goes stays conditions (c ∷ changes) source target same lawful apart goes =
-    let first = goes_same conditions source target same lawful.founded c (apart_same source target same c apart.0) goes.0 in
-    (first, each_goes stays conditions changes source (changed conditions.tree c target) (names_stay conditions.tree source target same c apart.0) (stays conditions false target c lawful first) apart.1 goes.1)
-
-each_back : (conditions : Conditions) (changes : List Change) (source target : Kept) → SameNames source target → IsFounded source → AllByRecursion (IsGrantApart source) changes → AllGoOn conditions false target changes
-    → AllByRecursion (GoesOn conditions false source) changes
-each_back conditions [] source target same founded apart goes = tt
-each_back conditions (c ∷ changes) source target same founded apart goes = (
-  goes_same conditions target source (turned source target same) founded c apart.0 goes.0,
-  each_back conditions changes source (changed conditions.tree c target) (names_stay conditions.tree source target same c apart.0) founded apart.1 goes.1,
-)
-
--- each of the changes goes on by itself exactly where they go on one after another
-pub apart_goes : StaysLawful → (conditions : Conditions) (kept : Kept) (changes : List Change) → IsLawful conditions kept → AreApart kept changes → AllByRecursion (GoesOn conditions false kept) changes ↔ AllGoOn conditions false kept changes
-apart_goes stays conditions kept [] lawful (inl lone) = absurd lone
-apart_goes stays conditions kept (c ∷ []) lawful (inl lone) = ((λ goes. goes), (λ goes. goes))
-apart_goes stays conditions kept (c ∷ other ∷ changes) lawful (inl lone) = absurd lone
-apart_goes stays conditions kept changes lawful (inr apart) =
-    let same : SameNames kept kept = record { users = refl; roles = refl; tables = refl } in
-    (λ goes. each_goes stays conditions changes kept kept same lawful apart goes, λ goes. each_back conditions changes kept kept same lawful.founded apart goes)
+few_user tree kept changes (inr (inr apart), roomy) = users_stay tree changes kept (all_stay changes apart.0)
 
 -- an answer that tells the one tells the other
 pub told_by : {E : Type 0} (P Q : Type 0) → P ↔ Q → (answer : Result Bool E) → IfOk answer (λ goes. IsTrue goes ↔ P) → IfOk answer (λ goes. IsTrue goes ↔ Q)

@@ -1,4 +1,5 @@
 mod Among
+mod Apart
 mod Built
 mod Chosen
 mod CommitRows
@@ -20,6 +21,7 @@ mod Ranked
 mod Rebuilt
 mod Replayed
 mod Replaying
+mod Room
 mod Rowed
 mod RowsLaid
 mod Settled

@@ -37,10 +37,6 @@ use Rattle.au_txn.specs.Keys.{IsKeyedDesk}
 use Rattle.au_txn.specs.Logs.{changes_of}
 use Rattle.au_txn.specs.Rows.{Row, are_in_order, of_triple, triple_of}
 
--- the catalogue stands in order where what is kept does
-pub catalog_ordered : (kept : Kept) → IsOrdered kept → catalogs.IsOrdered (catalog_of kept)
-catalog_ordered kept h = record { users = h.users; roles = h.roles; tables = h.tables; policies = h.policies; enabled = h.enabled; fga = h.fga }
-
 -- what is staged can be made
 abbrev pub Can : Contents → Option ClientNo → Staged → List Record → Stamp → Type 0
 Can self commits staged records last = (changes : List Change) × IsStaged changes staged × CanSettle self commits changes records last

@@ -128,9 +128,6 @@ all_whole law touched parts kept begun building h same is firm goes whole =
 pub go_on_from : (parts : Parts) (kept : Kept) → kept.last.0 ≤ parts.stamp.0 → Rests parts kept → GoOn parts kept
 go_on_from parts kept stamped rests = record { stamped = stamped; go_on = rests.go_on; sys = rests.sys; whole = rests.whole }
 
-pub rests_from : (parts : Parts) (kept : Kept) → GoOn parts kept → Rests parts kept
-rests_from parts kept goes = record { go_on = goes.go_on; sys = goes.sys; whole = goes.whole }
-
 pub few_grants : (parts : Parts) (kept : Kept) (building : Building) → IsBuilt parts kept building → grant_count building.grants ≤ GRANTS
 few_grants parts kept building b = subst (λ (k : Kept). grant_count k.grants ≤ GRANTS) (sym b.built) b.rests.whole.few.grants
 
@@ -222,9 +219,6 @@ front_none (x ∷ xs) ys empty = absurd (let e : x ∷ (xs ++ ys) ≡ [] = empty
 pub quiet_lists : (desk : Desk) → IsQuiet desk → (client : ClientNo) → open_in [] desk.logs client ≡ []
 quiet_lists desk quiet client =
     subst (λ (laid : List RowChange). open_in laid desk.logs client ≡ []) (front_none desk.laid (changes_of replayer desk.logs) (quiet replayer)) (quiet client)
-
-pub quiet_same : (before after : List Changes) → after ≡ before → ((client : ClientNo) → open_in [] before client ≡ []) → (client : ClientNo) → open_in [] after client ≡ []
-quiet_same before after same quiet client = subst (λ (logs : List Changes). open_in [] logs client ≡ []) (sym same) (quiet client)
 
 -- ---- a copy by the image
 

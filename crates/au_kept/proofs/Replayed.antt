@@ -38,23 +38,6 @@ TouchedSuffices = (conditions : Conditions) (image : Bool) (kept : Kept) (change
 abbrev pub IsGood : Kept → List Change → Type 0
 IsGood kept changes = AllGoOn conditions false kept changes × IsWhole (changed_all conditions.tree changes kept)
 
-pub whole_told : TouchedSuffices → {E : Type 0} (kept next : Kept) (changes : List Change) → IsLawful conditions kept → IsWhole kept → AllGoOn conditions false kept changes → next ≡ changed_all conditions.tree changes kept
-    → (answer : Result Bool E) → IfOk answer (λ whole. IsTrue whole ↔ IsWholeWhereTouched changes next) → IfOk answer (λ whole. IsTrue whole ↔ IsGood kept changes)
-whole_told suffices kept next changes lawful whole goes same (Ok b) told =
-    let law = suffices conditions false kept changes lawful whole goes in
-    let is = subst (λ (k : Kept). IsTrue b ↔ IsWholeWhereTouched changes k) same told in
-    (λ holds. (goes, law.1 (is.0 holds)), λ good. is.1 (law.0 good.1))
-whole_told suffices kept next changes lawful whole goes same (Err error) told = tt
-
-pub refused_told : (kept : Kept) (changes : List Change) (b : Bool) → b ≡ false → (IsTrue b ↔ AllGoOn conditions false kept changes) → IsTrue false ↔ IsGood kept changes
-refused_told kept changes b is told = (λ e. absurd (let no : false ≡ true = e in cc), λ good. subst (λ (x : Bool). IsTrue x) is (told.1 good.0))
-
--- where what is laid is taken back
-pub back_kept : (catalog : Catalog) (grants : Grants) (instance : ℕ) (desk next : Desk) → desk.laid ≡ [] → IsAlone desk → next.laid ≡ [] → IsAlone next → next.rows ≡ desk.rows
-    → kept_seen catalog grants next instance ≡ kept_seen catalog grants desk instance
-back_kept catalog grants instance desk next bare alone next_bare next_alone rows =
-    ap (λ (rs : List KeptRow). kept_of catalog grants rs [] (record { 0 = 0 }) instance) (seen_bare next next_bare next_alone ∙ ap (map triple_of) rows ∙ sym (seen_bare desk bare alone))
-
 -- ---- with the trail and the last stamp
 
 good_to : (kept : Kept) (changes : List Change) (trail : List Record) (last : Stamp) → AllByRecursion IsOfRow changes → IsGood kept changes → IsGood (record kept { trail = trail; last = last }) changes

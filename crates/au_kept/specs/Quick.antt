@@ -1,13 +1,15 @@
 -- Frames that are replayed in place: those whose changes are all of rows, and those of few changes of which none is of a row.
-use Rattle.std.specs.Prelude.{◌≡◌, ◌≢◌, ◌≤◌, ◌+◌, ◌⊎◌, ℕ, ⊤, false, IsTrue, List, [], ◌∷◌, length}
-use Rattle.std.specs.List.{AllByRecursion}
+use Rattle.std.specs.Prelude.{◌≡◌, ◌≢◌, ◌≤◌, ◌+◌, ◌⊎◌, ℕ, ⊤, Bool, true, false, IsTrue, List, [], ◌∷◌, length}
+use Rattle.std.specs.List.{AllByRecursion, filter}
 use Rattle.au_base.specs.BuiltIn.{sys}
 use Rattle.au_base.specs.Limits.{CATALOG_OBJECTS, GRANTS, TABLE_COLUMNS}
 use Rattle.au_entries.specs.declared.change.Change.{Change}
-use Rattle.au_entries.specs.declared.change.Change.TheVariants.{User, UserGone, Role, SysGrant, RoleGrant, ObjGrant, Table, Put, Gone}
+use Rattle.au_entries.specs.declared.change.Change.TheVariants.{User, UserGone, Role, SysGrant, RoleGrant, ObjGrant, Table, Put, Gone, Policy, Fga}
 use Rattle.au_entries.specs.declared.kept.Kept.{Kept}
 use Rattle.au_entries.specs.Replaying.{has_grantee, has_role}
 use Rattle.au_grants.specs.Rights.{grant_count}
+use Rattle.au_kept.specs.declared.kind.Kind.{Kind}
+use Rattle.au_kept.specs.declared.kind.Kind.TheVariants as kind
 use Rattle.au_kept.specs.Staging.{IsOfRow}
 use Rattle.rec_codec.specs.declared.frame.Frame.{Frame}
 use Rattle.rec_codec.specs.declared.frame.Frame.TheVariants.{Image, Event, Purge}
@@ -33,12 +35,31 @@ IsLone [] = ⊥
 IsLone (change ∷ []) = IsPlain change
 IsLone (change ∷ other ∷ changes) = ⊥
 
--- The change grants a privilege, or a role to somebody who is no role: whether it goes on isn't changed by others that do.
-abbrev pub IsGrantApart : Kept → Change → Type 0
-IsGrantApart kept (SysGrant grantee privilege admin) = ⊤
-IsGrantApart kept (ObjGrant grantee table action) = ⊤
-IsGrantApart kept (RoleGrant grantee role admin) = has_role kept grantee ≡ false
-IsGrantApart kept _ = ⊥
+-- the change grants a privilege or a role
+abbrev pub IsGrant : Change → Type 0
+IsGrant (SysGrant grantee privilege admin) = ⊤
+IsGrant (RoleGrant grantee role admin) = ⊤
+IsGrant (ObjGrant grantee table action) = ⊤
+IsGrant _ = ⊥
+
+-- the change grants a role to a role
+abbrev pub is_to_role : Kept → Change → Bool
+is_to_role kept (RoleGrant grantee role admin) = has_role kept grantee
+is_to_role kept _ = false
+
+-- the change grants no role to a role, or one to this role
+abbrev pub IsToOne : Kept → List ℕ → Change → Type 0
+IsToOne kept name (RoleGrant grantee role admin) = (has_role kept grantee ≡ false) ⊎ (grantee ≡ name)
+IsToOne kept name _ = ⊤
+
+-- the change grants no role to a role, or this one
+abbrev pub IsOfOne : Kept → List ℕ → Change → Type 0
+IsOfOne kept name (RoleGrant grantee role admin) = (has_role kept grantee ≡ false) ⊎ (role ≡ name)
+IsOfOne kept name _ = ⊤
+
+-- the changes that grant a role to a role have one grantee, or grant one role
+abbrev pub ShareName : Kept → List Change → Type 0
+ShareName kept changes = (name : List ℕ) × (AllByRecursion (IsToOne kept name) changes ⊎ AllByRecursion (IsOfOne kept name) changes)
 
 -- the change grants the role to somebody else
 abbrev pub IsGrantOf : List ℕ → Change → Type 0
@@ -69,23 +90,39 @@ HasNewGrantee kept (first ∷ []) = ⊥
 HasNewGrantee kept (first ∷ second ∷ []) = HasGrantee kept second
 HasNewGrantee kept (first ∷ second ∷ third ∷ changes) = ⊥
 
--- so many more entries of each kind would be within the limits
-pub record IsRoomy (kept : Kept) (more : ℕ) : Type 0 where
-  pub users : length kept.users + more ≤ CATALOG_OBJECTS
-  pub roles : length kept.roles + more ≤ CATALOG_OBJECTS
-  pub tables : length kept.tables + more ≤ CATALOG_OBJECTS
-  pub policies : length kept.policies + more ≤ CATALOG_OBJECTS
-  pub fga : length kept.fga + more ≤ CATALOG_OBJECTS
-  pub grants : grant_count kept.grants + more ≤ GRANTS
+-- the change puts an entry into the list of this kind
+abbrev pub puts : Kind → Change → Bool
+puts kind.User (User name verifier) = true
+puts kind.Role (Role name) = true
+puts kind.Table (Table name columns key) = true
+puts kind.Policy (Policy name privileges actions roles when) = true
+puts kind.FineGrained (Fga table policy condition columns all types enabled) = true
+puts kind.Grant (SysGrant grantee privilege admin) = true
+puts kind.Grant (RoleGrant grantee role admin) = true
+puts kind.Grant (ObjGrant grantee table action) = true
+puts _ _ = false
 
--- Each change goes on behind the others where it goes on by itself: there is one, or all are grants that don't depend on each
--- other.
+-- how many of the changes do so
+abbrev pub put_count : Kind → List Change → ℕ
+put_count listed changes = length (filter (puts listed) changes)
+
+-- each list has room for the entries that the changes put into it
+pub record IsRoomy (kept : Kept) (changes : List Change) : Type 0 where
+  pub users : length kept.users + put_count kind.User changes ≤ CATALOG_OBJECTS
+  pub roles : length kept.roles + put_count kind.Role changes ≤ CATALOG_OBJECTS
+  pub tables : length kept.tables + put_count kind.Table changes ≤ CATALOG_OBJECTS
+  pub policies : length kept.policies + put_count kind.Policy changes ≤ CATALOG_OBJECTS
+  pub fga : length kept.fga + put_count kind.FineGrained changes ≤ CATALOG_OBJECTS
+  pub grants : grant_count kept.grants + put_count kind.Grant changes ≤ GRANTS
+
+-- Each change goes on behind the others where it goes on by itself: there is one, or all are grants, and those of roles to
+-- roles have one grantee or are of one role.
 abbrev pub AreApart : Kept → List Change → Type 0
-AreApart kept changes = IsLone changes ⊎ AllByRecursion (IsGrantApart kept) changes
+AreApart kept changes = IsLone changes ⊎ (AllByRecursion IsGrant changes × ShareName kept changes)
 
 -- the changes can be tested before they are made, and there is room for them
 abbrev pub AreInPlace : Kept → List Change → Type 0
-AreInPlace kept changes = (IsNewRole kept changes ⊎ AreApart kept changes) × IsRoomy kept (length changes)
+AreInPlace kept changes = (IsNewRole kept changes ⊎ AreApart kept changes) × IsRoomy kept changes
 
 -- the frame is no image, and its changes are such
 abbrev pub IsInPlace : Kept → Frame → Type 0

@@ -28,7 +28,7 @@ impl Keeping {
     /// anew, change by change, with the frame's changes behind, and comes in the place of the old
     /// only at the end. An image goes on a blank keeping. Where the frame doesn't go on, or there is
     /// no memory, what is kept is as it was. It takes as long as an image and the frame are long.
-    pub fn replay_anew(&mut self, alloc: Global, frame: Frame) -> Result<bool, Memory>
+    pub(crate) fn replay_anew(&mut self, alloc: Global, frame: Frame) -> Result<bool, Memory>
         requires spellable { IsSpellable frame }
         requires first { IsImage frame → self.old.kept ≡ nothing }
         requires quiet { IsQuiet (desk_of self.old) }

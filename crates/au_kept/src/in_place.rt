@@ -1,13 +1,15 @@
 //! Frames of few changes of which none is of a row, replayed in place.
-ghost use Rattle.std.specs.Prelude.{◌≡◌, ◌≢◌, ◌↔◌, ◌≤◌, ◌+◌, [], IfOk, IsTrue, OnErr, false};
+ghost use Rattle.std.specs.Prelude.{◌≡◌, ◌≢◌, ◌↔◌, ◌≤◌, ◌+◌, [], Bool, IfOk, IsTrue, OnErr, false};
 ghost use Rattle.std.specs.List.{AllByRecursion};
 ghost use Rattle.au_base.specs.BuiltIn.{sys};
-ghost use Rattle.au_base.specs.Limits.{LAST_MOMENT};
+ghost use Rattle.au_base.specs.Limits.{CATALOG_OBJECTS, LAST_MOMENT};
 ghost use Rattle.au_base.specs.declared.numbers.ClientNo.{ClientNo as Client};
+ghost use Rattle.au_entries.specs.declared.change.Change.TheVariants as change;
 ghost use Rattle.au_entries.specs.Frames.{PartsGoOn, after_parts};
 ghost use Rattle.au_entries.specs.Replaying.{AllGoOn, GoesOn, has_grantee, has_role};
+ghost use Rattle.au_grants.specs.Rights.{IsHolder};
 ghost use Rattle.au_kept.specs.Frames.{IsReplayable, after_frame};
-ghost use Rattle.au_kept.specs.Quick.{AreApart, AreInPlace, HasGrantee, HasNewGrantee, IsGrantApart, IsGrantOf, IsInPlace, IsLone, IsNewRole, IsPlain, IsRoleMade, IsRoomy, changes_in};
+ghost use Rattle.au_kept.specs.Quick.{AreApart, AreInPlace, HasGrantee, HasNewGrantee, IsGrantOf, IsInPlace, IsLone, IsNewRole, IsPlain, IsRoleMade, IsRoomy, changes_in, put_count};
 ghost use Rattle.au_replay.specs.Reading.{HasShortText, conditions};
 ghost use Rattle.au_txn.specs.Logs.{changes_of};
 ghost use Rattle.rec_codec.specs.Changes.{IsChangeSpellable};
@@ -15,6 +17,8 @@ ghost use Rattle.rec_codec.specs.Frames.{IsSpellable};
 ghost use Rattle.rec_codec.specs.Records.{trail_record};
 
 use crate::Keeping;
+use crate::grants_apart::are_grants;
+use crate::kind::{Kind, put_count};
 use crate::laying_rows::sight_of;
 use au_base::built_in::SYS;
 use au_base::limits::{CATALOG_OBJECTS, GRANTS, TABLE_COLUMNS};
@@ -70,12 +74,19 @@ fn has_room(count: usize, more: usize, limit: usize) -> bool
     count <= limit && more <= limit - count
 }
 
+// Whether a list of the catalogue with so many entries has room for those that the changes put into it.
+fn can_grow(count: usize, kind: Kind, changes: &[Change]) -> bool
+    ensures { IsTrue result ↔ (count + put_count kind changes.now ≤ CATALOG_OBJECTS) }
+{
+    has_room(count, put_count(kind, changes), CATALOG_OBJECTS)
+}
+
 impl Keeping {
     /// Whether the frame is no image, and its changes, of which none is of a row, can be tested before
     /// they are made, and have room within the limits: then it is replayed in place. They are one
-    /// change that isn't of SYS, a new role with its grant, or grants of privileges, and of roles to
-    /// users.
-    pub fn is_in_place(&self, frame: &Frame) -> bool
+    /// change that isn't of SYS, a new role with its grant, or grants, of which those of roles to roles
+    /// have one grantee or are of one role.
+    pub(crate) fn is_in_place(&self, frame: &Frame) -> bool
         ensures { IsTrue result ↔ IsInPlace self.now.kept frame.now }
     {
         match frame {
@@ -88,37 +99,14 @@ impl Keeping {
     fn are_in_place(&self, changes: &[Change]) -> bool
         ensures { IsTrue result ↔ AreInPlace self.now.kept changes.now }
     {
-        (self.is_new_role(changes) || self.are_apart(changes)) && self.is_roomy(changes.len())
+        (self.is_new_role(changes) || self.are_apart(changes)) && self.is_roomy(changes)
     }
 
     // Whether each change goes on behind the others where it does by itself.
     fn are_apart(&self, changes: &[Change]) -> bool
         ensures { IsTrue result ↔ AreApart self.now.kept changes.now }
     {
-        is_lone(changes) || self.are_grants_apart(changes)
-    }
-
-    // Whether all are grants of privileges, or of roles to somebody who is no role.
-    fn are_grants_apart(&self, changes: &[Change]) -> bool
-        ensures { IsTrue result ↔ AllByRecursion (IsGrantApart self.now.kept) changes.now }
-    {
-        for change in changes {
-            if !self.is_grant_apart(change) {
-                return false;
-            }
-        }
-        true
-    }
-
-    fn is_grant_apart(&self, change: &Change) -> bool
-        ensures { IsTrue result ↔ IsGrantApart self.now.kept change.now }
-    {
-        match change {
-            Change::SysGrant(..) => true,
-            Change::ObjGrant(..) => true,
-            Change::RoleGrant(grantee, _, _) => !self.has_role(grantee),
-            _ => false,
-        }
+        is_lone(changes) || (are_grants(changes) && self.share_name(changes))
     }
 
     // Whether there are two changes, a role that is made and a grant of it.
@@ -140,16 +128,16 @@ impl Keeping {
         }
     }
 
-    // Whether there is room for so many more entries of each kind.
-    fn is_roomy(&self, more: usize) -> bool
-        ensures { IsTrue result ↔ IsRoomy self.now.kept more }
+    // Whether each list has room for the entries that the changes put into it.
+    fn is_roomy(&self, changes: &[Change]) -> bool
+        ensures { IsTrue result ↔ IsRoomy self.now.kept changes.now }
     {
-        has_room(self.catalog.users.len(), more, CATALOG_OBJECTS)
-            && has_room(self.catalog.roles.len(), more, CATALOG_OBJECTS)
-            && has_room(self.catalog.tables.len(), more, CATALOG_OBJECTS)
-            && has_room(self.catalog.policies.len(), more, CATALOG_OBJECTS)
-            && has_room(self.catalog.fga.len(), more, CATALOG_OBJECTS)
-            && has_room(self.grants.count(), more, GRANTS)
+        can_grow(self.catalog.users.len(), Kind::User, changes)
+            && can_grow(self.catalog.roles.len(), Kind::Role, changes)
+            && can_grow(self.catalog.tables.len(), Kind::Table, changes)
+            && can_grow(self.catalog.policies.len(), Kind::Policy, changes)
+            && can_grow(self.catalog.fga.len(), Kind::FineGrained, changes)
+            && has_room(self.grants.count(), put_count(Kind::Grant, changes), GRANTS)
     }
 
     // Whether the name is that of a user or a role.
@@ -161,7 +149,8 @@ impl Keeping {
         sys_grant_goes_on(&sight, name)
     }
 
-    fn has_role(&self, name: &Name) -> bool
+    /// Whether the name is that of a role.
+    pub(crate) fn has_role(&self, name: &Name) -> bool
         ensures { result ≡ has_role self.now.kept name.now }
     {
         au_replay::sights_suffice();
@@ -172,7 +161,7 @@ impl Keeping {
     /// Replays the frame, whose changes can be tested before they are made, where it goes on from what
     /// is kept. Nothing is changed where it doesn't, or where there is no memory. No client has
     /// changes.
-    pub fn replay_in_place(&mut self, alloc: Global, frame: Frame) -> Result<bool, Memory>
+    pub(crate) fn replay_in_place(&mut self, alloc: Global, frame: Frame) -> Result<bool, Memory>
         requires few { IsInPlace self.old.kept frame }
         requires spelled { IsSpellable frame }
         requires short { AllByRecursion HasShortText (changes_in frame) }
@@ -286,6 +275,33 @@ impl Keeping {
     }
 
     fn takes_one(&self, alloc: Global, change: &Change) -> Result<bool, Memory>
+        requires short { HasShortText change.now }
+        ensures { IfOk result (λ goes. IsTrue goes ↔ GoesOn conditions false self.now.kept change.now) }
+    {
+        match change {
+            Change::RoleGrant(grantee, role, _) => Ok(self.takes_role_grant(grantee, role)),
+            _ => self.goes_on(alloc, change),
+        }
+    }
+
+    // Whether the grant of the role goes on.
+    fn takes_role_grant(&self, grantee: &Name, role: &Name) -> bool
+        ensures { (admin : Bool) → IsTrue result ↔ GoesOn conditions false self.now.kept (change.RoleGrant grantee.now role.now admin) }
+    {
+        self.has_grantee(grantee) && self.has_role(role) && !self.closes_circle(grantee, role)
+    }
+
+    // Whether a grant of the role would close a circle. None is looked for where the grantee is no role:
+    // then no role holds it.
+    fn closes_circle(&self, grantee: &Name, role: &Name) -> bool
+        requires { IsTrue (has_role self.now.kept role.now) }
+        ensures { IsTrue result ↔ IsHolder self.now.kept.grants.role role.now grantee.now }
+    {
+        self.holds_together();
+        self.has_role(grantee) && self.grants.closes_circle(grantee, role)
+    }
+
+    fn goes_on(&self, alloc: Global, change: &Change) -> Result<bool, Memory>
         requires short { HasShortText change.now }
         ensures { IfOk result (λ goes. IsTrue goes ↔ GoesOn conditions false self.now.kept change.now) }
     {

@@ -5,8 +5,10 @@
 mod anew;
 mod building;
 mod commits;
+mod grants_apart;
 mod in_place;
 mod keeping;
+mod kind;
 mod laws;
 mod laying;
 mod laying_rows;
@@ -27,7 +29,6 @@ mod transactions;
 pub use commits::{commits_can_settle, numbers_stay_few, worlds_are_sound};
 pub use keeping::Keeping;
 pub use laws::{frames_hold, images_lead_back, spellings_are_short};
-pub use quick::is_of_rows;
 pub use reading::trees_of;
 pub use staged::{Staged, TableEdit};
 pub use transactions::transactions_hold;

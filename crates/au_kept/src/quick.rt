@@ -27,7 +27,7 @@ use rec_codec::Frame;
 use std::alloc::Global;
 
 /// Whether the frame is no image, and each of its changes is of a row: then it is replayed in place.
-pub fn is_of_rows(frame: &Frame) -> bool
+pub(crate) fn is_of_rows(frame: &Frame) -> bool
     ensures { IsTrue result ↔ IsOfRows frame.now }
 {
     match frame {
@@ -62,7 +62,7 @@ impl Keeping {
     /// Replays the frame, whose changes are all of rows, where it goes on from what is kept. Nothing is
     /// changed where it doesn't, or where there is no memory. Rows are laid in place: what that takes
     /// goes with the frame, and not with what is kept. No client has changes.
-    pub fn replay_rows(&mut self, alloc: Global, frame: Frame) -> Result<bool, Memory>
+    pub(crate) fn replay_rows(&mut self, alloc: Global, frame: Frame) -> Result<bool, Memory>
         requires rows { IsOfRows frame }
         requires spelled { IsSpellable frame }
         requires alone { (client : Client) → changes_of client self.old.logs ≡ [] }

@@ -17,8 +17,8 @@ impl Keeping {
     /// Replays the frame where it goes on from what is kept: true exactly there, and then what is
     /// kept is what the frame makes of it. Else, or where there is no memory, it is as it was. An
     /// image goes on a blank keeping, and no client has changes. A frame whose changes are all of
-    /// rows, or can be tested before they are made (`is_in_place`), takes as long as it is long;
-    /// another one as long as the image of what is kept.
+    /// rows, or can be tested before they are made (`is_in_place`), is replayed in place; for another
+    /// one what is kept is built anew.
     pub fn replay(&mut self, alloc: Global, frame: Frame) -> Result<bool, Memory>
         requires spelled { IsSpellable frame }
         requires first { IsImage frame → self.old.kept ≡ nothing }

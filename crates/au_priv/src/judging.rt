@@ -10,7 +10,7 @@ use au_base::{Code, List, Memory, Name, ObjectRight, Right, TableName};
 use au_grants::{GrantChange, Grants};
 use std::alloc::Global;
 
-/// Judges the pairs of rights and grantees, on the grants as they are lent.
+/// Judges the pairs of rights and grantees in their order, beginning with the grants that are lent.
 pub fn judge_rights(
     alloc: Global,
     grants: &Grants,
@@ -25,7 +25,8 @@ pub fn judge_rights(
     Ok(changes_in(walked))
 }
 
-/// Judges the pairs of rights on a table and grantees, on the grants as they are lent.
+/// Judges the pairs of rights on a table and grantees in their order, beginning with the grants that
+/// are lent.
 pub fn judge_object_rights(
     alloc: Global,
     grants: &Grants,

@@ -14,17 +14,19 @@ use au_grants::{Course, GrantChange, Grants, changes_add_one_grant_at_most};
 use std::alloc::Global;
 use std::marker::Model;
 
-// So many changes are few: each question about the grants after them goes over all of them. Where
-// there are more, the grants are copied once and the changes made on the copy.
-const FEW_CHANGES: usize = 64;
+// So many pairs are few: each question about the grants after them goes over all their changes.
+// Behind more, the grants are copied once and the changes made on the copy.
+const FEW_PAIRS: usize = 64;
 
 /// How far the pairs of a statement are done: the changes so far, on the grants that were there
-/// before it. These are lent, and copied only where there are more than a few changes, where a
-/// grant could close a circle by another grant of the statement, or where the limit is near.
+/// before it. These are lent, and copied only behind more than a few pairs, where an earlier grant of
+/// a role isn't found to be aside of the one that is asked, or where the limit is near.
 #[derive(Drop)]
 pub struct Progress<'a> {
     before: &'a Grants,
     changes: List<GrantChange>,
+    // How many pairs are done.
+    pairs: usize,
     // The grants after the changes, where they were copied.
     copy: Option<Course>,
 }
@@ -50,6 +52,7 @@ impl<'a> Progress<'a> {
         Progress {
             before: grants,
             changes: List::new(alloc),
+            pairs: 0,
             copy: None,
         }
     }
@@ -62,7 +65,7 @@ impl<'a> Progress<'a> {
         changes
     }
 
-    /// What is done once these changes are made too.
+    /// What is done once a pair has made these changes too.
     #[tactic(auto, using(crate::proofs::Walks::applied_joined))]
     pub fn with(self, alloc: Global, made: List<GrantChange>) -> Result<Progress<'a>, Memory>
         ensures changes { IfOk result (λ end. end.changes ≡ self.entry.changes ++ made) }
@@ -71,6 +74,7 @@ impl<'a> Progress<'a> {
         let Progress {
             before,
             changes,
+            pairs,
             copy,
         } = self;
         let copy = made_on(copy, before, changes.as_slice(), made.as_slice())?;
@@ -78,9 +82,10 @@ impl<'a> Progress<'a> {
         let mut progress = Progress {
             before,
             changes,
+            pairs: pairs.saturating_add(1),
             copy,
         };
-        if progress.changes.len() > FEW_CHANGES {
+        if progress.pairs > FEW_PAIRS {
             let course = progress.take_copy(alloc)?;
             progress.copy = Some(course);
         }

@@ -20,7 +20,7 @@ use au_base::{Code, Memory};
 use sql_ast::Statement;
 use sql_lex::{Token, one_way, tokens};
 use sql_parse::cursor::{behind, sees_word};
-use sql_parse::{one_row_statement, opens_few, row_statement};
+use sql_parse::{one_row_statement, opens_few, shallow_row_statement};
 use sql_parse_calls::{call_statement, one_call_statement};
 use std::alloc::Global;
 
@@ -106,7 +106,7 @@ fn statement_of(
     ensures { opens_few 0 (kinds tokens.now) ≡ true → Finds (IsOf family text.now tokens.now) result }
 {
     match family {
-        Family::Rows => row_statement(alloc, tokens),
+        Family::Rows => shallow_row_statement(alloc, tokens),
         Family::Table => table_statement(alloc, tokens),
         Family::User => user_statement(alloc, text, tokens),
         Family::Rights => rights_statement(alloc, tokens),

@@ -14,7 +14,7 @@
 //! - `row|KIND|SESSION|ENTRY|STATEMENT|MOMENT|USER|ACTION|SCHEMA|OBJECT|TEXT|USED|POLICIES|FGA|CODE`:
 //!   such a record as a row, the cells in brackets; an empty field is one that the record hasn't
 //! - `numbers|ENTRY|POLICIES|FINE-GRAINED`: the numbers of the records that these policies demand of a
-//!   statement, each in brackets, the first of them at this place
+//!   statement, each in brackets, the first of them ENTRY
 //!
 //! Lists have commas between their parts.
 #![tactic(auto)]

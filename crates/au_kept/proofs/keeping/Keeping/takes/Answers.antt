@@ -1,7 +1,8 @@
 use Rattle.au_entries.specs.Replaying.{AllGoOn, GoesOn}
 use Rattle.std.specs.List.{AllByRecursion}
 use Rattle.std.proofs.Common.{false}
-use Rattle.au_kept.proofs.InPlace.{apart_goes, told_by}
+use Rattle.au_kept.proofs.Apart.{apart_goes}
+use Rattle.au_kept.proofs.InPlace.{told_by}
 use Rattle.au_replay.specs.Reading.{conditions}
 use Rattle.au_kept.proofs.keeping.Keeping.takes.Goals as goal
 
