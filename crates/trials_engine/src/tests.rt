@@ -1,7 +1,7 @@
 //! What a new store keeps.
 
-use au_base::Memory;
 use au_base::built_in::SYS;
+use au_base::{ClientNo, Memory, Stamp};
 use au_engine::Engine;
 use std::test::Fail;
 
@@ -19,5 +19,14 @@ fn the_verifier_is_the_digest_of_name_and_password(rt: HostRuntime) -> Result<()
     assert_eq!(rt; user.0.as_str(), SYS);
     assert_eq!(rt; user.1, VERIFIER);
     assert_eq!(rt; kept.grants.system.len(), 18);
+    Ok(())
+}
+
+#[test]
+fn nobody_has_a_session_of_a_new_store(rt: HostRuntime) -> Result<(), Fail> {
+    let alloc = rt.alloc();
+    let engine = Engine::of_new_store(alloc, b"p".as_slice())?;
+    let session = engine.session(alloc, ClientNo(1), Stamp(1))?;
+    assert!(rt; session.is_none());
     Ok(())
 }
