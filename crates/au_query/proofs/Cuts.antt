@@ -3,6 +3,7 @@ use Rattle.std.proofs.Common.{◌≡◌, ◌≢◌, ◌∙◌, refl, sym, ap, eq
 use Rattle.std.specs.Prelude.{filter, IfSome, IsTrue, if◌then◌else◌}
 use Rattle.std.specs.List.{AllByRecursion, flat_map, list_all, list_any, slice_get}
 use Rattle.std.proofs.lemmas.List.{length_push, map-append}
+use Rattle.std.proofs.lemmas.List.Folds.{list_all-append}
 use Rattle.au_base.specs.Limits.{FROM_TABLES}
 use Rattle.au_base.specs.declared.cell.Cell.{Cell}
 use Rattle.sql_ast.specs.declared.expression.Expr.{Expr}
@@ -20,7 +21,7 @@ use Rattle.au_expr.specs.Values.{is_met}
 use Rattle.au_query.specs.Combos.{Line, cells_of, combos, passes, product, views}
 use Rattle.au_query.specs.declared.cutting.Test.{Test}
 use Rattle.au_query.specs.declared.source.Source.{Source}
-use Rattle.au_query.specs.descent.Inside.{AreMetTogether, ArePartsOf, IsReach, gathered, refuses, trees_in_tests}
+use Rattle.au_query.specs.descent.Inside.{AreMetTogether, IsReach, gathered, refuses, trees_in_tests}
 
 differs : true ≡ false → ⊥
 differs e = cc
@@ -128,20 +129,26 @@ and_itself false = refl
 pub placed_and : (ranges : List Range) (parts : List Expr) → placed ranges (expr.And parts) ≡ tree.And (map (placed ranges) parts)
 placed_and ranges parts = ap (placed ranges) (sym (expr.rolls-And parts)) ∙ fold-roll-Expr Placed (step ranges) (expr_part.And parts)
 
--- the parts of an AND are those of the one condition
-pub parts_of : ((parts : List Placed) (session : Session) (rows : List (List Cell))
+-- the parts of an AND are Yes together exactly where it is
+pub parts_together : ((parts : List Placed) (session : Session) (rows : List (List Cell))
     → is_met (value_at rows session (tree.And parts)) ≡ list_all (λ (part : Placed). is_met (value_at rows session part)) parts)
-    → (ranges : List Range) (parts : List Expr) (condition : Expr) (found : List Placed) → condition ≡ expr.And parts → found ≡ map (placed ranges) parts
-    → ArePartsOf (placed ranges condition ∷ []) found
-parts_of met ranges parts condition found is those = (
-  placed ranges condition,
-  refl,
-  λ session rows.
-      ap (list_all (λ (tree : Placed). is_met (value_at rows session tree))) those
-      ∙ sym (met (map (placed ranges) parts) session rows)
-      ∙ ap (λ z. is_met (value_at rows session z)) (sym (placed_and ranges parts) ∙ ap (placed ranges) (sym is))
-      ∙ sym (and_itself (is_met (value_at rows session (placed ranges condition)))),
-)
+    → (ranges : List Range) (parts : List Expr) (condition : Expr) → condition ≡ expr.And parts
+    → AreMetTogether (map (placed ranges) parts) (placed ranges condition ∷ [])
+parts_together met ranges parts condition is session rows =
+    sym (met (map (placed ranges) parts) session rows)
+    ∙ ap (λ z. is_met (value_at rows session z)) (sym (placed_and ranges parts) ∙ ap (placed ranges) (sym is))
+    ∙ sym (and_itself (is_met (value_at rows session (placed ranges condition))))
+
+-- behind others that are Yes together, or before them
+pub behind_others : (before some others : List Placed) → AreMetTogether some others → AreMetTogether (before ++ some) (before ++ others)
+behind_others before some others together session rows =
+    let met = λ (tree : Placed). is_met (value_at rows session tree) in
+    list_all-append met before some ∙ ap (λ b. list_all met before && b) (together session rows) ∙ sym (list_all-append met before others)
+
+pub before_others : (some others behind : List Placed) → AreMetTogether some others → AreMetTogether (some ++ behind) (others ++ behind)
+before_others some others behind together session rows =
+    let met = λ (tree : Placed). is_met (value_at rows session tree) in
+    list_all-append met some behind ∙ ap (λ b. b && list_all met behind) (together session rows) ∙ sym (list_all-append met others behind)
 
 pub some_other : {X : Type 0} (P Q : X → Type 0) → ((x : X) → P x → Q x) → (found : Option X) → IfSome found P → IfSome found Q
 some_other P Q f None e = e

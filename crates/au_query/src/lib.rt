@@ -9,6 +9,7 @@ mod laws;
 mod naming;
 mod output;
 mod overflow;
+mod parting;
 mod planning;
 mod query;
 mod ranking;

@@ -9,10 +9,11 @@ ghost use Rattle.au_query.specs.descent.Plans.{IsPlanOf, run_refusal};
 ghost use Rattle.au_query.specs.Queries.{query_of};
 
 use crate::combo::Combo;
-use crate::cutting::{tests, where_parts};
+use crate::cutting::tests;
 use crate::naming::named;
 use crate::output::Output;
 use crate::overflow::overflows_somewhere;
+use crate::parting::{parted, parts_or};
 use crate::planning::{Plan, planned};
 use crate::ranking::put_in_order;
 use crate::reply::{column_names, rows};
@@ -99,8 +100,9 @@ fn passing<'a>(
         (limits.REPLY_ROWS < length (combos_of session.now plan.now.conditions.items (views sources.now)))
         (λ kept. (kept.items ≡ combos_of session.now plan.now.conditions.items (views sources.now)) × (length (combos_of session.now plan.now.conditions.items (views sources.now)) ≤ limits.REPLY_ROWS))) }
 {
-    let parts = where_parts(alloc, &select.condition, ranges)?;
-    let tests = tests(alloc, plan.conditions.as_slice(), &parts)?;
+    let parts = parted(alloc, select, ranges)?;
+    let conditions = parts_or(&parts, plan.conditions.as_slice());
+    let tests = tests(alloc, conditions)?;
     let found = combos(alloc, tests.as_slice(), session, sources)?;
     Ok(found)
 }

@@ -70,14 +70,6 @@ abbrev pub AreMetTogether : List Placed → List Placed → Type 0
 AreMetTogether some others = (session : Session) (rows : List (List Cell))
     → list_all (λ (tree : Placed). is_met (value_at rows session tree)) some ≡ list_all (λ (tree : Placed). is_met (value_at rows session tree)) others
 
--- these are the parts of the one condition
-abbrev pub ArePartsOf : List Placed → List Placed → Type 0
-ArePartsOf conditions parts = (tree : Placed) × (conditions ≡ tree ∷ []) × AreMetTogether parts (tree ∷ [])
-
--- these are the parts of the last of the conditions
-abbrev pub ArePartsOfLast : List Placed → List Placed → Type 0
-ArePartsOfLast conditions parts = (others : List Placed) × (tree : Placed) × (conditions ≡ others ++ tree ∷ []) × AreMetTogether parts (tree ∷ [])
-
 -- ---- columns that conditions fix
 
 -- the tree is the column of this number of the range

@@ -1,17 +1,18 @@
 use Rattle.std.proofs.Common.{◌≡◌, ◌∙◌, ◌≤◌, ◌<◌, ap, length, subst}
 use Rattle.std.specs.Prelude.{MatchOption}
-use Rattle.std.specs.List.{list_all}
-use Rattle.au_expr.specs.declared.placed.Placed.{Placed}
-use Rattle.au_expr.specs.Placing.{value_at}
-use Rattle.au_expr.specs.Values.{is_met}
 use Rattle.au_base.specs.Limits.{REPLY_ROWS}
 use Rattle.au_query.specs.Combos.{combos, views}
 use Rattle.au_query.specs.descent.Inside.{trees_in_tests}
 use Rattle.au_query.proofs.Cuts.{same_combos}
+use Rattle.au_query.proofs.Partings.{same_together}
 use Rattle.au_query.proofs.query.passing.Goals as goal
 
 pub returns : goal.returns
 returns c =
     let same = ap (λ tests. combos c.args.session.now (trees_in_tests tests) (views c.args.sources.now)) c.as_slice-2.ensures.value
-    ∙ same_combos c.args.session.now (trees_in_tests c.in_ok-tests.tests.items) c.args.plan.now.conditions.items (λ session rows. c.in_ok-tests.ensures.together session rows ∙ ap (λ z. list_all (λ (tree : Placed). is_met (value_at rows session tree)) z) c.as_slice.ensures.value) (views c.args.sources.now) in
+    ∙ same_combos c.args.session.now (trees_in_tests c.in_ok-tests.tests.items) c.args.plan.now.conditions.items
+    (λ session rows.
+    same_together (trees_in_tests c.in_ok-tests.tests.items) c.parts_or-conditions.result.now c.in_ok-tests.ensures.trees session rows
+    ∙ c.parts_or-conditions.ensures session rows ∙ same_together c.as_slice.result.now c.args.plan.now.conditions.items c.as_slice.ensures.value session rows)
+    (views c.args.sources.now) in
     subst (λ combinations. MatchOption c.in_ok-found.found (REPLY_ROWS < length combinations) (λ kept. (kept.items ≡ combinations) × (length combinations ≤ REPLY_ROWS))) same c.in_ok-found.ensures

@@ -1,7 +1,0 @@
-use Rattle.std.proofs.Common.{◌≡◌, ◌++◌, take}
-use Rattle.std.specs.List.{AllByRecursion}
-use Rattle.au_query.specs.descent.Inside.{IsReach, trees_in_tests}
-use Rattle.au_query.proofs.cutting.push_tests.Given as goal
-
-abbrev pub invariant-loop-condition : goal.invariant-loop-condition
-invariant-loop-condition l = (trees_in_tests l.tests.items ≡ trees_in_tests l.initial.tests.items ++ take l.condition-index l.conditions) × AllByRecursion IsReach l.tests.items
