@@ -10,6 +10,7 @@ ghost use Rattle.au_grants.specs.Holding.{grants_privilege_as, grants_role_as};
 use crate::grants::Grants;
 use crate::places::{first_object_place, first_role_place, object_place, role_place, system_place};
 use crate::right::Sought;
+use crate::role_grant::RoleGrant;
 use au_base::{
     Action, Name, Privilege, TableName, is_same_action, is_same_privilege, is_same_table,
 };
@@ -36,17 +37,17 @@ pub fn is_granted(grants: &Grants, holder: &Name, right: Sought<'_>) -> bool
 
 /// Whether some role is granted to the grantee directly.
 #[tactic(auto, using(crate::proofs::AtPlaces::grantee_at, crate::proofs::AtPlaces::no_grantee))]
-pub fn is_grantee(roles: &[(Name, Name, bool)], grantee: &Name) -> bool
+pub fn is_grantee(roles: &[RoleGrant], grantee: &Name) -> bool
     requires order { IsTrue (is_in_order role_before roles.now) }
     ensures { result ≡ list_any (role_to grantee.now) roles.now }
 {
     let place = first_role_place(roles, grantee);
-    place < roles.len() && roles[place].0 == *grantee
+    place < roles.len() && *roles[place].grantee() == *grantee
 }
 
 /// Whether the role is granted to the grantee directly.
 #[tactic(auto, using(crate::proofs::AtPlaces::role_at, crate::proofs::AtPlaces::no_role))]
-pub fn has_role(roles: &[(Name, Name, bool)], grantee: &Name, role: &str) -> bool
+pub fn has_role(roles: &[RoleGrant], grantee: &Name, role: &str) -> bool
     requires order { IsTrue (is_in_order role_before roles.now) }
     ensures { result ≡ list_any (grants_role grantee.now role.now) roles.now }
 {
@@ -56,7 +57,7 @@ pub fn has_role(roles: &[(Name, Name, bool)], grantee: &Name, role: &str) -> boo
 
 /// Whether the role is granted to the grantee directly, and with admin option where that is asked.
 #[tactic(auto, using(crate::proofs::AtPlaces::role_as_at, crate::proofs::AtPlaces::no_role_as))]
-pub fn has_role_as(roles: &[(Name, Name, bool)], grantee: &Name, role: &str, admin: bool) -> bool
+pub fn has_role_as(roles: &[RoleGrant], grantee: &Name, role: &str, admin: bool) -> bool
     requires order { IsTrue (is_in_order role_before roles.now) }
     ensures { result ≡ list_any (grants_role_as grantee.now role.now admin) roles.now }
 {
@@ -64,17 +65,17 @@ pub fn has_role_as(roles: &[(Name, Name, bool)], grantee: &Name, role: &str, adm
     place < roles.len() && is_role_grant_as(&roles[place], grantee, role, admin)
 }
 
-fn is_role_grant_as(entry: &(Name, Name, bool), grantee: &Name, role: &str, admin: bool) -> bool
+fn is_role_grant_as(entry: &RoleGrant, grantee: &Name, role: &str, admin: bool) -> bool
     ensures { result ≡ grants_role_as grantee.now role.now admin entry.now }
 {
-    is_role_grant(entry, grantee, role) && (entry.2 || !admin)
+    is_role_grant(entry, grantee, role) && (entry.has_admin() || !admin)
 }
 
 /// Whether the entry grants the role to the grantee.
-pub fn is_role_grant(entry: &(Name, Name, bool), grantee: &Name, role: &str) -> bool
+pub fn is_role_grant(entry: &RoleGrant, grantee: &Name, role: &str) -> bool
     ensures { result ≡ grants_role grantee.now role.now entry.now }
 {
-    entry.0 == *grantee && entry.1.as_str() == role
+    *entry.grantee() == *grantee && entry.role().as_str() == role
 }
 
 /// Whether the system privilege is granted to the grantee directly.

@@ -10,6 +10,7 @@ use crate::change::GrantChange;
 use crate::circle::is_circle;
 use crate::grants::Grants;
 use crate::lists::GrantLists;
+use crate::role_grant::RoleGrant;
 use au_base::limits::GRANTS;
 use au_base::{Action, List, Memory, Name, Privilege, TableName};
 use std::alloc::Global;
@@ -111,7 +112,7 @@ impl GrantDraft {
     }
 
     /// The grants of roles, in order.
-    pub fn role_grants(&self) -> &[(Name, Name, bool)]
+    pub fn role_grants(&self) -> &[RoleGrant]
         ensures value { result.now ≡ self.now.role }
         ensures order { IsTrue (is_in_order role_before result.now) }
     {

@@ -12,6 +12,7 @@ use crate::change::GrantChange;
 use crate::direct::is_granted;
 use crate::holding::first_held;
 use crate::right::Sought;
+use crate::role_grant::RoleGrant;
 use crate::staged::StagedGrants;
 use au_base::{Action, List, Memory, Name, Privilege, TableName};
 use std::alloc::{AllocError, Global};
@@ -26,7 +27,7 @@ pub struct Grants {
     /// Grants of system privileges. The truth value is the admin option.
     pub system: List<(Name, Privilege, bool)>,
     /// Grants of roles to users and roles. The truth value is the admin option.
-    pub role: List<(Name, Name, bool)>,
+    pub role: List<RoleGrant>,
     /// Grants of object privileges. The action is SELECT, INSERT, UPDATE or DELETE.
     pub object: List<(Name, TableName, Action)>,
 }
@@ -85,7 +86,7 @@ impl Grants {
     }
 
     /// The grants of roles, in order, 100,000 at most.
-    pub fn role_grants(&self) -> &[(Name, Name, bool)]
+    pub fn role_grants(&self) -> &[RoleGrant]
         ensures value { result.now ≡ self.now.role }
         ensures order { IsTrue (is_in_order role_before result.now) }
         ensures few { length result.now ≤ GRANTS }

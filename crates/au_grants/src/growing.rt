@@ -7,6 +7,7 @@ ghost use Rattle.au_grants.specs.descent.Growing.{AreReady, before_by, merged};
 use crate::applying::insert_at;
 use crate::lists::GrantLists;
 use crate::places::{object_place, role_place, system_place};
+use crate::role_grant::RoleGrant;
 use au_base::{Action, Name, Privilege, TableName};
 
 /// Grants of each kind, new ones that stand apart from them, and room to move them in.
@@ -43,11 +44,11 @@ impl Entry for (Name, Privilege, bool) {
     }
 }
 
-impl Entry for (Name, Name, bool) {
+impl Entry for RoleGrant {
     ghost fields = { Rattle.au_grants.specs.Order.role_fields };
 
     fn place_among(&self, entries: &[Self]) -> usize {
-        role_place(entries, &self.0, self.1.as_str())
+        role_place(entries, self.grantee(), self.role().as_str())
     }
 }
 

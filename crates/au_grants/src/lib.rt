@@ -7,6 +7,7 @@ mod circle;
 mod course;
 mod direct;
 mod draft;
+mod edit;
 mod edits;
 mod granting;
 mod grants;
@@ -18,6 +19,7 @@ mod lists;
 mod lone;
 mod places;
 mod right;
+mod role_grant;
 mod room;
 mod searching;
 mod staged;
@@ -32,4 +34,5 @@ pub use laws::{
     drops_close_no_circle, grants_in_order_come_back,
 };
 pub use right::Sought;
+pub use role_grant::RoleGrant;
 pub use staged::StagedGrants;

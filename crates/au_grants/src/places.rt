@@ -5,6 +5,7 @@ ghost use Rattle.au_base.specs.Privileges as privileges;
 ghost use Rattle.au_grants.specs.descent.Halving.{IsPlaceOf};
 ghost use Rattle.au_grants.specs.Order.{fields_before, is_in_order, object_before, object_fields, role_before, role_fields, system_before, system_fields};
 
+use crate::role_grant::RoleGrant;
 use au_base::{Action, Name, Privilege, TableName};
 
 /// Where the grant of the system privilege stands or has to stand.
@@ -30,35 +31,35 @@ fn is_system_before(entry: &(Name, Privilege, bool), grantee: &Name, privilege: 
 }
 
 /// Where the grant of the role stands or has to stand.
-pub fn role_place(roles: &[(Name, Name, bool)], grantee: &Name, role: &str) -> usize
+pub fn role_place(roles: &[RoleGrant], grantee: &Name, role: &str) -> usize
     requires order { IsTrue (is_in_order role_before roles.now) }
     ensures { IsPlaceOf role_fields (grantee.now ∷ role.now ∷ []) roles.now result }
 {
     roles.partition_point(|entry| is_role_before(entry, grantee, role))
 }
 
-fn is_role_before(entry: &(Name, Name, bool), grantee: &Name, role: &str) -> bool
+fn is_role_before(entry: &RoleGrant, grantee: &Name, role: &str) -> bool
     ensures { result ≡ fields_before (role_fields entry.now) (grantee.now ∷ role.now ∷ []) }
 {
     entry
-        .0
+        .grantee()
         .cmp(grantee)
-        .then(entry.1.as_str().cmp(role))
+        .then(entry.role().as_str().cmp(role))
         .is_lt()
 }
 
 /// Where the first grant of a role to the grantee stands, where there is one.
-pub fn first_role_place(roles: &[(Name, Name, bool)], grantee: &Name) -> usize
+pub fn first_role_place(roles: &[RoleGrant], grantee: &Name) -> usize
     requires order { IsTrue (is_in_order role_before roles.now) }
     ensures { IsPlaceOf role_fields (grantee.now ∷ []) roles.now result }
 {
     roles.partition_point(|entry| is_grantee_before(entry, grantee))
 }
 
-fn is_grantee_before(entry: &(Name, Name, bool), grantee: &Name) -> bool
+fn is_grantee_before(entry: &RoleGrant, grantee: &Name) -> bool
     ensures { result ≡ fields_before (role_fields entry.now) (grantee.now ∷ []) }
 {
-    entry.0 < *grantee
+    *entry.grantee() < *grantee
 }
 
 /// Where the grant of the object privilege stands or has to stand.
