@@ -27,12 +27,7 @@ pub fn is_circle(
     Ok(is_held(alloc, roles, role, grantee)?)
 }
 
-fn is_held(
-    alloc: Global,
-    roles: &[RoleGrant],
-    user: &Name,
-    role: &Name,
-) -> Result<bool, Memory>
+fn is_held(alloc: Global, roles: &[RoleGrant], user: &Name, role: &Name) -> Result<bool, Memory>
     requires order { IsTrue (is_in_order role_before roles.now) }
     ensures { IfOk result (λ held. IsTrue held ↔ HoldsRole roles.now user.now role.now) }
 {

@@ -192,11 +192,7 @@ fn no_lists(alloc: Global) -> GrantLists
 }
 
 // Whether some role is granted to the name directly, among the new grants or the others.
-fn is_grantee_there(
-    kept: &Vec<RoleGrant>,
-    fresh: &Vec<RoleGrant>,
-    name: &Name,
-) -> bool
+fn is_grantee_there(kept: &Vec<RoleGrant>, fresh: &Vec<RoleGrant>, name: &Name) -> bool
     requires { AreReady role_before fresh.now.items kept.now.items }
     ensures { result ≡ list_any (role_to name.now) (merged role_before fresh.now.items kept.now.items) }
 {

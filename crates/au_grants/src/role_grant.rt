@@ -25,12 +25,7 @@ impl Model for RoleGrant {
 
 impl RoleGrant {
     /// The grant. Where there is no memory, the names are dropped.
-    pub fn new(
-        alloc: Global,
-        grantee: Name,
-        role: Name,
-        admin: bool,
-    ) -> Result<RoleGrant, Memory>
+    pub fn new(alloc: Global, grantee: Name, role: Name, admin: bool) -> Result<RoleGrant, Memory>
         ensures { IfOk result (λ made. made ≡ (grantee, role, admin)) }
     {
         Ok(RoleGrant {

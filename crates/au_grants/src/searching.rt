@@ -15,12 +15,7 @@ pub const FEW_ROLES: usize = 1_000;
 
 /// Puts into the queue the places of the first grants of roles to the user and to each role that
 /// the user holds, and gives how many there are. What the marks and the queue held is gone.
-pub fn reach(
-    roles: &[RoleGrant],
-    user: &Name,
-    marks: &mut [bool],
-    queue: &mut [usize],
-) -> usize
+pub fn reach(roles: &[RoleGrant], user: &Name, marks: &mut [bool], queue: &mut [usize]) -> usize
     requires order { IsTrue (is_in_order role_before roles.now) }
     requires marks { length marks.old ≡ length roles.now }
     requires queue { length roles.now ≤ length queue.old }
