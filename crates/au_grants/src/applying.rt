@@ -14,8 +14,10 @@ use crate::direct::{
 use crate::edit::{BoxedChange, Edit};
 use crate::growing::place;
 use crate::lists::GrantLists;
+use crate::object_grant::ObjectGrant;
 use crate::places::{object_place, role_place, system_place};
 use crate::role_grant::RoleGrant;
+use crate::system_grant::SystemGrant;
 use au_base::{Action, Memory, Name, Privilege, TableName, is_same_privilege, is_same_table};
 
 /// The grants after the changes, in their order.
@@ -92,9 +94,7 @@ pub fn make_boxed(lists: &mut GrantLists, change: BoxedChange)
         BoxedChange::UserGone(user) => drop_user(lists, &user),
         BoxedChange::RoleGone(role) => drop_role(lists, &role),
         BoxedChange::TableGone(table) => drop_on_table(&mut lists.object, &table),
-        BoxedChange::SystemGrant(grantee, privilege, admin) => {
-            grant_privilege(&mut lists.system, grantee, privilege, admin)
-        }
+        BoxedChange::SystemGrant(grant) => grant_privilege(&mut lists.system, grant),
         BoxedChange::SystemRevoke(grantee, privilege) => {
             drop_privilege(&mut lists.system, &grantee, privilege)
         }
@@ -102,9 +102,7 @@ pub fn make_boxed(lists: &mut GrantLists, change: BoxedChange)
         BoxedChange::RoleRevoke(grantee, role) => {
             drop_role_grant(&mut lists.role, &grantee, &role)
         }
-        BoxedChange::ObjectGrant(grantee, table, action) => {
-            grant_object(&mut lists.object, grantee, table, action)
-        }
+        BoxedChange::ObjectGrant(grant) => grant_object(&mut lists.object, grant),
         BoxedChange::ObjectRevoke(grantee, table, action) => {
             drop_object_grant(&mut lists.object, &grantee, &table, action)
         }
@@ -129,11 +127,11 @@ fn drop_role(lists: &mut GrantLists, role: &Name)
     drop_object_to(&mut lists.object, role);
 }
 
-fn drop_system_to(entries: &mut Vec<(Name, Privilege, bool)>, name: &Name)
+fn drop_system_to(entries: &mut Vec<SystemGrant>, name: &Name)
     ensures items { entries.new.items ≡ without (system_to name.now) entries.old.items }
     ensures capacity { vec_capacity entries.new ≡ vec_capacity entries.old }
 {
-    entries.retain(|entry| entry.0 != *name);
+    entries.retain(|entry| *entry.grantee() != *name);
 }
 
 fn drop_role_to(entries: &mut Vec<RoleGrant>, name: &Name)
@@ -143,11 +141,11 @@ fn drop_role_to(entries: &mut Vec<RoleGrant>, name: &Name)
     entries.retain(|entry| *entry.grantee() != *name);
 }
 
-fn drop_object_to(entries: &mut Vec<(Name, TableName, Action)>, name: &Name)
+fn drop_object_to(entries: &mut Vec<ObjectGrant>, name: &Name)
     ensures items { entries.new.items ≡ without (object_to name.now) entries.old.items }
     ensures capacity { vec_capacity entries.new ≡ vec_capacity entries.old }
 {
-    entries.retain(|entry| entry.0 != *name);
+    entries.retain(|entry| *entry.grantee() != *name);
 }
 
 fn drop_role_named(entries: &mut Vec<RoleGrant>, name: &Name)
@@ -157,14 +155,14 @@ fn drop_role_named(entries: &mut Vec<RoleGrant>, name: &Name)
     entries.retain(|entry| !(*entry.grantee() == *name || *entry.role() == *name));
 }
 
-fn drop_on_table(entries: &mut Vec<(Name, TableName, Action)>, table: &TableName)
+fn drop_on_table(entries: &mut Vec<ObjectGrant>, table: &TableName)
     ensures items { entries.new.items ≡ without (names_table table.now) entries.old.items }
     ensures capacity { vec_capacity entries.new ≡ vec_capacity entries.old }
 {
-    entries.retain(|entry| !is_same_table(&entry.1, table));
+    entries.retain(|entry| !is_same_table(entry.table(), table));
 }
 
-fn drop_privilege(entries: &mut Vec<(Name, Privilege, bool)>, grantee: &Name, privilege: Privilege)
+fn drop_privilege(entries: &mut Vec<SystemGrant>, grantee: &Name, privilege: Privilege)
     requires order { IsTrue (is_in_order system_before entries.old.items) }
     ensures items { entries.new.items ≡ without (grants_privilege grantee.now privilege) entries.old.items }
     ensures capacity { vec_capacity entries.new ≡ vec_capacity entries.old }
@@ -188,7 +186,7 @@ fn drop_role_grant(entries: &mut Vec<RoleGrant>, grantee: &Name, name: &Name)
 }
 
 fn drop_object_grant(
-    entries: &mut Vec<(Name, TableName, Action)>,
+    entries: &mut Vec<ObjectGrant>,
     grantee: &Name,
     table: &TableName,
     action: Action,
@@ -203,51 +201,38 @@ fn drop_object_grant(
     }
 }
 
-fn grant_privilege(
-    entries: &mut Vec<(Name, Privilege, bool)>,
-    grantee: Name,
-    privilege: Privilege,
-    admin: bool,
-)
+fn grant_privilege(entries: &mut Vec<SystemGrant>, grant: SystemGrant)
     requires order { IsTrue (is_in_order system_before entries.old.items) }
     requires room { vec_len entries.old < vec_capacity entries.old }
-    ensures items { entries.new.items ≡ with_grant system_before (grants_privilege grantee privilege) (grantee, privilege, admin) entries.old.items }
+    ensures items { entries.new.items ≡ with_grant system_before (grants_privilege grant.0 grant.1) grant entries.old.items }
     ensures capacity { vec_capacity entries.new ≡ vec_capacity entries.old }
 {
-    if has_privilege(entries.as_slice(), &grantee, privilege) {
-        set_privilege_admin(entries, &grantee, privilege, admin);
+    if has_privilege(entries.as_slice(), grant.grantee(), grant.privilege()) {
+        set_privilege_admin(entries, &grant);
     } else {
-        place(entries, (grantee, privilege, admin));
+        place(entries, grant);
     }
 }
 
-/// Gives the grant this admin option, where it is there.
-pub fn set_privilege_admin(
-    entries: &mut Vec<(Name, Privilege, bool)>,
-    grantee: &Name,
-    privilege: Privilege,
-    admin: bool,
-)
+/// Gives the grant that is there the admin option of this one.
+pub fn set_privilege_admin(entries: &mut Vec<SystemGrant>, grant: &SystemGrant)
     requires order { IsTrue (is_in_order system_before entries.old.items) }
-    ensures items { entries.new.items ≡ map (with_admin (grants_privilege grantee.now privilege) admin) entries.old.items }
+    ensures items { entries.new.items ≡ map (with_admin (grants_privilege grant.now.0 grant.now.1) grant.now.2) entries.old.items }
     ensures capacity { vec_capacity entries.new ≡ vec_capacity entries.old }
 {
-    let place = system_place(entries.as_slice(), grantee, privilege);
+    let place = system_place(entries.as_slice(), grant.grantee(), grant.privilege());
     if place < entries.len() {
-        set_admin_of_privilege(&mut entries[place], grantee, privilege, admin);
+        set_admin_of_privilege(&mut entries[place], grant);
     }
 }
 
-fn set_admin_of_privilege(
-    entry: &mut (Name, Privilege, bool),
-    grantee: &Name,
-    privilege: Privilege,
-    admin: bool,
-)
-    ensures { entry.new ≡ with_admin (grants_privilege grantee.now privilege) admin entry.old }
+fn set_admin_of_privilege(entry: &mut SystemGrant, grant: &SystemGrant)
+    ensures { entry.new ≡ with_admin (grants_privilege grant.now.0 grant.now.1) grant.now.2 entry.old }
 {
-    if entry.0 == *grantee && is_same_privilege(entry.1, privilege) {
-        entry.2 = admin;
+    if *entry.grantee() == *grant.grantee()
+        && is_same_privilege(entry.privilege(), grant.privilege())
+    {
+        entry.set_admin(grant.has_admin());
     }
 }
 
@@ -284,19 +269,14 @@ fn set_admin_of_role(entry: &mut RoleGrant, grant: &RoleGrant)
     }
 }
 
-fn grant_object(
-    entries: &mut Vec<(Name, TableName, Action)>,
-    grantee: Name,
-    table: TableName,
-    action: Action,
-)
+fn grant_object(entries: &mut Vec<ObjectGrant>, grant: ObjectGrant)
     requires order { IsTrue (is_in_order object_before entries.old.items) }
     requires room { vec_len entries.old < vec_capacity entries.old }
-    ensures items { entries.new.items ≡ with_object (grantee, table, action) entries.old.items }
+    ensures items { entries.new.items ≡ with_object grant entries.old.items }
     ensures capacity { vec_capacity entries.new ≡ vec_capacity entries.old }
 {
-    if !has_object(entries.as_slice(), &grantee, &table, action) {
-        place(entries, (grantee, table, action));
+    if !has_object(entries.as_slice(), grant.grantee(), grant.table(), grant.action()) {
+        place(entries, grant);
     }
 }
 

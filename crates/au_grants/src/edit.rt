@@ -3,7 +3,9 @@ ghost use Rattle.std.specs.Prelude.{◌≡◌, IfOk};
 ghost use Rattle.au_grants.specs.descent.Boxing.{change_of};
 
 use crate::change::GrantChange;
+use crate::object_grant::ObjectGrant;
 use crate::role_grant::RoleGrant;
+use crate::system_grant::SystemGrant;
 use au_base::{Action, Memory, Name, Privilege, TableName};
 use std::alloc::Global;
 use std::marker::Model;
@@ -28,11 +30,11 @@ impl Model for Edit {
 pub enum BoxedChange {
     UserGone(Name),
     RoleGone(Name),
-    SystemGrant(Name, Privilege, bool),
+    SystemGrant(SystemGrant),
     SystemRevoke(Name, Privilege),
     RoleGrant(RoleGrant),
     RoleRevoke(Name, Name),
-    ObjectGrant(Name, TableName, Action),
+    ObjectGrant(ObjectGrant),
     ObjectRevoke(Name, TableName, Action),
     TableGone(TableName),
 }
@@ -55,7 +57,8 @@ fn boxed(alloc: Global, change: &GrantChange) -> Result<BoxedChange, Memory>
         GrantChange::UserGone(user) => Ok(BoxedChange::UserGone(user.clone()?)),
         GrantChange::RoleGone(role) => Ok(BoxedChange::RoleGone(role.clone()?)),
         GrantChange::SystemGrant(grantee, privilege, admin) => {
-            Ok(BoxedChange::SystemGrant(grantee.clone()?, *privilege, *admin))
+            let grantee = grantee.clone()?;
+            Ok(BoxedChange::SystemGrant(SystemGrant::new(alloc, grantee, *privilege, *admin)?))
         }
         GrantChange::SystemRevoke(grantee, privilege) => {
             Ok(BoxedChange::SystemRevoke(grantee.clone()?, *privilege))
@@ -68,7 +71,8 @@ fn boxed(alloc: Global, change: &GrantChange) -> Result<BoxedChange, Memory>
             Ok(BoxedChange::RoleRevoke(grantee.clone()?, role.clone()?))
         }
         GrantChange::ObjectGrant(grantee, table, action) => {
-            Ok(BoxedChange::ObjectGrant(grantee.clone()?, table.clone()?, *action))
+            let (grantee, table) = (grantee.clone()?, table.clone()?);
+            Ok(BoxedChange::ObjectGrant(ObjectGrant::new(alloc, grantee, table, *action)?))
         }
         GrantChange::ObjectRevoke(grantee, table, action) => {
             Ok(BoxedChange::ObjectRevoke(grantee.clone()?, table.clone()?, *action))

@@ -15,8 +15,10 @@ use crate::grants::Grants;
 use crate::growing::{FRESH_ENTRIES, GrowingLists};
 use crate::kind::{Kind, count_of};
 use crate::lists::GrantLists;
+use crate::object_grant::ObjectGrant;
 use crate::role_grant::RoleGrant;
 use crate::room::Room;
+use crate::system_grant::SystemGrant;
 use au_base::{Action, List, Memory, Name, Privilege, TableName};
 use std::alloc::Global;
 
@@ -24,9 +26,9 @@ use std::alloc::Global;
 #[derive(Debug, Drop)]
 pub struct Edits {
     pub changes: Vec<Edit>,
-    pub system: Room<(Name, Privilege, bool)>,
+    pub system: Room<SystemGrant>,
     pub role: Room<RoleGrant>,
-    pub object: Room<(Name, TableName, Action)>,
+    pub object: Room<ObjectGrant>,
     /// Where there are many changes, vectors for grants that stand apart.
     pub growth: Option<Growth>,
 }

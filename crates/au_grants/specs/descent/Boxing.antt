@@ -8,10 +8,10 @@ use Rattle.au_grants.specs.declared.edit.BoxedChange.TheVariants as B
 abbrev pub change_of : BoxedChange → GrantChange
 change_of (B.UserGone user) = UserGone user
 change_of (B.RoleGone role) = RoleGone role
-change_of (B.SystemGrant grantee privilege admin) = SystemGrant grantee privilege admin
+change_of (B.SystemGrant grant) = SystemGrant grant.0 grant.1 grant.2
 change_of (B.SystemRevoke grantee privilege) = SystemRevoke grantee privilege
 change_of (B.RoleGrant grant) = RoleGrant grant.0 grant.1 grant.2
 change_of (B.RoleRevoke grantee role) = RoleRevoke grantee role
-change_of (B.ObjectGrant grantee table action) = ObjectGrant grantee table action
+change_of (B.ObjectGrant grant) = ObjectGrant grant.0 grant.1 grant.2
 change_of (B.ObjectRevoke grantee table action) = ObjectRevoke grantee table action
 change_of (B.TableGone table) = TableGone table
