@@ -275,7 +275,12 @@ fn grant_object(entries: &mut Vec<ObjectGrant>, grant: ObjectGrant)
     ensures items { entries.new.items ≡ with_object grant entries.old.items }
     ensures capacity { vec_capacity entries.new ≡ vec_capacity entries.old }
 {
-    if !has_object(entries.as_slice(), grant.grantee(), grant.table(), grant.action()) {
+    if !has_object(
+        entries.as_slice(),
+        grant.grantee(),
+        grant.table(),
+        grant.action(),
+    ) {
         place(entries, grant);
     }
 }

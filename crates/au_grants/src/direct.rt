@@ -82,11 +82,7 @@ pub fn is_role_grant(entry: &RoleGrant, grantee: &Name, role: &str) -> bool
 
 /// Whether the system privilege is granted to the grantee directly.
 #[tactic(auto, using(crate::proofs::AtPlaces::system_at, crate::proofs::AtPlaces::no_system))]
-pub fn has_privilege(
-    system: &[SystemGrant],
-    grantee: &Name,
-    privilege: Privilege,
-) -> bool
+pub fn has_privilege(system: &[SystemGrant], grantee: &Name, privilege: Privilege) -> bool
     requires order { IsTrue (is_in_order system_before system.now) }
     ensures { result ≡ list_any (grants_privilege grantee.now privilege) system.now }
 {
@@ -122,11 +118,7 @@ fn is_system_grant_as(
 }
 
 /// Whether the entry grants the system privilege to the grantee.
-pub fn is_system_grant(
-    entry: &SystemGrant,
-    grantee: &Name,
-    privilege: Privilege,
-) -> bool
+pub fn is_system_grant(entry: &SystemGrant, grantee: &Name, privilege: Privilege) -> bool
     ensures { result ≡ grants_privilege grantee.now privilege entry.now }
 {
     *entry.grantee() == *grantee && is_same_privilege(entry.privilege(), privilege)
@@ -151,12 +143,7 @@ fn has_any_table(system: &[SystemGrant], grantee: &Name) -> bool
 
 /// Whether the object privilege is granted to the grantee directly.
 #[tactic(auto, using(crate::proofs::AtPlaces::object_at, crate::proofs::AtPlaces::no_object))]
-pub fn has_object(
-    object: &[ObjectGrant],
-    grantee: &Name,
-    table: &TableName,
-    action: Action,
-) -> bool
+pub fn has_object(object: &[ObjectGrant], grantee: &Name, table: &TableName, action: Action) -> bool
     requires order { IsTrue (is_in_order object_before object.now) }
     ensures { result ≡ list_any (grants_object grantee.now table.now action) object.now }
 {

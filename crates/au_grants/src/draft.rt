@@ -14,7 +14,7 @@ use crate::object_grant::ObjectGrant;
 use crate::role_grant::RoleGrant;
 use crate::system_grant::SystemGrant;
 use au_base::limits::GRANTS;
-use au_base::{Action, List, Memory, Name, Privilege, TableName};
+use au_base::{List, Memory, Name};
 use std::alloc::Global;
 use std::marker::Model;
 

@@ -19,7 +19,7 @@ use crate::object_grant::ObjectGrant;
 use crate::role_grant::RoleGrant;
 use crate::room::Room;
 use crate::system_grant::SystemGrant;
-use au_base::{Action, List, Memory, Name, Privilege, TableName};
+use au_base::{List, Memory};
 use std::alloc::Global;
 
 /// Changes, and room for the grants that there are and those that the changes add.

@@ -16,7 +16,7 @@ use crate::right::Sought;
 use crate::role_grant::RoleGrant;
 use crate::staged::StagedGrants;
 use crate::system_grant::SystemGrant;
-use au_base::{Action, List, Memory, Name, Privilege, TableName};
+use au_base::{List, Memory, Name, Privilege};
 use std::alloc::{AllocError, Global};
 use std::marker::Model;
 

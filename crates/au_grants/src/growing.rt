@@ -10,7 +10,6 @@ use crate::object_grant::ObjectGrant;
 use crate::places::{object_place, role_place, system_place};
 use crate::role_grant::RoleGrant;
 use crate::system_grant::SystemGrant;
-use au_base::{Action, Name, Privilege, TableName};
 
 /// Grants of each kind, new ones that stand apart from them, and room to move them in.
 #[derive(Debug, Drop)]

@@ -11,11 +11,7 @@ use crate::system_grant::SystemGrant;
 use au_base::{Action, Name, Privilege, TableName};
 
 /// Where the grant of the system privilege stands or has to stand.
-pub fn system_place(
-    system: &[SystemGrant],
-    grantee: &Name,
-    privilege: Privilege,
-) -> usize
+pub fn system_place(system: &[SystemGrant], grantee: &Name, privilege: Privilege) -> usize
     requires order { IsTrue (is_in_order system_before system.now) }
     ensures { IsPlaceOf system_fields (grantee.now ∷ (privileges.code_of privilege ∷ []) ∷ []) system.now result }
 {
@@ -77,12 +73,7 @@ pub fn object_place(
     object.partition_point(|entry| is_object_before(entry, grantee, table, action))
 }
 
-fn is_object_before(
-    entry: &ObjectGrant,
-    grantee: &Name,
-    table: &TableName,
-    action: Action,
-) -> bool
+fn is_object_before(entry: &ObjectGrant, grantee: &Name, table: &TableName, action: Action) -> bool
     ensures { result ≡ fields_before (object_fields entry.now) (grantee.now ∷ table.now.owner ∷ table.now.name ∷ (actions.code_of action ∷ []) ∷ []) }
 {
     let on = entry.table();
@@ -97,11 +88,7 @@ fn is_object_before(
 
 /// Where the first grant of an object privilege on the table to the grantee stands, where there is
 /// one.
-pub fn first_object_place(
-    object: &[ObjectGrant],
-    grantee: &Name,
-    table: &TableName,
-) -> usize
+pub fn first_object_place(object: &[ObjectGrant], grantee: &Name, table: &TableName) -> usize
     requires order { IsTrue (is_in_order object_before object.now) }
     ensures { IsPlaceOf object_fields (grantee.now ∷ table.now.owner ∷ table.now.name ∷ []) object.now result }
 {

@@ -6,7 +6,7 @@ use std::alloc::{AllocError, Global};
 use std::marker::Model;
 
 /// A grant of a role: the grantee, the role, the admin option. The names stand in a box, so that a
-/// place in a list of many is found and made by moving little.
+/// place in a list of many is made by moving little.
 #[derive(Debug, Drop, PartialEq, Eq)]
 pub struct RoleGrant {
     names: Boxed<(Name, Name)>,

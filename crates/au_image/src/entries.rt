@@ -3,8 +3,9 @@ ghost use Rattle.std.specs.Prelude.{◌≡◌, IfOk};
 ghost use Rattle.au_entries.specs.declared.change.Change.{Change as AnyChange};
 ghost use Rattle.au_image.specs.Image.{enablement_change, fga_change, object_change, policy_change, role_change, role_grant_change, system_change, table_change, user_change, written_condition, written_text};
 
-use au_base::{Action, Memory, Name, Privilege, TableName, Text};
+use au_base::{Memory, Name, Text};
 use au_catalog::{AuditPolicy, Change, Condition, Enabled, Evaluate, FgaPolicy, Table};
+use au_grants::{ObjectGrant, RoleGrant, SystemGrant};
 
 /// An entry of what is kept.
 pub trait Entry: Sized {
@@ -34,20 +35,22 @@ impl Entry for Name {
 }
 
 /// A grant of a system privilege.
-impl Entry for (Name, Privilege, bool) {
+impl Entry for SystemGrant {
     ghost as_change = { system_change };
 
     fn change(&self) -> Result<Change, Memory> {
-        Ok(Change::SysGrant(self.0.clone()?, self.1, self.2))
+        let grantee = self.grantee().clone()?;
+        Ok(Change::SysGrant(grantee, self.privilege(), self.has_admin()))
     }
 }
 
 /// A grant of a role.
-impl Entry for (Name, Name, bool) {
+impl Entry for RoleGrant {
     ghost as_change = { role_grant_change };
 
     fn change(&self) -> Result<Change, Memory> {
-        Ok(Change::RoleGrant(self.0.clone()?, self.1.clone()?, self.2))
+        let grantee = self.grantee().clone()?;
+        Ok(Change::RoleGrant(grantee, self.role().clone()?, self.has_admin()))
     }
 }
 
@@ -62,11 +65,12 @@ impl Entry for Table {
 }
 
 /// A grant of an object privilege.
-impl Entry for (Name, TableName, Action) {
+impl Entry for ObjectGrant {
     ghost as_change = { object_change };
 
     fn change(&self) -> Result<Change, Memory> {
-        Ok(Change::ObjGrant(self.0.clone()?, self.1.clone()?, self.2))
+        let grantee = self.grantee().clone()?;
+        Ok(Change::ObjGrant(grantee, self.table().clone()?, self.action()))
     }
 }
 

@@ -11,12 +11,14 @@ use crate::finding::has_table;
 use crate::sight::{GrantsSeen, Sight};
 use crate::users::{has_grantee, has_role};
 use au_base::{Action, Memory, Name, Privilege, TableName};
-use au_grants::{has_object, has_privilege, has_role as is_role_granted};
+use au_grants::{
+    ObjectGrant, RoleGrant, SystemGrant, has_object, has_privilege, has_role as is_role_granted,
+};
 use std::alloc::Global;
 
 impl<'a> GrantsSeen<'a> {
     /// The grants of system privileges, in order.
-    pub fn system_grants(&self) -> &'a [(Name, Privilege, bool)]
+    pub fn system_grants(&self) -> &'a [SystemGrant]
         ensures value { result.now ≡ (grants_of self.now).system }
         ensures order { IsTrue (is_in_order system_before result.now) }
     {
@@ -27,7 +29,7 @@ impl<'a> GrantsSeen<'a> {
     }
 
     /// The grants of roles, in order.
-    pub fn role_grants(&self) -> &'a [(Name, Name, bool)]
+    pub fn role_grants(&self) -> &'a [RoleGrant]
         ensures value { result.now ≡ (grants_of self.now).role }
         ensures order { IsTrue (is_in_order role_before result.now) }
     {
@@ -38,7 +40,7 @@ impl<'a> GrantsSeen<'a> {
     }
 
     /// The grants of object privileges, in order.
-    pub fn object_grants(&self) -> &'a [(Name, TableName, Action)]
+    pub fn object_grants(&self) -> &'a [ObjectGrant]
         ensures value { result.now ≡ (grants_of self.now).object }
         ensures order { IsTrue (is_in_order object_before result.now) }
     {

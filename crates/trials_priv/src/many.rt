@@ -82,14 +82,18 @@ fn shuffled(
 /// Whether the grants come back where each is granted again in their order, one after another.
 pub fn come_back(alloc: Global, grants: &Grants) -> Result<bool, Fault> {
     let mut changes = Vec::new(alloc);
-    for (grantee, privilege, admin) in grants.system_grants() {
-        changes.push(GrantChange::SystemGrant(grantee.clone()?, *privilege, *admin))?;
+    for each in grants.system_grants() {
+        let grantee = each.grantee().clone()?;
+        let change = GrantChange::SystemGrant(grantee, each.privilege(), each.has_admin());
+        changes.push(change)?;
     }
-    for (grantee, role, admin) in grants.role_grants() {
-        changes.push(GrantChange::RoleGrant(grantee.clone()?, role.clone()?, *admin))?;
+    for each in grants.role_grants() {
+        let (grantee, role) = (each.grantee().clone()?, each.role().clone()?);
+        changes.push(GrantChange::RoleGrant(grantee, role, each.has_admin()))?;
     }
-    for (grantee, table, action) in grants.object_grants() {
-        changes.push(GrantChange::ObjectGrant(grantee.clone()?, table.clone()?, *action))?;
+    for each in grants.object_grants() {
+        let (grantee, table) = (each.grantee().clone()?, each.table().clone()?);
+        changes.push(GrantChange::ObjectGrant(grantee, table, each.action()))?;
     }
     let draft = GrantDraft::of(Grants::new(alloc)).after(&changes)?;
     if draft.is_over_limit() {

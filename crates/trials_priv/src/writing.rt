@@ -1,8 +1,8 @@
 //! Grants, changes and what is decided, as texts.
 
 use crate::fault::Fault;
-use au_base::{Action, Code, Name, Privilege, TableName};
-use au_grants::GrantChange;
+use au_base::{Action, Code, Name, TableName};
+use au_grants::{GrantChange, ObjectGrant, RoleGrant, SystemGrant};
 use au_priv::{Allowed, Decided};
 use std::alloc::Global;
 
@@ -12,9 +12,9 @@ const WRITTEN: usize = 30;
 /// How many grants of system privileges, of roles and of object privileges there are.
 pub fn counts(
     alloc: Global,
-    system: &[(Name, Privilege, bool)],
-    role: &[(Name, Name, bool)],
-    object: &[(Name, TableName, Action)],
+    system: &[SystemGrant],
+    role: &[RoleGrant],
+    object: &[ObjectGrant],
 ) -> Result<String, Fault> {
     let (system, role, object) = (system.len(), role.len(), object.len());
     Ok(format!(in alloc; "{system} {role} {object}")?)
@@ -126,36 +126,39 @@ fn grant_on(
 }
 
 /// Grants of system privileges, in their order.
-pub fn system_grants(alloc: Global, grants: &[(Name, Privilege, bool)]) -> Result<String, Fault> {
+pub fn system_grants(alloc: Global, grants: &[SystemGrant]) -> Result<String, Fault> {
     let mut text = String::new(alloc);
     let mut before = "";
-    for (grantee, privilege, admin) in grants {
+    for each in grants {
+        let right = each.privilege().name();
         text.push_str(before)?;
-        text.push_str(&grant(alloc, grantee, "+", privilege.name(), *admin)?)?;
+        text.push_str(&grant(alloc, each.grantee(), "+", right, each.has_admin())?)?;
         before = ", ";
     }
     Ok(text)
 }
 
 /// Grants of roles, in their order.
-pub fn role_grants(alloc: Global, grants: &[(Name, Name, bool)]) -> Result<String, Fault> {
+pub fn role_grants(alloc: Global, grants: &[RoleGrant]) -> Result<String, Fault> {
     let mut text = String::new(alloc);
     let mut before = "";
-    for (grantee, role, admin) in grants {
+    for each in grants {
+        let right = each.role().as_str();
         text.push_str(before)?;
-        text.push_str(&grant(alloc, grantee, "+", role.as_str(), *admin)?)?;
+        text.push_str(&grant(alloc, each.grantee(), "+", right, each.has_admin())?)?;
         before = ", ";
     }
     Ok(text)
 }
 
 /// Grants of object privileges, in their order.
-pub fn object_grants(alloc: Global, grants: &[(Name, TableName, Action)]) -> Result<String, Fault> {
+pub fn object_grants(alloc: Global, grants: &[ObjectGrant]) -> Result<String, Fault> {
     let mut text = String::new(alloc);
     let mut before = "";
-    for (grantee, table, action) in grants {
+    for each in grants {
+        let table = each.table();
         text.push_str(before)?;
-        text.push_str(&grant_on(alloc, grantee, "+", table, *action)?)?;
+        text.push_str(&grant_on(alloc, each.grantee(), "+", table, each.action())?)?;
         before = ", ";
     }
     Ok(text)
