@@ -21,12 +21,14 @@ use std::alloc::Global;
 pub fn right(alloc: Global, tokens: &[Token]) -> Result<(Right, &[Token]), Stop>
     ensures { Gives (λ x. (x.0, kinds x.1.now)) result (spec.right (kinds tokens.now)) }
 {
-    match privilege(tokens) {
-        Some((found, rest)) => Ok((Right::Privilege(found), rest)),
-        None => {
-            let (role, rest) = name(alloc, tokens)?;
-            Ok((Right::Role(role), rest))
+    // A privilege begins with a reserved word, which is no name.
+    match name(alloc, tokens) {
+        Ok((role, rest)) => Ok((Right::Role(role), rest)),
+        Err(Stop::Unread) => {
+            let (found, rest) = privilege(tokens).ok_or(Stop::Unread)?;
+            Ok((Right::Privilege(found), rest))
         }
+        Err(Stop::Memory) => Err(Stop::Memory),
     }
 }
 
