@@ -1,10 +1,10 @@
 -- Lists that grow: a new entry, and what the lists are when the new ones are joined to the others.
-use Rattle.std.proofs.Common.{◌≡◌, ◌≤◌, ◌+◌, ℕ, Bool, true, false, cond, ◌||◌, List, [], ◌∷◌, map, length, refl, sym, ap, subst, ◌∙◌, arith}
+use Rattle.std.proofs.Common.{◌≡◌, ◌≤◌, ◌+◌, ℕ, Bool, true, false, cond, ◌||◌, List, [], ◌∷◌, map, length, refl, sym, ap, ◌∙◌, arith}
 use Rattle.std.specs.List.{filter, list_any}
 use Rattle.au_grants.specs.declared.change.GrantChange.{GrantChange}
 use Rattle.au_grants.specs.declared.growing.GrowingLists.{GrowingLists}
 use Rattle.au_grants.specs.declared.kind.Kind.TheVariants as K
-use Rattle.au_grants.specs.Changing.{applied, with_admin, with_grant, with_object}
+use Rattle.au_grants.specs.Changing.{applied, with_admin, with_grant}
 use Rattle.std.specs.Ordering.{is_eq}
 use Rattle.au_grants.specs.Order.{fields_before, is_in_order, object_before, placed, role_before, system_before}
 use Rattle.au_grants.specs.Rights.{Grants}

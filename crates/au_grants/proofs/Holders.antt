@@ -1,5 +1,5 @@
 -- What a search through the queued grants of roles says of who holds a right.
-use Rattle.std.proofs.Common.{◌≡◌, ◌≤◌, ◌<◌, ◌+◌, ◌⊎◌, ◌↔◌, ℕ, Bool, true, false, inl, inr, List, [], ◌∷◌, ◌++◌, length, get_or, refl, sym, ap, subst, ◌∙◌, arith}
+use Rattle.std.proofs.Common.{◌≡◌, ◌≤◌, ◌<◌, ◌+◌, ◌⊎◌, ℕ, Bool, true, false, inl, inr, List, [], ◌∷◌, ◌++◌, length, get_or, refl, sym, ap, subst, ◌∙◌, arith}
 use Rattle.std.specs.List.{Contains, list_any}
 use Rattle.std.proofs.lemmas.Bool.{cases_lt}
 use Rattle.au_grants.specs.Changing.{role_to}
@@ -9,7 +9,7 @@ use Rattle.au_grants.specs.declared.right.Sought.{Sought}
 use Rattle.au_grants.specs.declared.right.Sought.TheVariants.{Role, RoleWithAdmin, Privilege as SystemPrivilege, PrivilegeWithAdmin, AnyTable, Object, SomeObject}
 use Rattle.au_grants.specs.Rights.{Grants, Name, RoleEntry, IsRoleGranted, IsChain, IsHolder, HoldsRole}
 use Rattle.au_grants.specs.descent.Search.{EndAt, IsFirstGrant, IsFirstOf, IsGivenAt, IsGivenBehind, IsGivenByRole, IsReach, admin_at, grantee_at, queued_at, right_at, role_at}
-use Rattle.au_grants.proofs.Chains.{held, holder_then, last}
+use Rattle.au_grants.proofs.Chains.{holder_then, last}
 use Rattle.au_grants.proofs.Entries.{same_name-refl}
 use Rattle.au_grants.proofs.Halving.{read_back, same_read}
 use Rattle.au_grants.proofs.Members.{any_to}

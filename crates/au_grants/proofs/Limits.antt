@@ -1,12 +1,12 @@
 -- How many grants changes make.
-use Rattle.std.proofs.Common.{◌≡◌, ◌≤◌, ◌+◌, Bool, true, false, not, cond, inl, inr, List, [], ◌∷◌, ◌++◌, length, map, refl, sym, subst, arith}
+use Rattle.std.proofs.Common.{◌≡◌, ◌≤◌, ◌+◌, Bool, true, false, not, cond, List, [], ◌∷◌, ◌++◌, length, map, refl, arith}
 use Rattle.std.specs.List.{filter, list_any}
 use Rattle.au_grants.specs.declared.change.GrantChange.{GrantChange}
 use Rattle.au_grants.specs.declared.change.GrantChange.TheVariants.{UserGone, RoleGone, SystemGrant, SystemRevoke, RoleGrant, RoleRevoke, ObjectGrant, ObjectRevoke, TableGone}
 use Rattle.au_grants.specs.Changing.{IsGrant, applied, is_new, names_role, names_table, object_to, role_to, system_to, with_admin}
 use Rattle.au_grants.specs.Holding.{grants_object, grants_privilege, grants_role}
 use Rattle.au_grants.specs.Order.{object_before, placed, role_before, system_before}
-use Rattle.au_grants.specs.Rights.{Grants, Name, ObjectEntry, grant_count}
+use Rattle.au_grants.specs.Rights.{Grants, ObjectEntry, grant_count}
 
 -- how long the lists are that changes make
 

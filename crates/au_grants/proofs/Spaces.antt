@@ -1,14 +1,11 @@
 -- Vectors that are kept for new grants suffice for the changes.
 use Rattle.std.proofs.Common.{◌≡◌, ◌≤◌, ◌<◌, ◌+◌, ℕ, Bool, List, [], length, ap, arith}
 use Rattle.std.specs.Prelude.{MatchOption, Option, Some, None, ⊤, vec_capacity}
-use Rattle.std.specs.List.{filter}
-use Rattle.au_grants.specs.declared.change.GrantChange.{GrantChange}
 use Rattle.au_grants.specs.declared.edits.Edits.{Edits}
 use Rattle.au_grants.specs.declared.edits.Growth.{Growth}
-use Rattle.au_grants.specs.declared.kind.Kind.TheVariants as K
 use Rattle.au_grants.specs.declared.lists.GrantLists.{GrantLists}
 use Rattle.au_grants.specs.Order.{AreInOrder, object_before, role_before, system_before}
-use Rattle.au_grants.specs.descent.Editing.{AreSpared, IsSpacious, adds, listed}
+use Rattle.au_grants.specs.descent.Editing.{AreSpared, IsSpacious, listed}
 use Rattle.au_grants.specs.descent.Growing.{IsRoomy, merged}
 use Rattle.au_grants.specs.descent.Spacious.{GrowsFrom, with_growth}
 use Rattle.au_grants.proofs.Growths.{grown_alone, merged_length, ready_alone}

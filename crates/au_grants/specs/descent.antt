@@ -1,3 +1,4 @@
+pub mod Boxing
 pub mod Direct
 pub mod Editing
 pub mod Growing

@@ -4,15 +4,20 @@ ghost use Rattle.std.specs.List.{insert, list_any};
 ghost use Rattle.au_grants.specs.Changing.{applied, applied_all, without, with_admin, with_grant, with_object, system_to, role_to, object_to, names_role, names_table};
 ghost use Rattle.au_grants.specs.Holding.{grants_privilege, grants_role, grants_object};
 ghost use Rattle.au_grants.specs.Order.{AreInOrder, is_in_order, object_before, role_before, system_before};
+ghost use Rattle.au_grants.specs.descent.Boxing.{change_of};
 ghost use Rattle.au_grants.specs.descent.Editing.{HasRoom, KeepsCapacity, listed};
 
 use crate::change::GrantChange;
 use crate::direct::{
     has_object, has_privilege, has_role, is_object_grant, is_role_grant, is_system_grant,
 };
+use crate::edit::{BoxedChange, Edit};
 use crate::growing::place;
 use crate::lists::GrantLists;
+use crate::object_grant::ObjectGrant;
 use crate::places::{object_place, role_place, system_place};
+use crate::role_grant::RoleGrant;
+use crate::system_grant::SystemGrant;
 use au_base::{Action, Memory, Name, Privilege, TableName, is_same_privilege, is_same_table};
 
 /// The grants after the changes, in their order.
@@ -32,9 +37,9 @@ fn after_change(grants: GrantLists, change: &GrantChange) -> Result<GrantLists, 
     requires { AreInOrder (listed grants) }
     ensures { IfOk result (λ after. listed after ≡ applied change.now (listed grants)) }
 {
-    let change = change.clone()?;
-    let mut after = with_room_for(grants, &change)?;
-    make(&mut after, change);
+    let edit = Edit::of(*grants.role.allocator(), change)?;
+    let mut after = with_room_for(grants, change)?;
+    make(&mut after, edit);
     Ok(after)
 }
 
@@ -55,7 +60,7 @@ fn with_room_for(grants: GrantLists, change: &GrantChange) -> Result<GrantLists,
 
 /// Makes the changes in their order. There is room for the grants that they add, and the call
 /// takes no memory.
-pub fn make_all(lists: &mut GrantLists, changes: Vec<GrantChange>)
+pub fn make_all(lists: &mut GrantLists, changes: Vec<Edit>)
     requires order { AreInOrder (listed lists.old) }
     requires room { HasRoom changes.items lists.old }
     ensures after { listed lists.new ≡ applied_all changes.items (listed lists.old) }
@@ -68,32 +73,37 @@ pub fn make_all(lists: &mut GrantLists, changes: Vec<GrantChange>)
 }
 
 /// Makes the change. There is room for a grant that it adds, and the call takes no memory.
-pub fn make(lists: &mut GrantLists, change: GrantChange)
+pub fn make(lists: &mut GrantLists, edit: Edit)
     requires order { AreInOrder (listed lists.old) }
-    requires room { HasRoom (change ∷ []) lists.old }
-    ensures after { listed lists.new ≡ applied change (listed lists.old) }
+    requires room { HasRoom (edit ∷ []) lists.old }
+    ensures after { listed lists.new ≡ applied edit (listed lists.old) }
+    ensures capacity { KeepsCapacity lists.old lists.new }
+{
+    let Edit { change } = edit;
+    make_boxed(lists, change);
+}
+
+/// The same of a change whose new grant has its box.
+pub fn make_boxed(lists: &mut GrantLists, change: BoxedChange)
+    requires order { AreInOrder (listed lists.old) }
+    requires room { HasRoom (change_of change ∷ []) lists.old }
+    ensures after { listed lists.new ≡ applied (change_of change) (listed lists.old) }
     ensures capacity { KeepsCapacity lists.old lists.new }
 {
     match change {
-        GrantChange::UserGone(user) => drop_user(lists, &user),
-        GrantChange::RoleGone(role) => drop_role(lists, &role),
-        GrantChange::TableGone(table) => drop_on_table(&mut lists.object, &table),
-        GrantChange::SystemGrant(grantee, privilege, admin) => {
-            grant_privilege(&mut lists.system, grantee, privilege, admin)
-        }
-        GrantChange::SystemRevoke(grantee, privilege) => {
+        BoxedChange::UserGone(user) => drop_user(lists, &user),
+        BoxedChange::RoleGone(role) => drop_role(lists, &role),
+        BoxedChange::TableGone(table) => drop_on_table(&mut lists.object, &table),
+        BoxedChange::SystemGrant(grant) => grant_privilege(&mut lists.system, grant),
+        BoxedChange::SystemRevoke(grantee, privilege) => {
             drop_privilege(&mut lists.system, &grantee, privilege)
         }
-        GrantChange::RoleGrant(grantee, role, admin) => {
-            grant_role(&mut lists.role, grantee, role, admin)
-        }
-        GrantChange::RoleRevoke(grantee, role) => {
+        BoxedChange::RoleGrant(grant) => grant_role(&mut lists.role, grant),
+        BoxedChange::RoleRevoke(grantee, role) => {
             drop_role_grant(&mut lists.role, &grantee, &role)
         }
-        GrantChange::ObjectGrant(grantee, table, action) => {
-            grant_object(&mut lists.object, grantee, table, action)
-        }
-        GrantChange::ObjectRevoke(grantee, table, action) => {
+        BoxedChange::ObjectGrant(grant) => grant_object(&mut lists.object, grant),
+        BoxedChange::ObjectRevoke(grantee, table, action) => {
             drop_object_grant(&mut lists.object, &grantee, &table, action)
         }
     }
@@ -117,42 +127,42 @@ fn drop_role(lists: &mut GrantLists, role: &Name)
     drop_object_to(&mut lists.object, role);
 }
 
-fn drop_system_to(entries: &mut Vec<(Name, Privilege, bool)>, name: &Name)
+fn drop_system_to(entries: &mut Vec<SystemGrant>, name: &Name)
     ensures items { entries.new.items ≡ without (system_to name.now) entries.old.items }
     ensures capacity { vec_capacity entries.new ≡ vec_capacity entries.old }
 {
-    entries.retain(|entry| entry.0 != *name);
+    entries.retain(|entry| *entry.grantee() != *name);
 }
 
-fn drop_role_to(entries: &mut Vec<(Name, Name, bool)>, name: &Name)
+fn drop_role_to(entries: &mut Vec<RoleGrant>, name: &Name)
     ensures items { entries.new.items ≡ without (role_to name.now) entries.old.items }
     ensures capacity { vec_capacity entries.new ≡ vec_capacity entries.old }
 {
-    entries.retain(|entry| entry.0 != *name);
+    entries.retain(|entry| *entry.grantee() != *name);
 }
 
-fn drop_object_to(entries: &mut Vec<(Name, TableName, Action)>, name: &Name)
+fn drop_object_to(entries: &mut Vec<ObjectGrant>, name: &Name)
     ensures items { entries.new.items ≡ without (object_to name.now) entries.old.items }
     ensures capacity { vec_capacity entries.new ≡ vec_capacity entries.old }
 {
-    entries.retain(|entry| entry.0 != *name);
+    entries.retain(|entry| *entry.grantee() != *name);
 }
 
-fn drop_role_named(entries: &mut Vec<(Name, Name, bool)>, name: &Name)
+fn drop_role_named(entries: &mut Vec<RoleGrant>, name: &Name)
     ensures items { entries.new.items ≡ without (names_role name.now) entries.old.items }
     ensures capacity { vec_capacity entries.new ≡ vec_capacity entries.old }
 {
-    entries.retain(|entry| !(entry.0 == *name || entry.1 == *name));
+    entries.retain(|entry| !(*entry.grantee() == *name || *entry.role() == *name));
 }
 
-fn drop_on_table(entries: &mut Vec<(Name, TableName, Action)>, table: &TableName)
+fn drop_on_table(entries: &mut Vec<ObjectGrant>, table: &TableName)
     ensures items { entries.new.items ≡ without (names_table table.now) entries.old.items }
     ensures capacity { vec_capacity entries.new ≡ vec_capacity entries.old }
 {
-    entries.retain(|entry| !is_same_table(&entry.1, table));
+    entries.retain(|entry| !is_same_table(entry.table(), table));
 }
 
-fn drop_privilege(entries: &mut Vec<(Name, Privilege, bool)>, grantee: &Name, privilege: Privilege)
+fn drop_privilege(entries: &mut Vec<SystemGrant>, grantee: &Name, privilege: Privilege)
     requires order { IsTrue (is_in_order system_before entries.old.items) }
     ensures items { entries.new.items ≡ without (grants_privilege grantee.now privilege) entries.old.items }
     ensures capacity { vec_capacity entries.new ≡ vec_capacity entries.old }
@@ -163,7 +173,7 @@ fn drop_privilege(entries: &mut Vec<(Name, Privilege, bool)>, grantee: &Name, pr
     }
 }
 
-fn drop_role_grant(entries: &mut Vec<(Name, Name, bool)>, grantee: &Name, name: &Name)
+fn drop_role_grant(entries: &mut Vec<RoleGrant>, grantee: &Name, name: &Name)
     requires order { IsTrue (is_in_order role_before entries.old.items) }
     ensures items { entries.new.items ≡ without (grants_role grantee.now name.now) entries.old.items }
     ensures capacity { vec_capacity entries.new ≡ vec_capacity entries.old }
@@ -176,7 +186,7 @@ fn drop_role_grant(entries: &mut Vec<(Name, Name, bool)>, grantee: &Name, name: 
 }
 
 fn drop_object_grant(
-    entries: &mut Vec<(Name, TableName, Action)>,
+    entries: &mut Vec<ObjectGrant>,
     grantee: &Name,
     table: &TableName,
     action: Action,
@@ -191,105 +201,82 @@ fn drop_object_grant(
     }
 }
 
-fn grant_privilege(
-    entries: &mut Vec<(Name, Privilege, bool)>,
-    grantee: Name,
-    privilege: Privilege,
-    admin: bool,
-)
+fn grant_privilege(entries: &mut Vec<SystemGrant>, grant: SystemGrant)
     requires order { IsTrue (is_in_order system_before entries.old.items) }
     requires room { vec_len entries.old < vec_capacity entries.old }
-    ensures items { entries.new.items ≡ with_grant system_before (grants_privilege grantee privilege) (grantee, privilege, admin) entries.old.items }
+    ensures items { entries.new.items ≡ with_grant system_before (grants_privilege grant.0 grant.1) grant entries.old.items }
     ensures capacity { vec_capacity entries.new ≡ vec_capacity entries.old }
 {
-    if has_privilege(entries.as_slice(), &grantee, privilege) {
-        set_privilege_admin(entries, &grantee, privilege, admin);
+    if has_privilege(entries.as_slice(), grant.grantee(), grant.privilege()) {
+        set_privilege_admin(entries, &grant);
     } else {
-        place(entries, (grantee, privilege, admin));
+        place(entries, grant);
     }
 }
 
-/// Gives the grant this admin option, where it is there.
-pub fn set_privilege_admin(
-    entries: &mut Vec<(Name, Privilege, bool)>,
-    grantee: &Name,
-    privilege: Privilege,
-    admin: bool,
-)
+/// Gives the grant that is there the admin option of this one.
+pub fn set_privilege_admin(entries: &mut Vec<SystemGrant>, grant: &SystemGrant)
     requires order { IsTrue (is_in_order system_before entries.old.items) }
-    ensures items { entries.new.items ≡ map (with_admin (grants_privilege grantee.now privilege) admin) entries.old.items }
+    ensures items { entries.new.items ≡ map (with_admin (grants_privilege grant.now.0 grant.now.1) grant.now.2) entries.old.items }
     ensures capacity { vec_capacity entries.new ≡ vec_capacity entries.old }
 {
-    let place = system_place(entries.as_slice(), grantee, privilege);
+    let place = system_place(entries.as_slice(), grant.grantee(), grant.privilege());
     if place < entries.len() {
-        set_admin_of_privilege(&mut entries[place], grantee, privilege, admin);
+        set_admin_of_privilege(&mut entries[place], grant);
     }
 }
 
-fn set_admin_of_privilege(
-    entry: &mut (Name, Privilege, bool),
-    grantee: &Name,
-    privilege: Privilege,
-    admin: bool,
-)
-    ensures { entry.new ≡ with_admin (grants_privilege grantee.now privilege) admin entry.old }
+fn set_admin_of_privilege(entry: &mut SystemGrant, grant: &SystemGrant)
+    ensures { entry.new ≡ with_admin (grants_privilege grant.now.0 grant.now.1) grant.now.2 entry.old }
 {
-    if entry.0 == *grantee && is_same_privilege(entry.1, privilege) {
-        entry.2 = admin;
+    if *entry.grantee() == *grant.grantee()
+        && is_same_privilege(entry.privilege(), grant.privilege())
+    {
+        entry.set_admin(grant.has_admin());
     }
 }
 
-fn grant_role(entries: &mut Vec<(Name, Name, bool)>, grantee: Name, name: Name, admin: bool)
+fn grant_role(entries: &mut Vec<RoleGrant>, grant: RoleGrant)
     requires order { IsTrue (is_in_order role_before entries.old.items) }
     requires room { vec_len entries.old < vec_capacity entries.old }
-    ensures items { entries.new.items ≡ with_grant role_before (grants_role grantee name) (grantee, name, admin) entries.old.items }
+    ensures items { entries.new.items ≡ with_grant role_before (grants_role grant.0 grant.1) grant entries.old.items }
     ensures capacity { vec_capacity entries.new ≡ vec_capacity entries.old }
 {
-    if has_role(entries.as_slice(), &grantee, name.as_str()) {
-        set_role_admin(entries, &grantee, &name, admin);
+    if has_role(entries.as_slice(), grant.grantee(), grant.role().as_str()) {
+        set_role_admin(entries, &grant);
     } else {
-        place(entries, (grantee, name, admin));
+        place(entries, grant);
     }
 }
 
-/// Gives the grant this admin option, where it is there.
-pub fn set_role_admin(
-    entries: &mut Vec<(Name, Name, bool)>,
-    grantee: &Name,
-    name: &Name,
-    admin: bool,
-)
+/// Gives the grant that is there the admin option of this one.
+pub fn set_role_admin(entries: &mut Vec<RoleGrant>, grant: &RoleGrant)
     requires order { IsTrue (is_in_order role_before entries.old.items) }
-    ensures items { entries.new.items ≡ map (with_admin (grants_role grantee.now name.now) admin) entries.old.items }
+    ensures items { entries.new.items ≡ map (with_admin (grants_role grant.now.0 grant.now.1) grant.now.2) entries.old.items }
     ensures capacity { vec_capacity entries.new ≡ vec_capacity entries.old }
 {
-    let place = role_place(entries.as_slice(), grantee, name.as_str());
+    let place = role_place(entries.as_slice(), grant.grantee(), grant.role().as_str());
     if place < entries.len() {
-        set_admin_of_role(&mut entries[place], grantee, name, admin);
+        set_admin_of_role(&mut entries[place], grant);
     }
 }
 
-fn set_admin_of_role(entry: &mut (Name, Name, bool), grantee: &Name, name: &Name, admin: bool)
-    ensures { entry.new ≡ with_admin (grants_role grantee.now name.now) admin entry.old }
+fn set_admin_of_role(entry: &mut RoleGrant, grant: &RoleGrant)
+    ensures { entry.new ≡ with_admin (grants_role grant.now.0 grant.now.1) grant.now.2 entry.old }
 {
-    if entry.0 == *grantee && entry.1 == *name {
-        entry.2 = admin;
+    if *entry.grantee() == *grant.grantee() && *entry.role() == *grant.role() {
+        entry.set_admin(grant.has_admin());
     }
 }
 
-fn grant_object(
-    entries: &mut Vec<(Name, TableName, Action)>,
-    grantee: Name,
-    table: TableName,
-    action: Action,
-)
+fn grant_object(entries: &mut Vec<ObjectGrant>, grant: ObjectGrant)
     requires order { IsTrue (is_in_order object_before entries.old.items) }
     requires room { vec_len entries.old < vec_capacity entries.old }
-    ensures items { entries.new.items ≡ with_object (grantee, table, action) entries.old.items }
+    ensures items { entries.new.items ≡ with_object grant entries.old.items }
     ensures capacity { vec_capacity entries.new ≡ vec_capacity entries.old }
 {
-    if !has_object(entries.as_slice(), &grantee, &table, action) {
-        place(entries, (grantee, table, action));
+    if !has_object(entries.as_slice(), grant.grantee(), grant.table(), grant.action()) {
+        place(entries, grant);
     }
 }
 

@@ -6,6 +6,7 @@ ghost use Rattle.au_grants.specs.descent.Search.{IsFirstGrant, IsReach, grantee_
 
 use crate::direct::is_grantee;
 use crate::lone::lone_place;
+use crate::role_grant::RoleGrant;
 use crate::searching::{end_of_grants, reach, role_of};
 use au_base::{Memory, Name};
 use std::alloc::Global;
@@ -13,7 +14,7 @@ use std::alloc::Global;
 /// Whether a grant of the role to the grantee would close a circle.
 pub fn is_circle(
     alloc: Global,
-    roles: &[(Name, Name, bool)],
+    roles: &[RoleGrant],
     grantee: &Name,
     role: &Name,
 ) -> Result<bool, Memory>
@@ -26,12 +27,7 @@ pub fn is_circle(
     Ok(is_held(alloc, roles, role, grantee)?)
 }
 
-fn is_held(
-    alloc: Global,
-    roles: &[(Name, Name, bool)],
-    user: &Name,
-    role: &Name,
-) -> Result<bool, Memory>
+fn is_held(alloc: Global, roles: &[RoleGrant], user: &Name, role: &Name) -> Result<bool, Memory>
     requires order { IsTrue (is_in_order role_before roles.now) }
     ensures { IfOk result (λ held. IsTrue held ↔ HoldsRole roles.now user.now role.now) }
 {
@@ -51,7 +47,7 @@ fn is_held(
 
 /// Whether the role is granted to the grantee of some grant that the search found.
 pub fn is_granted_to_some(
-    roles: &[(Name, Name, bool)],
+    roles: &[RoleGrant],
     user: &Name,
     queue: &[usize],
     count: usize,
@@ -70,7 +66,7 @@ pub fn is_granted_to_some(
 }
 
 // Whether the role is granted to the grantee of the grant at the place, the first to that grantee.
-fn is_granted_from(roles: &[(Name, Name, bool)], place: usize, role: &str) -> bool
+fn is_granted_from(roles: &[RoleGrant], place: usize, role: &str) -> bool
     requires order { IsTrue (is_in_order role_before roles.now) }
     requires first { IsFirstGrant roles.now place }
     ensures { IsTrue result ↔ IsRoleGranted roles.now (grantee_at roles.now place) role.now }
@@ -84,7 +80,7 @@ fn is_granted_from(roles: &[(Name, Name, bool)], place: usize, role: &str) -> bo
     false
 }
 
-fn grants_role_at(roles: &[(Name, Name, bool)], at: usize, role: &str) -> bool
+fn grants_role_at(roles: &[RoleGrant], at: usize, role: &str) -> bool
     requires { at < length roles.now }
     ensures { IsTrue result ↔ (role_at roles.now at ≡ role.now) }
 {

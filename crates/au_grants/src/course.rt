@@ -12,6 +12,7 @@ ghost use Rattle.au_grants.specs.descent.Growing.{AreGrowing, AreReady, HasGrowt
 use crate::change::GrantChange;
 use crate::circle::is_circle;
 use crate::direct::is_grantee;
+use crate::edit::Edit;
 use crate::granting::{
     is_object_there, is_role_there, is_role_there_as, is_system_there, is_system_there_as,
     make_growing,
@@ -19,6 +20,7 @@ use crate::granting::{
 use crate::grants::Grants;
 use crate::growing::{Entry, FRESH_ENTRIES, GrowingLists, join};
 use crate::lists::GrantLists;
+use crate::role_grant::RoleGrant;
 use au_base::{Action, Memory, Name, Privilege, TableName};
 use std::alloc::Global;
 use std::marker::Model;
@@ -190,11 +192,7 @@ fn no_lists(alloc: Global) -> GrantLists
 }
 
 // Whether some role is granted to the name directly, among the new grants or the others.
-fn is_grantee_there(
-    kept: &Vec<(Name, Name, bool)>,
-    fresh: &Vec<(Name, Name, bool)>,
-    name: &Name,
-) -> bool
+fn is_grantee_there(kept: &Vec<RoleGrant>, fresh: &Vec<RoleGrant>, name: &Name) -> bool
     requires { AreReady role_before fresh.now.items kept.now.items }
     ensures { result ≡ list_any (role_to name.now) (merged role_before fresh.now.items kept.now.items) }
 {
@@ -203,9 +201,9 @@ fn is_grantee_there(
 
 // The new entries go to their places.
 fn join_reserved(
-    kept: &mut Vec<(Name, Name, bool)>,
-    fresh: &mut Vec<(Name, Name, bool)>,
-    moving: &mut Vec<(Name, Name, bool)>,
+    kept: &mut Vec<RoleGrant>,
+    fresh: &mut Vec<RoleGrant>,
+    moving: &mut Vec<RoleGrant>,
 ) -> Result<(), Memory>
     requires ready { AreReady role_before fresh.old.items kept.old.items }
     requires none_moving { moving.old.items ≡ [] }
@@ -237,9 +235,9 @@ fn grown_by(lists: GrowingLists, change: &GrantChange) -> Result<GrowingLists, M
     ensures after { IfOk result (λ after. grown after ≡ applied change.now (grown lists)) }
     ensures ready { IfOk result AreGrowing }
 {
-    let change = change.clone()?;
+    let edit = Edit::of(*lists.kept.role.allocator(), change)?;
     let mut after = with_growth(lists)?;
-    make_growing(&mut after, change);
+    make_growing(&mut after, edit);
     Ok(after)
 }
 

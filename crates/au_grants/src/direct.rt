@@ -8,8 +8,11 @@ ghost use Rattle.au_grants.specs.Order.{is_in_order, object_before, role_before,
 ghost use Rattle.au_grants.specs.Holding.{grants_privilege_as, grants_role_as};
 
 use crate::grants::Grants;
+use crate::object_grant::ObjectGrant;
 use crate::places::{first_object_place, first_role_place, object_place, role_place, system_place};
 use crate::right::Sought;
+use crate::role_grant::RoleGrant;
+use crate::system_grant::SystemGrant;
 use au_base::{
     Action, Name, Privilege, TableName, is_same_action, is_same_privilege, is_same_table,
 };
@@ -36,17 +39,17 @@ pub fn is_granted(grants: &Grants, holder: &Name, right: Sought<'_>) -> bool
 
 /// Whether some role is granted to the grantee directly.
 #[tactic(auto, using(crate::proofs::AtPlaces::grantee_at, crate::proofs::AtPlaces::no_grantee))]
-pub fn is_grantee(roles: &[(Name, Name, bool)], grantee: &Name) -> bool
+pub fn is_grantee(roles: &[RoleGrant], grantee: &Name) -> bool
     requires order { IsTrue (is_in_order role_before roles.now) }
     ensures { result ≡ list_any (role_to grantee.now) roles.now }
 {
     let place = first_role_place(roles, grantee);
-    place < roles.len() && roles[place].0 == *grantee
+    place < roles.len() && *roles[place].grantee() == *grantee
 }
 
 /// Whether the role is granted to the grantee directly.
 #[tactic(auto, using(crate::proofs::AtPlaces::role_at, crate::proofs::AtPlaces::no_role))]
-pub fn has_role(roles: &[(Name, Name, bool)], grantee: &Name, role: &str) -> bool
+pub fn has_role(roles: &[RoleGrant], grantee: &Name, role: &str) -> bool
     requires order { IsTrue (is_in_order role_before roles.now) }
     ensures { result ≡ list_any (grants_role grantee.now role.now) roles.now }
 {
@@ -56,7 +59,7 @@ pub fn has_role(roles: &[(Name, Name, bool)], grantee: &Name, role: &str) -> boo
 
 /// Whether the role is granted to the grantee directly, and with admin option where that is asked.
 #[tactic(auto, using(crate::proofs::AtPlaces::role_as_at, crate::proofs::AtPlaces::no_role_as))]
-pub fn has_role_as(roles: &[(Name, Name, bool)], grantee: &Name, role: &str, admin: bool) -> bool
+pub fn has_role_as(roles: &[RoleGrant], grantee: &Name, role: &str, admin: bool) -> bool
     requires order { IsTrue (is_in_order role_before roles.now) }
     ensures { result ≡ list_any (grants_role_as grantee.now role.now admin) roles.now }
 {
@@ -64,23 +67,23 @@ pub fn has_role_as(roles: &[(Name, Name, bool)], grantee: &Name, role: &str, adm
     place < roles.len() && is_role_grant_as(&roles[place], grantee, role, admin)
 }
 
-fn is_role_grant_as(entry: &(Name, Name, bool), grantee: &Name, role: &str, admin: bool) -> bool
+fn is_role_grant_as(entry: &RoleGrant, grantee: &Name, role: &str, admin: bool) -> bool
     ensures { result ≡ grants_role_as grantee.now role.now admin entry.now }
 {
-    is_role_grant(entry, grantee, role) && (entry.2 || !admin)
+    is_role_grant(entry, grantee, role) && (entry.has_admin() || !admin)
 }
 
 /// Whether the entry grants the role to the grantee.
-pub fn is_role_grant(entry: &(Name, Name, bool), grantee: &Name, role: &str) -> bool
+pub fn is_role_grant(entry: &RoleGrant, grantee: &Name, role: &str) -> bool
     ensures { result ≡ grants_role grantee.now role.now entry.now }
 {
-    entry.0 == *grantee && entry.1.as_str() == role
+    *entry.grantee() == *grantee && entry.role().as_str() == role
 }
 
 /// Whether the system privilege is granted to the grantee directly.
 #[tactic(auto, using(crate::proofs::AtPlaces::system_at, crate::proofs::AtPlaces::no_system))]
 pub fn has_privilege(
-    system: &[(Name, Privilege, bool)],
+    system: &[SystemGrant],
     grantee: &Name,
     privilege: Privilege,
 ) -> bool
@@ -95,7 +98,7 @@ pub fn has_privilege(
 /// that is asked.
 #[tactic(auto, using(crate::proofs::AtPlaces::system_as_at, crate::proofs::AtPlaces::no_system_as))]
 pub fn has_privilege_as(
-    system: &[(Name, Privilege, bool)],
+    system: &[SystemGrant],
     grantee: &Name,
     privilege: Privilege,
     admin: bool,
@@ -108,29 +111,29 @@ pub fn has_privilege_as(
 }
 
 fn is_system_grant_as(
-    entry: &(Name, Privilege, bool),
+    entry: &SystemGrant,
     grantee: &Name,
     privilege: Privilege,
     admin: bool,
 ) -> bool
     ensures { result ≡ grants_privilege_as grantee.now privilege admin entry.now }
 {
-    is_system_grant(entry, grantee, privilege) && (entry.2 || !admin)
+    is_system_grant(entry, grantee, privilege) && (entry.has_admin() || !admin)
 }
 
 /// Whether the entry grants the system privilege to the grantee.
 pub fn is_system_grant(
-    entry: &(Name, Privilege, bool),
+    entry: &SystemGrant,
     grantee: &Name,
     privilege: Privilege,
 ) -> bool
     ensures { result ≡ grants_privilege grantee.now privilege entry.now }
 {
-    entry.0 == *grantee && is_same_privilege(entry.1, privilege)
+    *entry.grantee() == *grantee && is_same_privilege(entry.privilege(), privilege)
 }
 
 #[tactic(auto, using(crate::proofs::AtPlaces::four_privileges))]
-fn has_any_table(system: &[(Name, Privilege, bool)], grantee: &Name) -> bool
+fn has_any_table(system: &[SystemGrant], grantee: &Name) -> bool
     requires order { IsTrue (is_in_order system_before system.now) }
     ensures { result ≡ list_any (grants_any_table grantee.now) system.now }
 {
@@ -149,7 +152,7 @@ fn has_any_table(system: &[(Name, Privilege, bool)], grantee: &Name) -> bool
 /// Whether the object privilege is granted to the grantee directly.
 #[tactic(auto, using(crate::proofs::AtPlaces::object_at, crate::proofs::AtPlaces::no_object))]
 pub fn has_object(
-    object: &[(Name, TableName, Action)],
+    object: &[ObjectGrant],
     grantee: &Name,
     table: &TableName,
     action: Action,
@@ -163,18 +166,20 @@ pub fn has_object(
 
 /// Whether the entry grants the object privilege to the grantee.
 pub fn is_object_grant(
-    entry: &(Name, TableName, Action),
+    entry: &ObjectGrant,
     grantee: &Name,
     table: &TableName,
     action: Action,
 ) -> bool
     ensures { result ≡ grants_object grantee.now table.now action entry.now }
 {
-    entry.0 == *grantee && is_same_table(&entry.1, table) && is_same_action(entry.2, action)
+    *entry.grantee() == *grantee
+        && is_same_table(entry.table(), table)
+        && is_same_action(entry.action(), action)
 }
 
 #[tactic(auto, using(crate::proofs::AtPlaces::table_at, crate::proofs::AtPlaces::no_table))]
-fn has_some_object(object: &[(Name, TableName, Action)], grantee: &Name, table: &TableName) -> bool
+fn has_some_object(object: &[ObjectGrant], grantee: &Name, table: &TableName) -> bool
     requires order { IsTrue (is_in_order object_before object.now) }
     ensures { result ≡ list_any (grants_some_object grantee.now table.now) object.now }
 {
@@ -182,8 +187,8 @@ fn has_some_object(object: &[(Name, TableName, Action)], grantee: &Name, table: 
     place < object.len() && is_grant_on(&object[place], grantee, table)
 }
 
-fn is_grant_on(entry: &(Name, TableName, Action), grantee: &Name, table: &TableName) -> bool
+fn is_grant_on(entry: &ObjectGrant, grantee: &Name, table: &TableName) -> bool
     ensures { result ≡ grants_some_object grantee.now table.now entry.now }
 {
-    entry.0 == *grantee && is_same_table(&entry.1, table)
+    *entry.grantee() == *grantee && is_same_table(entry.table(), table)
 }

@@ -10,6 +10,9 @@ use crate::change::GrantChange;
 use crate::circle::is_circle;
 use crate::grants::Grants;
 use crate::lists::GrantLists;
+use crate::object_grant::ObjectGrant;
+use crate::role_grant::RoleGrant;
+use crate::system_grant::SystemGrant;
 use au_base::limits::GRANTS;
 use au_base::{Action, List, Memory, Name, Privilege, TableName};
 use std::alloc::Global;
@@ -103,7 +106,7 @@ impl GrantDraft {
     }
 
     /// The grants of system privileges, in order.
-    pub fn system_grants(&self) -> &[(Name, Privilege, bool)]
+    pub fn system_grants(&self) -> &[SystemGrant]
         ensures value { result.now ≡ self.now.system }
         ensures order { IsTrue (is_in_order system_before result.now) }
     {
@@ -111,7 +114,7 @@ impl GrantDraft {
     }
 
     /// The grants of roles, in order.
-    pub fn role_grants(&self) -> &[(Name, Name, bool)]
+    pub fn role_grants(&self) -> &[RoleGrant]
         ensures value { result.now ≡ self.now.role }
         ensures order { IsTrue (is_in_order role_before result.now) }
     {
@@ -119,7 +122,7 @@ impl GrantDraft {
     }
 
     /// The grants of object privileges, in order.
-    pub fn object_grants(&self) -> &[(Name, TableName, Action)]
+    pub fn object_grants(&self) -> &[ObjectGrant]
         ensures value { result.now ≡ self.now.object }
         ensures order { IsTrue (is_in_order object_before result.now) }
     {

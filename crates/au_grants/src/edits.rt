@@ -9,22 +9,26 @@ ghost use Rattle.au_grants.specs.descent.Spacious.{GrowsFrom};
 
 use crate::applying::make_all;
 use crate::change::GrantChange;
+use crate::edit::Edit;
 use crate::granting::make_all_growing;
 use crate::grants::Grants;
 use crate::growing::{FRESH_ENTRIES, GrowingLists};
 use crate::kind::{Kind, count_of};
 use crate::lists::GrantLists;
+use crate::object_grant::ObjectGrant;
+use crate::role_grant::RoleGrant;
 use crate::room::Room;
+use crate::system_grant::SystemGrant;
 use au_base::{Action, List, Memory, Name, Privilege, TableName};
 use std::alloc::Global;
 
 /// Changes, and room for the grants that there are and those that the changes add.
 #[derive(Debug, Drop)]
 pub struct Edits {
-    pub changes: Vec<GrantChange>,
-    pub system: Room<(Name, Privilege, bool)>,
-    pub role: Room<(Name, Name, bool)>,
-    pub object: Room<(Name, TableName, Action)>,
+    pub changes: Vec<Edit>,
+    pub system: Room<SystemGrant>,
+    pub role: Room<RoleGrant>,
+    pub object: Room<ObjectGrant>,
     /// Where there are many changes, vectors for grants that stand apart.
     pub growth: Option<Growth>,
 }
@@ -112,7 +116,7 @@ impl Edits {
 
 // The grants after the changes, one by one, or with the new ones apart where there are vectors for
 // them.
-fn changed(kept: GrantLists, growth: Option<Growth>, changes: Vec<GrantChange>) -> GrantLists
+fn changed(kept: GrantLists, growth: Option<Growth>, changes: Vec<Edit>) -> GrantLists
     requires order { AreInOrder (listed kept) }
     requires room { HasRoom changes.items kept }
     requires growth { MatchOption growth ⊤ (GrowsFrom changes.items kept) }
@@ -125,7 +129,7 @@ fn changed(kept: GrantLists, growth: Option<Growth>, changes: Vec<GrantChange>) 
     }
 }
 
-fn changed_one_by_one(kept: GrantLists, changes: Vec<GrantChange>) -> GrantLists
+fn changed_one_by_one(kept: GrantLists, changes: Vec<Edit>) -> GrantLists
     requires order { AreInOrder (listed kept) }
     requires room { HasRoom changes.items kept }
     ensures after { listed result ≡ applied_all changes.items (listed kept) }
@@ -136,7 +140,7 @@ fn changed_one_by_one(kept: GrantLists, changes: Vec<GrantChange>) -> GrantLists
     lists
 }
 
-fn changed_growing(kept: GrantLists, growth: Growth, changes: Vec<GrantChange>) -> GrantLists
+fn changed_growing(kept: GrantLists, growth: Growth, changes: Vec<Edit>) -> GrantLists
     requires growth { GrowsFrom changes.items kept growth }
     ensures after { listed result ≡ applied_all changes.items (listed kept) }
     ensures order { AreInOrder (listed result) }
@@ -184,12 +188,12 @@ fn growth_of(alloc: Global, system: usize, role: usize, object: usize) -> Result
     Ok(Growth { fresh, moving })
 }
 
-fn copied(alloc: Global, changes: &[GrantChange]) -> Result<Vec<GrantChange>, Memory>
+fn copied(alloc: Global, changes: &[GrantChange]) -> Result<Vec<Edit>, Memory>
     ensures { IfOk result (λ copy. copy.items ≡ changes.now) }
 {
     let mut copy = Vec::new(alloc);
     for change in changes {
-        copy.push(change.clone()?)?;
+        copy.push(Edit::of(alloc, change)?)?;
     }
     Ok(copy)
 }

@@ -5,18 +5,22 @@ ghost use Rattle.au_grants.specs.Changing.{applied, applied_all, with_grant, wit
 ghost use Rattle.au_grants.specs.Holding.{grants_privilege, grants_role, grants_object};
 ghost use Rattle.au_grants.specs.Order.{AreInOrder, object_before, role_before, system_before};
 ghost use Rattle.au_grants.specs.Holding.{grants_privilege_as, grants_role_as};
+ghost use Rattle.au_grants.specs.descent.Boxing.{change_of};
 ghost use Rattle.au_grants.specs.descent.Editing.{listed};
 ghost use Rattle.au_grants.specs.descent.Growing.{AreGrowing, AreReady, HasGrowth, IsRoomy, KeepsGrowth, grown, merged};
 
-use crate::applying::{make, set_privilege_admin, set_role_admin};
-use crate::change::GrantChange;
+use crate::applying::{make_boxed, set_privilege_admin, set_role_admin};
 use crate::direct::{has_object, has_privilege, has_privilege_as, has_role, has_role_as};
+use crate::edit::{BoxedChange, Edit};
 use crate::growing::{GrowingLists, add, join};
+use crate::object_grant::ObjectGrant;
+use crate::role_grant::RoleGrant;
+use crate::system_grant::SystemGrant;
 use au_base::{Action, Name, Privilege, TableName};
 
 /// Makes the changes in their order, and puts the new grants to their places. There is room for the
 /// grants that they add, and the call takes no memory.
-pub fn make_all_growing(lists: &mut GrowingLists, changes: Vec<GrantChange>)
+pub fn make_all_growing(lists: &mut GrowingLists, changes: Vec<Edit>)
     requires ready { AreGrowing lists.old }
     requires room { HasGrowth changes.items lists.old }
     ensures after { listed lists.new.kept ≡ applied_all changes.items (grown lists.old) }
@@ -30,52 +34,58 @@ pub fn make_all_growing(lists: &mut GrowingLists, changes: Vec<GrantChange>)
 }
 
 /// Makes the change. There is room for a grant that it adds, and the call takes no memory.
-pub fn make_growing(lists: &mut GrowingLists, change: GrantChange)
+pub fn make_growing(lists: &mut GrowingLists, edit: Edit)
     requires ready { AreGrowing lists.old }
-    requires room { HasGrowth (change ∷ []) lists.old }
-    ensures after { grown lists.new ≡ applied change (grown lists.old) }
+    requires room { HasGrowth (edit ∷ []) lists.old }
+    ensures after { grown lists.new ≡ applied edit (grown lists.old) }
+    ensures ready { AreGrowing lists.new }
+    ensures room { KeepsGrowth lists.old lists.new }
+{
+    let Edit { change } = edit;
+    make_boxed_growing(lists, change);
+}
+
+// The same of a change whose new grant has its box.
+fn make_boxed_growing(lists: &mut GrowingLists, change: BoxedChange)
+    requires ready { AreGrowing lists.old }
+    requires room { HasGrowth (change_of change ∷ []) lists.old }
+    ensures after { grown lists.new ≡ applied (change_of change) (grown lists.old) }
     ensures ready { AreGrowing lists.new }
     ensures room { KeepsGrowth lists.old lists.new }
 {
     match change {
-        GrantChange::SystemGrant(grantee, privilege, admin) => grant_system(
+        BoxedChange::SystemGrant(grant) => grant_system(
             &mut lists.kept.system,
             &mut lists.fresh.system,
             &mut lists.moving.system,
-            grantee,
-            privilege,
-            admin,
+            grant,
         ),
-        GrantChange::RoleGrant(grantee, role, admin) => grant_role(
+        BoxedChange::RoleGrant(grant) => grant_role(
             &mut lists.kept.role,
             &mut lists.fresh.role,
             &mut lists.moving.role,
-            grantee,
-            role,
-            admin,
+            grant,
         ),
-        GrantChange::ObjectGrant(grantee, table, action) => grant_object(
+        BoxedChange::ObjectGrant(grant) => grant_object(
             &mut lists.kept.object,
             &mut lists.fresh.object,
             &mut lists.moving.object,
-            grantee,
-            table,
-            action,
+            grant,
         ),
         other => make_on_joined(lists, other),
     }
 }
 
 // Makes a change in the lists without new entries apart.
-fn make_on_joined(lists: &mut GrowingLists, change: GrantChange)
+fn make_on_joined(lists: &mut GrowingLists, change: BoxedChange)
     requires ready { AreGrowing lists.old }
-    requires room { HasGrowth (change ∷ []) lists.old }
-    ensures after { grown lists.new ≡ applied change (grown lists.old) }
+    requires room { HasGrowth (change_of change ∷ []) lists.old }
+    ensures after { grown lists.new ≡ applied (change_of change) (grown lists.old) }
     ensures ready { AreGrowing lists.new }
     ensures room { KeepsGrowth lists.old lists.new }
 {
     join_all(lists);
-    make(&mut lists.kept, change);
+    make_boxed(&mut lists.kept, change);
 }
 
 /// The new entries of each kind go to their places. It takes no memory.
@@ -105,34 +115,32 @@ pub fn join_all(lists: &mut GrowingLists)
 }
 
 fn grant_system(
-    kept: &mut Vec<(Name, Privilege, bool)>,
-    fresh: &mut Vec<(Name, Privilege, bool)>,
-    moving: &mut Vec<(Name, Privilege, bool)>,
-    grantee: Name,
-    privilege: Privilege,
-    admin: bool,
+    kept: &mut Vec<SystemGrant>,
+    fresh: &mut Vec<SystemGrant>,
+    moving: &mut Vec<SystemGrant>,
+    grant: SystemGrant,
 )
     requires ready { AreReady system_before fresh.old.items kept.old.items }
     requires none_moving { moving.old.items ≡ [] }
     requires room { IsRoomy (length (merged system_before fresh.old.items kept.old.items) + 1) (vec_capacity kept.old) (vec_capacity moving.old) (vec_capacity fresh.old) (length fresh.old.items) }
-    ensures after { merged system_before fresh.new.items kept.new.items ≡ with_grant system_before (grants_privilege grantee privilege) (grantee, privilege, admin) (merged system_before fresh.old.items kept.old.items) }
+    ensures after { merged system_before fresh.new.items kept.new.items ≡ with_grant system_before (grants_privilege grant.0 grant.1) grant (merged system_before fresh.old.items kept.old.items) }
     ensures ready { AreReady system_before fresh.new.items kept.new.items }
     ensures none_moving { moving.new.items ≡ [] }
     ensures capacity { (vec_capacity kept.new ≡ vec_capacity kept.old) × (vec_capacity fresh.new ≡ vec_capacity fresh.old) × (vec_capacity moving.new ≡ vec_capacity moving.old) }
     ensures fresh_room { length fresh.new.items < vec_capacity fresh.new }
 {
-    if is_system_there(kept, fresh, &grantee, privilege) {
-        set_privilege_admin(kept, &grantee, privilege, admin);
-        set_privilege_admin(fresh, &grantee, privilege, admin);
+    if is_system_there(kept, fresh, grant.grantee(), grant.privilege()) {
+        set_privilege_admin(kept, &grant);
+        set_privilege_admin(fresh, &grant);
     } else {
-        add(kept, fresh, moving, (grantee, privilege, admin));
+        add(kept, fresh, moving, grant);
     }
 }
 
 /// Whether it is granted, among the new grants or the others.
 pub fn is_system_there(
-    kept: &Vec<(Name, Privilege, bool)>,
-    fresh: &Vec<(Name, Privilege, bool)>,
+    kept: &Vec<SystemGrant>,
+    fresh: &Vec<SystemGrant>,
     grantee: &Name,
     privilege: Privilege,
 ) -> bool
@@ -145,8 +153,8 @@ pub fn is_system_there(
 
 /// The same, and with admin option where that is asked.
 pub fn is_system_there_as(
-    kept: &Vec<(Name, Privilege, bool)>,
-    fresh: &Vec<(Name, Privilege, bool)>,
+    kept: &Vec<SystemGrant>,
+    fresh: &Vec<SystemGrant>,
     grantee: &Name,
     privilege: Privilege,
     admin: bool,
@@ -159,34 +167,32 @@ pub fn is_system_there_as(
 }
 
 fn grant_role(
-    kept: &mut Vec<(Name, Name, bool)>,
-    fresh: &mut Vec<(Name, Name, bool)>,
-    moving: &mut Vec<(Name, Name, bool)>,
-    grantee: Name,
-    name: Name,
-    admin: bool,
+    kept: &mut Vec<RoleGrant>,
+    fresh: &mut Vec<RoleGrant>,
+    moving: &mut Vec<RoleGrant>,
+    grant: RoleGrant,
 )
     requires ready { AreReady role_before fresh.old.items kept.old.items }
     requires none_moving { moving.old.items ≡ [] }
     requires room { IsRoomy (length (merged role_before fresh.old.items kept.old.items) + 1) (vec_capacity kept.old) (vec_capacity moving.old) (vec_capacity fresh.old) (length fresh.old.items) }
-    ensures after { merged role_before fresh.new.items kept.new.items ≡ with_grant role_before (grants_role grantee name) (grantee, name, admin) (merged role_before fresh.old.items kept.old.items) }
+    ensures after { merged role_before fresh.new.items kept.new.items ≡ with_grant role_before (grants_role grant.0 grant.1) grant (merged role_before fresh.old.items kept.old.items) }
     ensures ready { AreReady role_before fresh.new.items kept.new.items }
     ensures none_moving { moving.new.items ≡ [] }
     ensures capacity { (vec_capacity kept.new ≡ vec_capacity kept.old) × (vec_capacity fresh.new ≡ vec_capacity fresh.old) × (vec_capacity moving.new ≡ vec_capacity moving.old) }
     ensures fresh_room { length fresh.new.items < vec_capacity fresh.new }
 {
-    if is_role_there(kept, fresh, &grantee, name.as_str()) {
-        set_role_admin(kept, &grantee, &name, admin);
-        set_role_admin(fresh, &grantee, &name, admin);
+    if is_role_there(kept, fresh, grant.grantee(), grant.role().as_str()) {
+        set_role_admin(kept, &grant);
+        set_role_admin(fresh, &grant);
     } else {
-        add(kept, fresh, moving, (grantee, name, admin));
+        add(kept, fresh, moving, grant);
     }
 }
 
 /// Whether it is granted, among the new grants or the others.
 pub fn is_role_there(
-    kept: &Vec<(Name, Name, bool)>,
-    fresh: &Vec<(Name, Name, bool)>,
+    kept: &Vec<RoleGrant>,
+    fresh: &Vec<RoleGrant>,
     grantee: &Name,
     role: &str,
 ) -> bool
@@ -198,8 +204,8 @@ pub fn is_role_there(
 
 /// The same, and with admin option where that is asked.
 pub fn is_role_there_as(
-    kept: &Vec<(Name, Name, bool)>,
-    fresh: &Vec<(Name, Name, bool)>,
+    kept: &Vec<RoleGrant>,
+    fresh: &Vec<RoleGrant>,
     grantee: &Name,
     role: &str,
     admin: bool,
@@ -212,31 +218,29 @@ pub fn is_role_there_as(
 }
 
 fn grant_object(
-    kept: &mut Vec<(Name, TableName, Action)>,
-    fresh: &mut Vec<(Name, TableName, Action)>,
-    moving: &mut Vec<(Name, TableName, Action)>,
-    grantee: Name,
-    table: TableName,
-    action: Action,
+    kept: &mut Vec<ObjectGrant>,
+    fresh: &mut Vec<ObjectGrant>,
+    moving: &mut Vec<ObjectGrant>,
+    grant: ObjectGrant,
 )
     requires ready { AreReady object_before fresh.old.items kept.old.items }
     requires none_moving { moving.old.items ≡ [] }
     requires room { IsRoomy (length (merged object_before fresh.old.items kept.old.items) + 1) (vec_capacity kept.old) (vec_capacity moving.old) (vec_capacity fresh.old) (length fresh.old.items) }
-    ensures after { merged object_before fresh.new.items kept.new.items ≡ with_object (grantee, table, action) (merged object_before fresh.old.items kept.old.items) }
+    ensures after { merged object_before fresh.new.items kept.new.items ≡ with_object grant (merged object_before fresh.old.items kept.old.items) }
     ensures ready { AreReady object_before fresh.new.items kept.new.items }
     ensures none_moving { moving.new.items ≡ [] }
     ensures capacity { (vec_capacity kept.new ≡ vec_capacity kept.old) × (vec_capacity fresh.new ≡ vec_capacity fresh.old) × (vec_capacity moving.new ≡ vec_capacity moving.old) }
     ensures fresh_room { length fresh.new.items < vec_capacity fresh.new }
 {
-    if !is_object_there(kept, fresh, &grantee, &table, action) {
-        add(kept, fresh, moving, (grantee, table, action));
+    if !is_object_there(kept, fresh, grant.grantee(), grant.table(), grant.action()) {
+        add(kept, fresh, moving, grant);
     }
 }
 
 /// Whether it is granted, among the new grants or the others.
 pub fn is_object_there(
-    kept: &Vec<(Name, TableName, Action)>,
-    fresh: &Vec<(Name, TableName, Action)>,
+    kept: &Vec<ObjectGrant>,
+    fresh: &Vec<ObjectGrant>,
     grantee: &Name,
     table: &TableName,
     action: Action,

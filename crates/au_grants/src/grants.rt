@@ -11,8 +11,11 @@ ghost use Rattle.au_grants.specs.Rights.{AdministersPrivilege, AdministersRole, 
 use crate::change::GrantChange;
 use crate::direct::is_granted;
 use crate::holding::first_held;
+use crate::object_grant::ObjectGrant;
 use crate::right::Sought;
+use crate::role_grant::RoleGrant;
 use crate::staged::StagedGrants;
+use crate::system_grant::SystemGrant;
 use au_base::{Action, List, Memory, Name, Privilege, TableName};
 use std::alloc::{AllocError, Global};
 use std::marker::Model;
@@ -24,11 +27,11 @@ use std::marker::Model;
 #[derive(Debug, Drop, PartialEq, Eq)]
 pub struct Grants {
     /// Grants of system privileges. The truth value is the admin option.
-    pub system: List<(Name, Privilege, bool)>,
+    pub system: List<SystemGrant>,
     /// Grants of roles to users and roles. The truth value is the admin option.
-    pub role: List<(Name, Name, bool)>,
+    pub role: List<RoleGrant>,
     /// Grants of object privileges. The action is SELECT, INSERT, UPDATE or DELETE.
-    pub object: List<(Name, TableName, Action)>,
+    pub object: List<ObjectGrant>,
 }
 
 impl Model for Grants {
@@ -77,7 +80,7 @@ impl Grants {
     }
 
     /// The grants of system privileges, in order.
-    pub fn system_grants(&self) -> &[(Name, Privilege, bool)]
+    pub fn system_grants(&self) -> &[SystemGrant]
         ensures value { result.now ≡ self.now.system }
         ensures order { IsTrue (is_in_order system_before result.now) }
     {
@@ -85,7 +88,7 @@ impl Grants {
     }
 
     /// The grants of roles, in order, 100,000 at most.
-    pub fn role_grants(&self) -> &[(Name, Name, bool)]
+    pub fn role_grants(&self) -> &[RoleGrant]
         ensures value { result.now ≡ self.now.role }
         ensures order { IsTrue (is_in_order role_before result.now) }
         ensures few { length result.now ≤ GRANTS }
@@ -94,7 +97,7 @@ impl Grants {
     }
 
     /// The grants of object privileges, in order.
-    pub fn object_grants(&self) -> &[(Name, TableName, Action)]
+    pub fn object_grants(&self) -> &[ObjectGrant]
         ensures value { result.now ≡ self.now.object }
         ensures order { IsTrue (is_in_order object_before result.now) }
     {

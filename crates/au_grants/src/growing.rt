@@ -6,7 +6,10 @@ ghost use Rattle.au_grants.specs.descent.Growing.{AreReady, before_by, merged};
 
 use crate::applying::insert_at;
 use crate::lists::GrantLists;
+use crate::object_grant::ObjectGrant;
 use crate::places::{object_place, role_place, system_place};
+use crate::role_grant::RoleGrant;
+use crate::system_grant::SystemGrant;
 use au_base::{Action, Name, Privilege, TableName};
 
 /// Grants of each kind, new ones that stand apart from them, and room to move them in.
@@ -35,27 +38,27 @@ pub trait Entry: Drop {
         ensures { IsPlaceOf fields (fields self.now) entries.now result };
 }
 
-impl Entry for (Name, Privilege, bool) {
+impl Entry for SystemGrant {
     ghost fields = { Rattle.au_grants.specs.Order.system_fields };
 
     fn place_among(&self, entries: &[Self]) -> usize {
-        system_place(entries, &self.0, self.1)
+        system_place(entries, self.grantee(), self.privilege())
     }
 }
 
-impl Entry for (Name, Name, bool) {
+impl Entry for RoleGrant {
     ghost fields = { Rattle.au_grants.specs.Order.role_fields };
 
     fn place_among(&self, entries: &[Self]) -> usize {
-        role_place(entries, &self.0, self.1.as_str())
+        role_place(entries, self.grantee(), self.role().as_str())
     }
 }
 
-impl Entry for (Name, TableName, Action) {
+impl Entry for ObjectGrant {
     ghost fields = { Rattle.au_grants.specs.Order.object_fields };
 
     fn place_among(&self, entries: &[Self]) -> usize {
-        object_place(entries, &self.0, &self.1, self.2)
+        object_place(entries, self.grantee(), self.table(), self.action())
     }
 }
 

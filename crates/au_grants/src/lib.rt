@@ -7,6 +7,7 @@ mod circle;
 mod course;
 mod direct;
 mod draft;
+mod edit;
 mod edits;
 mod granting;
 mod grants;
@@ -16,11 +17,14 @@ mod kind;
 mod laws;
 mod lists;
 mod lone;
+mod object_grant;
 mod places;
 mod right;
+mod role_grant;
 mod room;
 mod searching;
 mod staged;
+mod system_grant;
 
 pub use change::GrantChange;
 pub use course::Course;
@@ -31,5 +35,8 @@ pub use laws::{
     changes_add_one_grant_at_most, changes_keep_no_circle, changes_keep_order,
     drops_close_no_circle, grants_in_order_come_back,
 };
+pub use object_grant::ObjectGrant;
 pub use right::Sought;
+pub use role_grant::RoleGrant;
 pub use staged::StagedGrants;
+pub use system_grant::SystemGrant;

@@ -5,11 +5,14 @@ ghost use Rattle.au_base.specs.Privileges as privileges;
 ghost use Rattle.au_grants.specs.descent.Halving.{IsPlaceOf};
 ghost use Rattle.au_grants.specs.Order.{fields_before, is_in_order, object_before, object_fields, role_before, role_fields, system_before, system_fields};
 
+use crate::object_grant::ObjectGrant;
+use crate::role_grant::RoleGrant;
+use crate::system_grant::SystemGrant;
 use au_base::{Action, Name, Privilege, TableName};
 
 /// Where the grant of the system privilege stands or has to stand.
 pub fn system_place(
-    system: &[(Name, Privilege, bool)],
+    system: &[SystemGrant],
     grantee: &Name,
     privilege: Privilege,
 ) -> usize
@@ -19,51 +22,51 @@ pub fn system_place(
     system.partition_point(|entry| is_system_before(entry, grantee, privilege))
 }
 
-fn is_system_before(entry: &(Name, Privilege, bool), grantee: &Name, privilege: Privilege) -> bool
+fn is_system_before(entry: &SystemGrant, grantee: &Name, privilege: Privilege) -> bool
     ensures { result ≡ fields_before (system_fields entry.now) (grantee.now ∷ (privileges.code_of privilege ∷ []) ∷ []) }
 {
     entry
-        .0
+        .grantee()
         .cmp(grantee)
-        .then(entry.1.code().cmp(&privilege.code()))
+        .then(entry.privilege().code().cmp(&privilege.code()))
         .is_lt()
 }
 
 /// Where the grant of the role stands or has to stand.
-pub fn role_place(roles: &[(Name, Name, bool)], grantee: &Name, role: &str) -> usize
+pub fn role_place(roles: &[RoleGrant], grantee: &Name, role: &str) -> usize
     requires order { IsTrue (is_in_order role_before roles.now) }
     ensures { IsPlaceOf role_fields (grantee.now ∷ role.now ∷ []) roles.now result }
 {
     roles.partition_point(|entry| is_role_before(entry, grantee, role))
 }
 
-fn is_role_before(entry: &(Name, Name, bool), grantee: &Name, role: &str) -> bool
+fn is_role_before(entry: &RoleGrant, grantee: &Name, role: &str) -> bool
     ensures { result ≡ fields_before (role_fields entry.now) (grantee.now ∷ role.now ∷ []) }
 {
     entry
-        .0
+        .grantee()
         .cmp(grantee)
-        .then(entry.1.as_str().cmp(role))
+        .then(entry.role().as_str().cmp(role))
         .is_lt()
 }
 
 /// Where the first grant of a role to the grantee stands, where there is one.
-pub fn first_role_place(roles: &[(Name, Name, bool)], grantee: &Name) -> usize
+pub fn first_role_place(roles: &[RoleGrant], grantee: &Name) -> usize
     requires order { IsTrue (is_in_order role_before roles.now) }
     ensures { IsPlaceOf role_fields (grantee.now ∷ []) roles.now result }
 {
     roles.partition_point(|entry| is_grantee_before(entry, grantee))
 }
 
-fn is_grantee_before(entry: &(Name, Name, bool), grantee: &Name) -> bool
+fn is_grantee_before(entry: &RoleGrant, grantee: &Name) -> bool
     ensures { result ≡ fields_before (role_fields entry.now) (grantee.now ∷ []) }
 {
-    entry.0 < *grantee
+    *entry.grantee() < *grantee
 }
 
 /// Where the grant of the object privilege stands or has to stand.
 pub fn object_place(
-    object: &[(Name, TableName, Action)],
+    object: &[ObjectGrant],
     grantee: &Name,
     table: &TableName,
     action: Action,
@@ -75,26 +78,27 @@ pub fn object_place(
 }
 
 fn is_object_before(
-    entry: &(Name, TableName, Action),
+    entry: &ObjectGrant,
     grantee: &Name,
     table: &TableName,
     action: Action,
 ) -> bool
     ensures { result ≡ fields_before (object_fields entry.now) (grantee.now ∷ table.now.owner ∷ table.now.name ∷ (actions.code_of action ∷ []) ∷ []) }
 {
+    let on = entry.table();
     entry
-        .0
+        .grantee()
         .cmp(grantee)
-        .then(entry.1.owner.cmp(&table.owner))
-        .then(entry.1.name.cmp(&table.name))
-        .then(entry.2.code().cmp(&action.code()))
+        .then(on.owner.cmp(&table.owner))
+        .then(on.name.cmp(&table.name))
+        .then(entry.action().code().cmp(&action.code()))
         .is_lt()
 }
 
 /// Where the first grant of an object privilege on the table to the grantee stands, where there is
 /// one.
 pub fn first_object_place(
-    object: &[(Name, TableName, Action)],
+    object: &[ObjectGrant],
     grantee: &Name,
     table: &TableName,
 ) -> usize
@@ -104,13 +108,14 @@ pub fn first_object_place(
     object.partition_point(|entry| is_table_before(entry, grantee, table))
 }
 
-fn is_table_before(entry: &(Name, TableName, Action), grantee: &Name, table: &TableName) -> bool
+fn is_table_before(entry: &ObjectGrant, grantee: &Name, table: &TableName) -> bool
     ensures { result ≡ fields_before (object_fields entry.now) (grantee.now ∷ table.now.owner ∷ table.now.name ∷ []) }
 {
+    let on = entry.table();
     entry
-        .0
+        .grantee()
         .cmp(grantee)
-        .then(entry.1.owner.cmp(&table.owner))
-        .then(entry.1.name.cmp(&table.name))
+        .then(on.owner.cmp(&table.owner))
+        .then(on.name.cmp(&table.name))
         .is_lt()
 }

@@ -6,6 +6,7 @@ ghost use Rattle.au_grants.specs.Rights.{IsRoleGranted, Name as Bytes};
 ghost use Rattle.au_grants.specs.descent.Search.{EndAt, IsFirstGrant, IsReach, IsSearch, IsSeen, WentOn, admin_at, grantee_at, mark_at, role_at};
 
 use crate::places::first_role_place;
+use crate::role_grant::RoleGrant;
 use au_base::Name;
 
 /// So many grants of roles are few: a search over them takes places for as many, and over more it
@@ -14,12 +15,7 @@ pub const FEW_ROLES: usize = 1_000;
 
 /// Puts into the queue the places of the first grants of roles to the user and to each role that
 /// the user holds, and gives how many there are. What the marks and the queue held is gone.
-pub fn reach(
-    roles: &[(Name, Name, bool)],
-    user: &Name,
-    marks: &mut [bool],
-    queue: &mut [usize],
-) -> usize
+pub fn reach(roles: &[RoleGrant], user: &Name, marks: &mut [bool], queue: &mut [usize]) -> usize
     requires order { IsTrue (is_in_order role_before roles.now) }
     requires marks { length marks.old ≡ length roles.now }
     requires queue { length roles.now ≤ length queue.old }
@@ -39,7 +35,7 @@ pub fn reach(
 
 // Visits each role that is granted to the grantee of the grant at the place.
 fn visit_granted(
-    roles: &[(Name, Name, bool)],
+    roles: &[RoleGrant],
     place: usize,
     marks: &mut [bool],
     queue: &mut [usize],
@@ -62,7 +58,7 @@ fn visit_granted(
 // Marks the first grant to the name and puts its place into the queue, unless it is marked or
 // there is none.
 fn visit(
-    roles: &[(Name, Name, bool)],
+    roles: &[RoleGrant],
     name: &Name,
     marks: &mut [bool],
     queue: &mut [usize],
@@ -88,7 +84,7 @@ fn visit(
 
 // Marks the first grant to a name and puts its place into the queue.
 fn put(
-    roles: &[(Name, Name, bool)],
+    roles: &[RoleGrant],
     place: usize,
     marks: &mut [bool],
     queue: &mut [usize],
@@ -107,7 +103,7 @@ fn put(
 }
 
 /// Where the grants to the grantee of the grant at the place end.
-pub fn end_of_grants(roles: &[(Name, Name, bool)], place: usize) -> usize
+pub fn end_of_grants(roles: &[RoleGrant], place: usize) -> usize
     requires order { IsTrue (is_in_order role_before roles.now) }
     requires within { place < length roles.now }
     ensures { EndAt roles.now place result }
@@ -122,25 +118,25 @@ pub fn end_of_grants(roles: &[(Name, Name, bool)], place: usize) -> usize
 }
 
 /// The grantee of the grant at the place.
-pub fn grantee_of<'a>(roles: &'a [(Name, Name, bool)], place: usize) -> &'a Name
+pub fn grantee_of<'a>(roles: &'a [RoleGrant], place: usize) -> &'a Name
     requires { place < length roles.now }
     ensures { result.now ≡ grantee_at roles.now place }
 {
-    &roles[place].0
+    roles[place].grantee()
 }
 
 /// The role of the grant at the place.
-pub fn role_of<'a>(roles: &'a [(Name, Name, bool)], place: usize) -> &'a Name
+pub fn role_of<'a>(roles: &'a [RoleGrant], place: usize) -> &'a Name
     requires { place < length roles.now }
     ensures { result.now ≡ role_at roles.now place }
 {
-    &roles[place].1
+    roles[place].role()
 }
 
 /// Whether the grant at the place has the admin option.
-pub fn has_admin(roles: &[(Name, Name, bool)], place: usize) -> bool
+pub fn has_admin(roles: &[RoleGrant], place: usize) -> bool
     requires { place < length roles.now }
     ensures { result ≡ admin_at roles.now place }
 {
-    roles[place].2
+    roles[place].has_admin()
 }

@@ -5,7 +5,7 @@ use Rattle.std.specs.List.{filter}
 use Rattle.au_grants.specs.descent.Direct.{IsGranted}
 use Rattle.au_grants.specs.declared.right.Sought.{Sought}
 use Rattle.au_grants.specs.declared.right.Sought.TheVariants.{Role, RoleWithAdmin, AnyTable}
-use Rattle.au_grants.specs.Rights.{Grants, Name, RoleEntry, IsRoleGranted, IsHolder, HoldsRole}
+use Rattle.au_grants.specs.Rights.{Grants, Name, RoleEntry, IsRoleGranted, IsHolder}
 
 -- the grantee of the grant at the place
 abbrev pub grantee_at : List RoleEntry → ℕ → Name

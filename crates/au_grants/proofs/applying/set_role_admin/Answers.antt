@@ -3,28 +3,32 @@ use Rattle.au_grants.specs.Changing.{with_admin}
 use Rattle.au_grants.specs.descent.Halving.{IsPlaceOf}
 use Rattle.au_grants.specs.Holding.{grants_role}
 use Rattle.au_grants.specs.Order.{role_fields}
-use Rattle.au_grants.specs.Rights.{RoleEntry}
+use Rattle.au_grants.specs.Rights.{Name, RoleEntry}
 use Rattle.au_grants.proofs.Alone.{keeps_other, set_nowhere, set_there, role_whole}
 use Rattle.au_grants.proofs.applying.set_role_admin.Goals as goal
 
 pub returns-then-place-len-clause-items : goal.returns-then-place-len-clause-items
 returns-then-place-len-clause-items c =
-    let test = (grants_role c.args.grantee.now c.args.name.now) in
+    let grant = c.args.grant.now in
+    let test = grants_role grant.0 grant.1 in
     let xs = c.args.entries.now.items in
-    let place = subst (λ (ys : List RoleEntry). IsPlaceOf role_fields (c.args.grantee.now ∷ c.as_str.result.now ∷ []) ys c.role_place-place.result) c.as_slice.ensures.value c.role_place-place.ensures in
+    let among = subst (λ (ys : List RoleEntry). IsPlaceOf role_fields (c.grantee.result.now ∷ c.as_str.result.now ∷ []) ys c.role_place-place.result) c.as_slice.ensures.value c.role_place-place.ensures in
+    let place = subst (λ (n : Name). IsPlaceOf role_fields (n ∷ c.as_str.result.now ∷ []) xs c.role_place-place.result) c.grantee.ensures among in
     let less = c.if-place-len.true in
     let count = c.len.ensures in
     let full = c.args.entries.now.ok.0 in
     let within : c.role_place-place.result < length xs = omega (arith, less, count, full) in
-    set_there role_fields _ test (with_admin test c.args.admin) xs c.role_place-place.result c.index_mut.result.now _ (role_whole _ _ _ c.as_str.ensures) (keeps_other test c.args.admin) c.requires.order place within (c.set_admin_of_role.ensures ∙ ap (with_admin test c.args.admin) c.index_mut.ensures.value)
+    set_there role_fields _ test (with_admin test grant.2) xs c.role_place-place.result c.index_mut.result.now _ (role_whole _ _ _ (c.as_str.ensures ∙ c.role.ensures)) (keeps_other test grant.2) c.requires.order place within (c.set_admin_of_role.ensures ∙ ap (with_admin test grant.2) c.index_mut.ensures.value)
 
 pub returns-else-place-len-clause-items : goal.returns-else-place-len-clause-items
 returns-else-place-len-clause-items c =
-    let test = (grants_role c.args.grantee.now c.args.name.now) in
+    let grant = c.args.grant.now in
+    let test = grants_role grant.0 grant.1 in
     let xs = c.args.entries.now.items in
-    let place = subst (λ (ys : List RoleEntry). IsPlaceOf role_fields (c.args.grantee.now ∷ c.as_str.result.now ∷ []) ys c.role_place-place.result) c.as_slice.ensures.value c.role_place-place.ensures in
+    let among = subst (λ (ys : List RoleEntry). IsPlaceOf role_fields (c.grantee.result.now ∷ c.as_str.result.now ∷ []) ys c.role_place-place.result) c.as_slice.ensures.value c.role_place-place.ensures in
+    let place = subst (λ (n : Name). IsPlaceOf role_fields (n ∷ c.as_str.result.now ∷ []) xs c.role_place-place.result) c.grantee.ensures among in
     let over = c.if-place-len.false in
     let count = c.len.ensures in
     let full = c.args.entries.now.ok.0 in
     let end : length xs ≤ c.role_place-place.result = omega (arith, over, count, full) in
-    set_nowhere role_fields _ test (with_admin test c.args.admin) xs c.role_place-place.result (role_whole _ _ _ c.as_str.ensures) (keeps_other test c.args.admin) c.requires.order place end
+    set_nowhere role_fields _ test (with_admin test grant.2) xs c.role_place-place.result (role_whole _ _ _ (c.as_str.ensures ∙ c.role.ensures)) (keeps_other test grant.2) c.requires.order place end

@@ -1,4 +1,4 @@
-use Rattle.std.proofs.Common.{◌≡◌, ◌∙◌, List, false, subst, sym, arith}
+use Rattle.std.proofs.Common.{◌≡◌, ◌∙◌, List, false, subst, sym}
 use Rattle.std.specs.List.{list_any}
 use Rattle.au_grants.specs.Changing.{role_to}
 use Rattle.au_grants.specs.Rights.{RoleEntry}

@@ -1,4 +1,4 @@
-use Rattle.std.proofs.Common.{◌≡◌, ◌∙◌, length, ap, arith}
+use Rattle.std.proofs.Common.{◌∙◌, length, ap, arith}
 use Rattle.au_grants.specs.Order.{is_in_order, object_before, role_before, system_before}
 use Rattle.au_grants.specs.Rights.{Grants}
 use Rattle.au_grants.proofs.Spaces.{may_grow}
