@@ -1,7 +1,7 @@
 -- Columns that conditions fix: what an equality that is Yes says of its sides, and which conditions of several are Yes.
-use Rattle.std.proofs.Common.{◌≡◌, ◌≢◌, ◌∙◌, ◌<◌, refl, sym, ap, ap₂, subst, ℕ, ℤ, Bool, true, false, not, ◌&&◌, ◌||◌, List, [], ◌∷◌, ◌++◌, map, length, drop, get_or, ◌+◌, add-one, arith}
+use Rattle.std.proofs.Common.{◌≡◌, ◌≢◌, ◌∙◌, ◌<◌, refl, sym, ap, ap₂, ℕ, ℤ, Bool, true, false, not, ◌&&◌, ◌||◌, List, [], ◌∷◌, map, length, drop, get_or, ◌+◌, add-one}
 use Rattle.std.specs.Prelude.{IsTrue, Option, Some, None}
-use Rattle.std.specs.List.{enumerate_from, flat_map, list_all, list_any, slice_get}
+use Rattle.std.specs.List.{list_all, list_any, slice_get}
 use Rattle.std.proofs.Math.Seq.{drop-cons}
 use Rattle.std.specs.declared.cmp.Ordering.{Ordering}
 use Rattle.std.specs.declared.cmp.Ordering.TheVariants.{Less, Equal, Greater}
@@ -10,37 +10,27 @@ use Rattle.std.specs.Cmp.{int_ranks, ranks}
 use Rattle.std.specs.Cmp.Lexicographic.{bytes_decides, slice_cmp}
 use Rattle.std.proofs.lemmas.Map.Text.{is_eq-slice_cmp}
 use Rattle.std.proofs.lemmas.Bool.{and_from, and_parts}
-use Rattle.std.proofs.lemmas.List.Folds.{list_all-append}
 use Rattle.au_base.specs.declared.cell.Cell.{Cell}
 use Rattle.au_base.specs.declared.cell.Cell.TheVariants.{Null, Num, Text, Moment}
 use Rattle.au_base.specs.Truths.{truth_of}
-use Rattle.sql_ast.specs.declared.expression.Expr.{Expr}
-use Rattle.sql_ast.specs.declared.expression.Expr.TheVariants as expr
-use Rattle.sql_ast.specs.declared.expression.Expr.TheOpen as expr_part
-use Rattle.sql_ast.specs.declared.expression.Expr.TheFolds.{fold-roll-Expr}
 use Rattle.sql_ast.specs.declared.expression.Relation.{Relation}
-use Rattle.sql_ast.specs.declared.query.Join.{Join}
 use Rattle.sql_ast.specs.declared.expression.Relation.TheVariants as relation
 use Rattle.au_expr.specs.declared.placed.Place.{Place}
 use Rattle.au_expr.specs.declared.placed.Placed.{Placed}
 use Rattle.au_expr.specs.declared.placed.Placed.TheVariants as tree
 use Rattle.au_expr.specs.declared.placed.Placed.TheOpen as part
 use Rattle.au_expr.specs.declared.placed.Placed.TheFolds.{fold-roll-Placed}
-use Rattle.au_expr.specs.Names.{places}
 use Rattle.au_expr.specs.Operators.{compare_value, compared}
 use Rattle.au_expr.specs.Overflows as overflows
 use Rattle.au_expr.specs.Overflows.{can_overflow}
 use Rattle.au_expr.specs.Placing.{cell_at, cell_or_null, cell_in_row, step, value_at}
 use Rattle.au_expr.specs.Ranges.{AgreeWhereNamed, names_range}
-use Rattle.au_expr.specs.Resolving as resolving
-use Rattle.au_expr.specs.Resolving.{column_at, placed}
-use Rattle.au_expr.specs.Rows.{AreSound, Range}
+use Rattle.au_expr.specs.Rows.{AreSound}
 use Rattle.au_expr.specs.Sessions.{Session}
 use Rattle.au_expr.specs.Values.{Value, Is, Holds, is_met, is_overflow}
 use Rattle.au_query.specs.Combos.{overflows as some_overflows}
 use Rattle.au_query.specs.Fixed.{IsFixed, NeverOverflows}
 use Rattle.au_query.specs.descent.Inside.{IsAlways, IsColumnAt}
-use Rattle.au_query.specs.Queries.{on_of}
 use Rattle.au_query.proofs.Anywhere.{nowhere}
 
 differs : true ≡ false → ⊥
@@ -132,30 +122,12 @@ right_fixed session left right range column c (place, is, in_range, in_column) a
     let yes = met_equal c (cell_at rows place) (sym (ap is_met sides) ∙ lone (is_met (value_at rows session (tree.Compare relation.Equal left right))) met) in
     in_row rows cells place range column c in_range in_column at (sym yes.0) yes.1
 
--- a column alone
-pub placed_column : (ranges : List Range) (written : Option (List ℕ)) (name : List ℕ) (place : Place) → places ranges written name ≡ place ∷ [] → placed ranges (expr.Column written name) ≡ tree.Column place
-placed_column ranges written name place is =
-    ap (placed ranges) (sym (expr.rolls-Column written name)) ∙ fold-roll-Expr Placed (resolving.step ranges) (expr_part.Column written name) ∙ ap column_at is
-
--- an equality is placed by its sides
-pub placed_equal : (ranges : List Range) (asked : Relation) (a b : Expr) → placed ranges (expr.Compare asked a b) ≡ tree.Compare asked (placed ranges a) (placed ranges b)
-placed_equal ranges asked a b = ap (placed ranges) (sym (expr.rolls-Compare asked a b)) ∙ fold-roll-Expr Placed (resolving.step ranges) (expr_part.Compare asked a b)
-
 -- ---- several conditions
 
 -- what some conditions fix, more of them fix
 pub fixed_by_more : (session : Session) (some more : List Placed) (range column : ℕ) (c : Cell)
     → ((test : Placed → Bool) → list_all test more ≡ true → list_all test some ≡ true) → IsFixed session some range column c → IsFixed session more range column c
 fixed_by_more session some more range column c among fixed rows cells met at = fixed rows cells (among (λ (t : Placed). is_met (value_at rows session t)) met) at
-
-pub in_front : (a b : List Placed) (test : Placed → Bool) → list_all test (a ++ b) ≡ true → list_all test a ≡ true
-in_front a b test all = (and_parts (list_all test a) (list_all test b) (sym (list_all-append test a b) ∙ all)).0
-
-pub in_back : (a b : List Placed) (test : Placed → Bool) → list_all test (a ++ b) ≡ true → list_all test b ≡ true
-in_back a b test all = (and_parts (list_all test a) (list_all test b) (sym (list_all-append test a b) ∙ all)).1
-
-pub in_first : (a : Placed) (b : List Placed) (test : Placed → Bool) → list_all test (a ∷ b) ≡ true → list_all test (a ∷ []) ≡ true
-in_first a b test all = and_from (test a) true (and_parts (test a) (list_all test b) all).0 refl
 
 -- the element at hand, and those behind it
 at_hand : {X : Type 0} (xs : List X) (i : ℕ) (x : X) → i < length xs → x ≡ get_or xs i x → drop i xs ≡ x ∷ drop (i + 1) xs
@@ -166,17 +138,6 @@ pub part_at_hand : {X : Type 0} (f : X → Placed) (xs : List X) (i : ℕ) (x : 
 part_at_hand f xs i x within is test all =
     let both = and_parts (test (f x)) (list_all test (map f (drop (i + 1) xs))) (sym (ap (λ (rest : List _). list_all test (map f rest)) (at_hand xs i x within is)) ∙ all) in
     (and_from (test (f x)) true both.0 refl, both.1)
-
-pub on_at_hand : (ranges : List Range) (joins : List Join) (i : ℕ) (join : Join) → i < length joins → join ≡ get_or joins i join
-    → (test : Placed → Bool) → list_all test (flat_map (on_of ranges) (enumerate_from (i + 2) (drop i joins))) ≡ true
-    → (list_all test (on_of ranges (i + 2, join)) ≡ true) × (list_all test (flat_map (on_of ranges) (enumerate_from (i + 1 + 2) (drop (i + 1) joins))) ≡ true)
-on_at_hand ranges joins i join within is test all =
-    let rest = drop (i + 1) joins in
-    let next : (i + 2) + 1 ≡ i + 1 + 2 = omega arith in
-    let parted = ap (λ (xs : List Join). list_all test (flat_map (on_of ranges) (enumerate_from (i + 2) xs))) (at_hand joins i join within is)
-    ∙ list_all-append test (on_of ranges (i + 2, join)) (flat_map (on_of ranges) (enumerate_from ((i + 2) + 1) rest)) in
-    let both = and_parts (list_all test (on_of ranges (i + 2, join))) (list_all test (flat_map (on_of ranges) (enumerate_from ((i + 2) + 1) rest))) (sym parted ∙ all) in
-    (both.0, subst (λ (n : ℕ). list_all test (flat_map (on_of ranges) (enumerate_from n rest)) ≡ true) next both.1)
 
 -- an AND is Yes where its parts are
 pub and_fixed : ((parts : List Placed) (session : Session) (rows : List (List Cell))

@@ -1,6 +1,6 @@
 -- What is left of a comparison gives what the condition does.
 use Rattle.std.proofs.Common.{◌≡◌, ◌∙◌, refl, sym, ap, ℕ, zero, suc, ℤ, Bool, true, false, not, ◌&&◌, ◌||◌, ◌<◌, ◌+◌, List, [], ◌∷◌, ◌++◌, length, map, take, drop, get_or, add-one, ap₂, Option, Some, None, if◌then◌else◌, arith}
-use Rattle.std.specs.Prelude.{IfSome}
+use Rattle.std.specs.Prelude.{IfSome, IsTrue, ◌↔◌}
 use Rattle.std.specs.Borrow.{Bor}
 use Rattle.std.specs.List.{flat_map, list_all, list_any}
 use Rattle.au_base.specs.declared.numbers.RowNo.{RowNo}
@@ -23,7 +23,7 @@ use Rattle.au_query.specs.Combos.{Line, cells_of, lent, lines, passes}
 use Rattle.au_query.specs.declared.cutting.Test.{Test}
 use Rattle.au_query.specs.declared.source.Source.{Source}
 use Rattle.au_query.specs.descent.Inside.{cell_views, found_in, gathered, trees_in_tests}
-use Rattle.au_query.specs.descent.Residuals.{IsResidual, IsSieve, is_left_out, number_of, overflows_behind, residual_value, side_value, sides}
+use Rattle.au_query.specs.descent.Residuals.{IsAlwaysMet, IsResidual, IsSieve, is_left_out, number_of, overflows_behind, residual_value, side_value, sides}
 use Rattle.au_query.specs.declared.residual.Residual.{Residual}
 use Rattle.au_query.specs.declared.residual.Side.TheVariants as side
 
@@ -70,6 +70,11 @@ as_number (Is (Text t)) n e = absurd (cc)
 as_number (Is (Moment m)) n e = absurd (cc)
 as_number (Is (Num m)) n e = ap number (let s : Some m ≡ Some n = e in cc)
 
+-- a sum with NULL has no number
+no_sum : (minus : Bool) (n : ℤ) → number_of (added minus (number n) (Is Null)) ≡ None
+no_sum true n = refl
+no_sum false n = refl
+
 pub met_number : (first : Bool) (r : Relation) (v : Value) (n k : ℤ) → number_of v ≡ Some n → is_met (sides first r v (number k)) ≡ is_met (sides first r (number n) (number k))
 met_number first r v n k e = ap (λ w. is_met (sides first r w (number k))) (as_number v n e)
 
@@ -82,9 +87,22 @@ overflow_is false r (Holds t) k = refl
 overflow_is false r (Is c) k = refl
 
 pub met_by_number : (residual : Residual) (n : ℤ) → residual.side ≡ side.Number n
-    → is_met (sides residual.number_first residual.relation (number n) (number residual.number)) ≡ true
-    → (cells : List Cell) → is_met (residual_value residual cells) ≡ true
-met_by_number residual n is met cells = ap (λ s. is_met (sides residual.number_first residual.relation (side_value s cells) (number residual.number))) is ∙ met
+    → IsTrue (is_met (sides residual.number_first residual.relation (number n) (number residual.number))) ↔ IsAlwaysMet residual
+met_by_number residual n is =
+    let over : (cells : List Cell) → is_met (residual_value residual cells) ≡ is_met (sides residual.number_first residual.relation (number n) (number residual.number)) =
+    λ cells. ap (λ s. is_met (sides residual.number_first residual.relation (side_value s cells) (number residual.number))) is in
+    (λ met cells. over cells ∙ met, λ always. sym (over []) ∙ always [])
+
+-- over a row without cells a column is NULL
+unmet_over_none : (residual : Residual) → number_of (side_value residual.side []) ≡ None → IsTrue false ↔ IsAlwaysMet residual
+unmet_over_none residual none =
+    (λ no. absurd (differs (sym no)), λ always. sym (unmet residual.number_first residual.relation (side_value residual.side []) residual.number none) ∙ always [])
+
+pub unmet_by_column : (residual : Residual) (column : ℕ) → residual.side ≡ side.Column column → IsTrue false ↔ IsAlwaysMet residual
+unmet_by_column residual column is = unmet_over_none residual (ap (λ s. number_of (side_value s [])) is)
+
+pub unmet_by_sum : (residual : Residual) (before : ℤ) (minus : Bool) (column : ℕ) → residual.side ≡ side.Sum before minus column → IsTrue false ↔ IsAlwaysMet residual
+unmet_by_sum residual before minus column is = unmet_over_none residual (ap (λ s. number_of (side_value s [])) is ∙ no_sum minus before)
 
 -- ---- rows that are left out
 

@@ -54,15 +54,6 @@ module _ {X : Type 0} (p : List X → Bool) where
   too_many views front before after none empty all false_is kept =
       subst (λ b. IsKept b after (filter p (product views))) false_is (subst (IsKept all after) (whole views front before none empty) kept)
 
--- more than enough among the first are more than enough among all
-pub more_still : {X : Type 0} (kept one rest whole after : List X) → IsKept false after (kept ++ one) → kept ++ (one ++ rest) ≡ whole → REPLY_ROWS < length whole
-more_still kept one rest whole after many is =
-    let a = length-append kept one in
-    let b = length-append kept (one ++ rest) in
-    let d = length-append one rest in
-    let e = ap length is in
-    omega (arith, many, a, b, d, e)
-
 differs : true ≡ false → ⊥
 differs e = cc
 

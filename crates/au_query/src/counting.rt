@@ -107,8 +107,8 @@ fn passing(
     }
 }
 
-// What is left of WHERE, or of each condition that AND joins in it. `None` where nothing is left of
-// one of them.
+// What is left of WHERE, or of each condition that AND joins in it. `None` where there is no WHERE, or
+// nothing is left of one of them.
 fn comparisons(alloc: Global, conditions: &[Resolved]) -> Result<Option<Vec<Residual>>, Memory>
     ensures { IfOk result (λ found. IfSome found (λ residuals. AreLeft conditions.now residuals.items)) }
 {

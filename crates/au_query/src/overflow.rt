@@ -98,10 +98,14 @@ fn told_by_residuals(tree: &Placed, row: &Row<'_>, rows: &[(RowNo, &[Cell])]) ->
     }
 }
 
-// Whether one of the parts overflows over one of the rows.
+// Whether one of the parts overflows over one of the rows, of which none is gone through before each
+// part is known to leave something.
 fn told_of_parts(parts: &[Placed], row: &Row<'_>, rows: &[(RowNo, &[Cell])]) -> Option<bool>
     ensures { IfSome result (λ found. (session : Session) → found ≡ list_any (overflows_behind session row.now (cells_in rows.now)) parts.now) }
 {
+    for tree in parts {
+        residual_of(tree, row)?;
+    }
     for part in parts {
         let found = told_of_one(part, row, rows)?;
         if found {

@@ -1,6 +1,6 @@
 //! What is left of a comparison over the rows of one more table, where those of the tables before it
 //! are given.
-ghost use Rattle.std.specs.Prelude.{◌≡◌, ◌++◌, ◌∷◌, [], List, IfSome, true};
+ghost use Rattle.std.specs.Prelude.{◌≡◌, ◌↔◌, ◌++◌, ◌∷◌, [], IsTrue, List, IfSome};
 ghost use Rattle.au_base.specs.declared.cell.Cell.{Cell as AnyCell};
 ghost use Rattle.au_expr.specs.Operators.{added, compare_value, sign_value, sum_value};
 ghost use Rattle.au_expr.specs.Operators as operators;
@@ -8,7 +8,7 @@ ghost use Rattle.au_expr.specs.Placing.{cell_or_null, signed_values_at, value_at
 ghost use Rattle.au_expr.specs.Sessions.{Session};
 ghost use Rattle.au_expr.specs.Values as values;
 ghost use Rattle.au_query.specs.descent.Residuals as spec;
-ghost use Rattle.au_query.specs.descent.Residuals.{IsResidual, IsSideOf, IsSieve, are_met_by, number_or_overflow, number_of, residual_value, side_value, sides};
+ghost use Rattle.au_query.specs.descent.Residuals.{IsAlwaysMet, IsResidual, IsSideOf, IsSieve, are_met_by, number_or_overflow, number_of, residual_value, side_value, sides};
 ghost use Rattle.au_query.specs.descent.Inside.{trees_in_tests};
 ghost use Rattle.std.specs.List.{slice_get};
 
@@ -62,11 +62,12 @@ impl Residual {
     // Whether it is Yes over whatever cells, since none of them stands in it.
     #[tactic(auto, using(crate::proofs::Residuals::met_by_number))]
     fn is_always_met(self) -> bool
-        ensures { result ≡ true → (cells : List AnyCell) → values.is_met (residual_value self cells) ≡ true }
+        ensures { IsTrue result ↔ IsAlwaysMet self }
     {
         match self.side {
             Side::Number(number) => self.holds_of(number),
-            _ => false,
+            Side::Column(_column) => false,
+            Side::Sum(_before, _minus, _column) => false,
         }
     }
 

@@ -93,8 +93,8 @@ fn scan<'a>(
     }
 }
 
-// The first of the conditions of which a comparison is left over the last table: none where there are
-// further ones.
+// What is left over the last table of the first condition, ON and WHERE parted at AND, of which
+// something is left that isn't Yes over whatever row. `None` where there are further tables.
 fn last_sieve(tests: &[Test<'_>], row: &Row<'_>, rest: &[Source<'_>]) -> Option<Residual>
     ensures sieve { IfSome result (IsSieve (trees_in_tests tests.now) row.now) }
     ensures last { IfSome result (λ residual. views rest.now ≡ []) }

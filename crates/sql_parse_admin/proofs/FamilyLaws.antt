@@ -25,9 +25,9 @@ use Rattle.sql_parse.specs.Statements as all
 use Rattle.sql_parse.specs.Statements.{IsStatement, IsUnread, Reads}
 use Rattle.sql_parse_admin.specs.declared.statements.Family.{Family}
 use Rattle.sql_parse_admin.specs.declared.statements.Family.TheVariants as family
-use Rattle.sql_parse_admin.specs.Families.{IsOf, altered, created, family_of}
-use Rattle.sql_parse_admin.specs.Unread as unread
-use Rattle.sql_parse_admin.specs.Unread.{HasCode}
+use Rattle.sql_parse_admin.specs.descent.Families.{IsOf, altered, created, family_of}
+use Rattle.sql_parse_admin.specs.descent.Unread as unread
+use Rattle.sql_parse_admin.specs.descent.Unread.{HasCode}
 
 -- ---- each family's first words
 

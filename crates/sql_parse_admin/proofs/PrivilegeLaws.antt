@@ -20,7 +20,7 @@ use Rattle.sql_parse.specs.descent.ReadTables.{past}
 use Rattle.sql_parse.proofs.Exact.{under_some, some_is, chosen, guard, sees_is, Exact, parted_exact}
 use Rattle.sql_parse.proofs.Follow.{OneOf, unseen, Anywhere, past_sound, past_complete}
 use Rattle.sql_parse.proofs.TableLaws.{name_exact, NoComma, name_unseen}
-use Rattle.sql_parse.proofs.ExpressionLaws.{name_complete}
+use Rattle.sql_parse.proofs.ExpressionLaws.{name_complete, name_sound}
 use Rattle.sql_parse.specs.Privileges as g
 use Rattle.sql_parse.specs.Privileges.{words_of, tokens_of}
 use Rattle.sql_parse_admin.specs.descent.ReadPrivileges as privileges
@@ -89,6 +89,15 @@ no_privilege k n o d =
       name_unseen (codes "UPDATE") k n o refl d,
     ) refl
 
+no_name : (i : List Kind) (y : Privilege × List Kind) → privileges.privilege i ≡ Some y → read.name i ≡ None
+no_name i y h = go (read.name i) refl
+  where
+    go : (x : Option (List ℕ × List Kind)) → read.name i ≡ x → read.name i ≡ None
+    go None at = at
+    go (Some x) at =
+        let n = name_sound i x at in
+        let none : privileges.privilege i ≡ None = subst (λ (j : List Kind). privileges.privilege j ≡ None) (sym n.1) (no_privilege n.0 x.0 x.1 n.2) in absurd cc
+
 -- ---- rights without a table
 
 right_exact : Exact g.IsRight privileges.right Anywhere
@@ -96,15 +105,18 @@ unfolding privileges.right
 right_exact = record { sound = sound; complete = complete; shorter = shorter }
   where
     sound : (i : List Kind) (y : Right × List Kind) → privileges.right i ≡ Some y → g.IsRight i y.0 y.1
-    sound i y h = go (privileges.privilege i) refl h
+    sound i y h = go (read.name i) refl h
       where
-        go : (x : Option (Privilege × List Kind)) → privileges.privilege i ≡ x → privileges.role_unless i x ≡ Some y → g.IsRight i y.0 y.1
-        go (Some x) at h = subst (λ (z : Right × List Kind). g.IsRight i z.0 z.1) (some_is (kind.Privilege x.0, x.1) y h) (g.system (privilege_sound i x at))
-        go None at h = let u = under_some kind.Role (read.name i) y h in subst (λ (z : Right × List Kind). g.IsRight i z.0 z.1) u.2 (g.role (name_exact.sound i u.0 u.1))
+        go : (x : Option (List ℕ × List Kind)) → read.name i ≡ x → privileges.role_or i x ≡ Some y → g.IsRight i y.0 y.1
+        go (Some x) at h = subst (λ (z : Right × List Kind). g.IsRight i z.0 z.1) (some_is (kind.Role x.0, x.1) y h) (g.role (name_exact.sound i x at))
+        go None at h =
+            let u = under_some kind.Privilege (privileges.privilege i) y h in
+            subst (λ (z : Right × List Kind). g.IsRight i z.0 z.1) u.2 (g.system (privilege_sound i u.0 u.1))
 
     complete : (i o : List Kind) (x : Right) → g.IsRight i x o → Anywhere o → privileges.right i ≡ Some (x, o)
-    complete i o x (g.system (g.privilege {p = q})) f = rw (each_read q o) refl
-    complete i o x (g.role (rules.name {k = k} {n = n} d)) f = rw (no_privilege k n o d, name_complete k n o d) refl
+    complete i o x (g.system (g.privilege {p = q})) f =
+        let there : privileges.privilege i ≡ Some (q, o) = each_read q o in rw (no_name i (q, o) there, there) refl
+    complete i o x (g.role (rules.name {k = k} {n = n} d)) f = rw (name_complete k n o d) refl
 
     shorter : (i o : List Kind) (x : Right) → g.IsRight i x o → length o < length i
     shorter i o x (g.system (g.privilege {p = q})) = each_longer q o

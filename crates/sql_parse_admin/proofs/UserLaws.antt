@@ -13,7 +13,6 @@ use Rattle.sql_ast.specs.declared.administration.Password.{Password}
 use Rattle.sql_ast.specs.declared.statement.Statement.{Statement}
 use Rattle.sql_ast.specs.declared.statement.Statement.TheVariants as statement
 use Rattle.sql_parse.specs.Symbols.{kinds, sees}
-use Rattle.sql_parse.specs.Rules.{written}
 use Rattle.sql_parse.specs.Expressions.{IsName}
 use Rattle.sql_parse.specs.descent.Reading as read
 use Rattle.sql_parse.specs.descent.Reading.{Gives, ◌>>=◌, expect}

@@ -1,7 +1,10 @@
 -- The words of a name, and the first name whose words come next.
-use Rattle.std.proofs.Common.{◌≡◌, List, [], ◌∷◌, ◌++◌, ℕ, Bool, true, false, cond, Option, Some, None, refl, sym, ap, subst, ◌∙◌, length, arith, lit<, Bor, eqb}
-use Rattle.std.specs.List.{position_or_len, after_first}
-use Rattle.std.proofs.lemmas.List.Splits.{slice_split_first}
+use Rattle.std.proofs.Common.{◌≡◌, ◌≤◌, List, [], ◌∷◌, ◌++◌, ℕ, Bool, true, false, cond, Option, Some, None, refl, sym, ap, subst, ◌∙◌, length, arith, lit<, Bor, eqb}
+use Rattle.std.specs.List.{position_or_len, after_first, join_with_byte, starts_with}
+use Rattle.std.proofs.lemmas.Bool.Decides.{Decides-eqb}
+use Rattle.std.proofs.lemmas.List.{append-nil}
+use Rattle.std.proofs.lemmas.List.Splits.{slice_split_first, length-slice_split, join_with_byte-slice_split}
+use Rattle.std.proofs.lemmas.Slice.Eq.{starts_is}
 use Rattle.std.proofs.lemmas.Str.Pattern.{IsSplitOnceResult, split_once_first}
 use Rattle.sql_lex.specs.declared.token.Kind.{Kind}
 use Rattle.sql_lex.specs.declared.token.Kind.TheVariants.{Word}
@@ -9,7 +12,7 @@ use Rattle.sql_parse.specs.Privileges.{tokens_of, words}
 use Rattle.sql_parse.specs.Symbols.{sees}
 use Rattle.sql_parse.specs.descent.Reading.{behind, expect}
 use Rattle.sql_parse.proofs.Exact.{some_is, guard, sees_is}
-use Rattle.sql_parse_admin.specs.descent.ReadWords.{past_words, found_or, first_of}
+use Rattle.sql_parse_admin.specs.descent.ReadWords.{begins, past_words, found_or, first_of}
 
 -- ---- the words of a name
 
@@ -47,6 +50,32 @@ next_word name w ws i o parts is = rw parts (go (sees (Word w) i) is)
     go : (t : Bool) → cond t (Some (behind i)) None ≡ Some o → cond t (past_words ws (behind i)) None ≡ past_words ws o
     go true e = cc
     go false e = absurd cc
+
+-- ---- a name that begins with another word
+
+first_front : (w : List ℕ) (ws : List (List ℕ)) → (rest : List ℕ) × (join_with_byte 32 (w ∷ ws) ≡ w ++ rest)
+first_front w [] = ([], sym (append-nil w))
+first_front w (v ∷ ws) = (32 ∷ join_with_byte 32 (v ∷ ws), refl)
+
+first_unseen : (name w rest : List ℕ) (i : List Kind) → name ≡ w ++ rest → begins name i ≡ false → sees (Word w) i ≡ false
+first_unseen name w rest i whole h = go (sees (Word w) i) refl
+  where
+    go : (b : Bool) → sees (Word w) i ≡ b → b ≡ false
+    go false s = refl
+    go true s =
+        let other : starts_with (λ a b. eqb a b) name w ≡ false = subst (λ (j : List Kind). begins name j ≡ false) (sees_is (Word w) i s) h in
+        let front : starts_with (λ a b. eqb a b) name w ≡ true = (starts_is Decides-eqb name w (starts_with (λ a b. eqb a b) name w) refl).1 rest whole in absurd cc
+
+pub not_begun : (name : List ℕ) (i : List Kind) → begins name i ≡ false → past_words (words name) i ≡ None
+not_begun name i h = go (words name) refl
+  where
+    go : (ws : List (List ℕ)) → words name ≡ ws → past_words ws i ≡ None
+    go [] parts =
+        let some : 1 ≤ length (words name) = omega (arith, length-slice_split (λ b. eqb b 32) name) in absurd (omega (arith, rw parts at some))
+    go (w ∷ ws) parts =
+        let f = first_front w ws in
+        let whole : name ≡ w ++ f.0 = sym (join_with_byte-slice_split 32 name) ∙ ap (λ (xs : List (List ℕ)). join_with_byte 32 xs) parts ∙ f.1 in
+        rw (first_unseen name w f.0 i whole h) refl
 
 -- ---- the first name whose words come next
 

@@ -1,4 +1,2 @@
-pub mod Families
 pub mod Passwords
-pub mod Unread
 pub mod descent

@@ -1,3 +1,4 @@
+pub mod Families
 pub mod ReadAudits
 pub mod ReadGrants
 pub mod ReadPolicies
@@ -6,3 +7,4 @@ pub mod ReadStatements
 pub mod ReadTableDefinitions
 pub mod ReadUsers
 pub mod ReadWords
+pub mod Unread

@@ -1,13 +1,12 @@
 //! The actions of audit policies.
 ghost use Rattle.std.specs.Option.{option_map};
 ghost use Rattle.std.specs.Prelude.{◌≡◌};
+ghost use Rattle.au_base.specs.Actions;
 ghost use Rattle.sql_parse.specs.Symbols.{kinds};
 ghost use Rattle.sql_parse.specs.descent.Reading.{Gives};
-ghost use Rattle.sql_parse.specs.PolicyStatements.{words_of_action};
 ghost use Rattle.sql_parse_admin.specs.descent.ReadPolicies as spec;
-ghost use Rattle.sql_parse_admin.specs.descent.ReadWords as words;
 
-use crate::words::past_name;
+use crate::words::{Named, first_of};
 use au_base::{Action, List, TableReference};
 use sql_ast::ActionPart;
 use sql_lex::Token;
@@ -86,15 +85,10 @@ fn action(tokens: &[Token]) -> Option<(Action, &[Token])>
     first_of(&Action::EACH, tokens)
 }
 
-// The first of the actions whose words come next.
-fn first_of<'t>(mut actions: &[Action], tokens: &'t [Token]) -> Option<(Action, &'t [Token])>
-    ensures { option_map (λ x. (x.0, kinds x.1.now)) result ≡ words.first_of words_of_action actions.entry.now (kinds tokens.now) }
-{
-    while let [action, others @ ..] = actions {
-        if let Some(rest) = past_name(tokens, action.name()) {
-            return Some((*action, rest));
-        }
-        actions = others;
+impl Named for Action {
+    ghost name_of = { Actions.name_of };
+
+    fn name(self) -> &'static str {
+        Action::name(self)
     }
-    None
 }

@@ -1,13 +1,12 @@
 //! What is granted: system privileges, roles, and rights on a table.
 ghost use Rattle.std.specs.Option.{option_map};
 ghost use Rattle.std.specs.Prelude.{◌≡◌};
+ghost use Rattle.au_base.specs.Privileges;
 ghost use Rattle.sql_parse.specs.Symbols.{kinds};
 ghost use Rattle.sql_parse.specs.descent.Reading.{Gives};
-ghost use Rattle.sql_parse.specs.Privileges.{words_of};
 ghost use Rattle.sql_parse_admin.specs.descent.ReadPrivileges as spec;
-ghost use Rattle.sql_parse_admin.specs.descent.ReadWords as words;
 
-use crate::words::past_name;
+use crate::words::{Named, first_of};
 use au_base::{List, ObjectRight, Privilege, Right};
 use sql_lex::Token;
 use sql_parse::Stop;
@@ -21,12 +20,14 @@ use std::alloc::Global;
 pub fn right(alloc: Global, tokens: &[Token]) -> Result<(Right, &[Token]), Stop>
     ensures { Gives (λ x. (x.0, kinds x.1.now)) result (spec.right (kinds tokens.now)) }
 {
-    match privilege(tokens) {
-        Some((found, rest)) => Ok((Right::Privilege(found), rest)),
-        None => {
-            let (role, rest) = name(alloc, tokens)?;
-            Ok((Right::Role(role), rest))
+    // A privilege begins with a reserved word, which is no name.
+    match name(alloc, tokens) {
+        Ok((role, rest)) => Ok((Right::Role(role), rest)),
+        Err(Stop::Unread) => {
+            let (found, rest) = privilege(tokens).ok_or(Stop::Unread)?;
+            Ok((Right::Privilege(found), rest))
         }
+        Err(Stop::Memory) => Err(Stop::Memory),
     }
 }
 
@@ -99,18 +100,10 @@ fn privilege(tokens: &[Token]) -> Option<(Privilege, &[Token])>
     first_of(&Privilege::EACH, tokens)
 }
 
-// The first of the privileges whose words come next.
-fn first_of<'t>(
-    mut privileges: &[Privilege],
-    tokens: &'t [Token],
-) -> Option<(Privilege, &'t [Token])>
-    ensures { option_map (λ x. (x.0, kinds x.1.now)) result ≡ words.first_of words_of privileges.entry.now (kinds tokens.now) }
-{
-    while let [privilege, others @ ..] = privileges {
-        if let Some(rest) = past_name(tokens, privilege.name()) {
-            return Some((*privilege, rest));
-        }
-        privileges = others;
+impl Named for Privilege {
+    ghost name_of = { Privileges.name_of };
+
+    fn name(self) -> &'static str {
+        Privilege::name(self)
     }
-    None
 }

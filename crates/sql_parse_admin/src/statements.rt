@@ -7,8 +7,8 @@ ghost use Rattle.sql_parse.specs.Conditions.{opens_few};
 ghost use Rattle.sql_parse.specs.Symbols.{kinds};
 ghost use Rattle.sql_parse.specs.Whole.{Finds};
 ghost use Rattle.sql_parse.specs.Statements.{IsStatement, IsUnread, Reads};
-ghost use Rattle.sql_parse_admin.specs.Families.{IsOf, altered, created, family_of};
-ghost use Rattle.sql_parse_admin.specs.Unread.{HasCode};
+ghost use Rattle.sql_parse_admin.specs.descent.Families.{IsOf, altered, created, family_of};
+ghost use Rattle.sql_parse_admin.specs.descent.Unread.{HasCode};
 
 use crate::audits::{audit_statement, one_audit_statement};
 use crate::policies::{one_policy_statement, policy_statement};
@@ -116,7 +116,7 @@ fn statement_of(
     }
 }
 
-#[tactic(auto, unfolding(crate::specs::Families::family_of))]
+#[tactic(auto, unfolding(crate::specs::descent::Families::family_of))]
 fn family_of(tokens: &[Token]) -> Family
     ensures { result ≡ family_of (kinds tokens.now) }
 {
@@ -142,7 +142,7 @@ fn family_of(tokens: &[Token]) -> Family
 }
 
 // What CREATE creates, by the next word.
-#[tactic(auto, unfolding(crate::specs::Families::created))]
+#[tactic(auto, unfolding(crate::specs::descent::Families::created))]
 fn created(tokens: &[Token]) -> Family
     ensures { result ≡ created (kinds tokens.now) }
 {
@@ -158,7 +158,7 @@ fn created(tokens: &[Token]) -> Family
 }
 
 // What ALTER alters, by the next word.
-#[tactic(auto, unfolding(crate::specs::Families::altered))]
+#[tactic(auto, unfolding(crate::specs::descent::Families::altered))]
 fn altered(tokens: &[Token]) -> Family
     ensures { result ≡ altered (kinds tokens.now) }
 {

@@ -4,12 +4,12 @@ use Rattle.std.specs.Prelude.{codes, find}
 use Rattle.std.specs.Str.{bytes_eq}
 use Rattle.std.proofs.lemmas.Slice.Eq.{bytes_eq-Decides}
 use Rattle.sql_lex.specs.declared.token.Kind.{Kind}
-use Rattle.sql_lex.specs.declared.token.Kind.TheVariants.{Word}
+use Rattle.sql_lex.specs.declared.token.Kind.TheVariants.{Word, Quoted, Number, Text, Mark}
 use Rattle.sql_ast.specs.declared.call.Parameter.{Parameter}
 use Rattle.sql_ast.specs.declared.call.Parameter.TheVariants as p
 use Rattle.sql_ast.specs.declared.call.Procedure.{Procedure}
 use Rattle.sql_ast.specs.declared.call.Procedure.TheVariants as f
-use Rattle.sql_parse.specs.Symbols.{sees, dot}
+use Rattle.sql_parse.specs.Symbols.{sees, dot, is_free, is_reserved}
 use Rattle.sql_parse.specs.Expressions.{IsName, quoted, word}
 use Rattle.sql_parse.specs.Tables.{Name, name}
 use Rattle.sql_parse.specs.descent.Reading as read
@@ -70,6 +70,62 @@ parameter_of_complete p.AuditColumnOpts = refl
 parameter_of_complete p.AuditTrailType = refl
 parameter_of_complete p.LastArchiveTime = refl
 parameter_of_complete p.UseLastArchTimestamp = refl
+
+-- ---- a word or a quoted name as one of the names, which are no reserved words
+
+package_free : (x : Procedure) → is_free (package_of x) ≡ true
+unfolding is_reserved
+package_free f.AddPolicy = refl
+package_free f.DropPolicy = refl
+package_free f.EnablePolicy = refl
+package_free f.DisablePolicy = refl
+package_free f.SetLastArchiveTimestamp = refl
+package_free f.ClearLastArchiveTimestamp = refl
+package_free f.CleanAuditTrail = refl
+
+procedure_free : (x : Procedure) → is_free (procedure_name x) ≡ true
+unfolding is_reserved
+procedure_free f.AddPolicy = refl
+procedure_free f.DropPolicy = refl
+procedure_free f.EnablePolicy = refl
+procedure_free f.DisablePolicy = refl
+procedure_free f.SetLastArchiveTimestamp = refl
+procedure_free f.ClearLastArchiveTimestamp = refl
+procedure_free f.CleanAuditTrail = refl
+
+parameter_free : (x : Parameter) → is_free (parameter_name x) ≡ true
+unfolding is_reserved
+parameter_free p.ObjectSchema = refl
+parameter_free p.ObjectName = refl
+parameter_free p.PolicyName = refl
+parameter_free p.AuditCondition = refl
+parameter_free p.AuditColumn = refl
+parameter_free p.HandlerSchema = refl
+parameter_free p.HandlerModule = refl
+parameter_free p.Enable = refl
+parameter_free p.StatementTypes = refl
+parameter_free p.AuditColumnOpts = refl
+parameter_free p.AuditTrailType = refl
+parameter_free p.LastArchiveTime = refl
+parameter_free p.UseLastArchTimestamp = refl
+
+spelled_sound : (i : List Kind) (y : List ℕ × List Kind) → calls.spelled i ≡ Some y → is_free y.0 ≡ true → Name i y.0 y.1
+unfolding calls.spelled
+spelled_sound [] y h free = absurd cc
+spelled_sound (Word w ∷ o) y h free = subst (λ (z : List ℕ × List Kind). is_free z.0 ≡ true → Name (Word w ∷ o) z.0 z.1) (some_is (w, o) y h) (λ known. name (word known)) free
+spelled_sound (Quoted n ∷ o) y h free = subst (λ (z : List ℕ × List Kind). Name (Quoted n ∷ o) z.0 z.1) (some_is (n, o) y h) (name quoted)
+spelled_sound (Number n ∷ o) y h free = absurd cc
+spelled_sound (Text t ∷ o) y h free = absurd cc
+spelled_sound (Mark m ∷ o) y h free = absurd cc
+
+spelled_as : (i : List Kind) (y : List ℕ × List Kind) (n : List ℕ) → calls.spelled i ≡ Some y → y.0 ≡ n → is_free n ≡ true → Name i n y.1
+spelled_as i y n h same free =
+    subst (λ (w : List ℕ). Name i w y.1) same (spelled_sound i y h (subst (λ (w : List ℕ). is_free w ≡ true) (sym same) free))
+
+spelled_complete : (i o : List Kind) (n : List ℕ) → Name i n o → calls.spelled i ≡ Some (n, o)
+unfolding calls.spelled
+spelled_complete i o n (name quoted) = refl
+spelled_complete i o n (name (word free)) = refl
 
 -- ---- name . name
 
@@ -134,19 +190,21 @@ pub record ProcedureOf (i : List Kind) (y : Procedure × List Kind) : Type 0 whe
 pub procedure_sound : (i : List Kind) (y : Procedure × List Kind) → calls.procedure i ≡ Some y → ProcedureOf i y
 unfolding calls.procedure
 procedure_sound i y h =
-    let a = bind_some (calls.dotted (calls.past_owner i)) (λ n. calls.procedure_of n.0.0 n.0.1 >>= λ x. Some (x, n.1)) y h in
-    let b = bind_some (calls.procedure_of a.0.0.0 a.0.0.1) (λ x. Some (x, a.0.1)) y a.2 in
-    let d = dotted_sound (calls.past_owner i) a.0 a.1 in
-    let n = procedure_of_sound a.0.0.0 a.0.0.1 b.0 b.1 in
-    let qualifier : Name (calls.past_owner i) (package_of b.0) (dot ∷ d.0) = subst (λ (w : List ℕ). Name (calls.past_owner i) w (dot ∷ d.0)) n.0 d.1 in
-    let procedure : Name d.0 (procedure_name b.0) a.0.1 = subst (λ (w : List ℕ). Name d.0 w a.0.1) n.1 d.2 in
-    subst (λ (z : Procedure × List Kind). ProcedureOf i z) (some_is (b.0, a.0.1) y b.2)
-    (record { named = calls.past_owner i; rest = d.0; owner = owner_sound i; qualifier = qualifier; procedure = procedure })
+    let a = bind_some (calls.spelled (calls.past_owner i)) (λ q. expect dot q.1 >>= λ j. calls.spelled j >>= λ n. calls.procedure_of q.0 n.0 >>= λ x. Some (x, n.1)) y h in
+    let b = bind_some (expect dot a.0.1) (λ j. calls.spelled j >>= λ n. calls.procedure_of a.0.0 n.0 >>= λ x. Some (x, n.1)) y a.2 in
+    let c = bind_some (calls.spelled b.0) (λ n. calls.procedure_of a.0.0 n.0 >>= λ x. Some (x, n.1)) y b.2 in
+    let d = bind_some (calls.procedure_of a.0.0 c.0.0) (λ x. Some (x, c.0.1)) y c.2 in
+    let n = procedure_of_sound a.0.0 c.0.0 d.0 d.1 in
+    let first : Name (calls.past_owner i) (package_of d.0) a.0.1 = spelled_as (calls.past_owner i) a.0 (package_of d.0) a.1 n.0 (package_free d.0) in
+    let qualifier : Name (calls.past_owner i) (package_of d.0) (dot ∷ b.0) = subst (λ (o : List Kind). Name (calls.past_owner i) (package_of d.0) o) (expect_is dot a.0.1 b.0 b.1) first in
+    let procedure : Name b.0 (procedure_name d.0) c.0.1 = spelled_as b.0 c.0 (procedure_name d.0) c.1 n.1 (procedure_free d.0) in
+    subst (λ (z : Procedure × List Kind). ProcedureOf i z) (some_is (d.0, c.0.1) y d.2)
+    (record { named = calls.past_owner i; rest = b.0; owner = owner_sound i; qualifier = qualifier; procedure = procedure })
 
 pub procedure_complete : (i j m o : List Kind) (x : Procedure) → Owner i j → Name j (package_of x) (dot ∷ m) → Name m (procedure_name x) o → calls.procedure i ≡ Some (x, o)
 unfolding calls.procedure
 procedure_complete i j m o x s d e =
-    rw (owner_complete i j (dot ∷ m) x s d, dotted_complete j m o (package_of x) (procedure_name x) d e, procedure_of_complete x) refl
+    rw (owner_complete i j (dot ∷ m) x s d, spelled_complete j (dot ∷ m) (package_of x) d, spelled_complete m o (procedure_name x) e, procedure_of_complete x) refl
 
 -- ---- parameters
 
@@ -159,10 +217,10 @@ parameter_exact = record { sound = sound; complete = complete; shorter = λ i o 
   where
     sound : (i : List Kind) (y : Parameter × List Kind) → calls.parameter i ≡ Some y → IsParameter i y.0 y.1
     sound i y h =
-        let a = bind_some (read.name i) (λ n. calls.parameter_of n.0 >>= λ x. Some (x, n.1)) y h in
+        let a = bind_some (calls.spelled i) (λ n. calls.parameter_of n.0 >>= λ x. Some (x, n.1)) y h in
         let b = bind_some (calls.parameter_of a.0.0) (λ x. Some (x, a.0.1)) y a.2 in
         subst (λ (z : Parameter × List Kind). IsParameter i z.0 z.1) (some_is (b.0, a.0.1) y b.2)
-        (subst (λ (w : List ℕ). Name i w a.0.1) (parameter_of_sound a.0.0 b.0 b.1) (name_exact.sound i a.0 a.1))
+        (spelled_as i a.0 (parameter_name b.0) a.1 (parameter_of_sound a.0.0 b.0 b.1) (parameter_free b.0))
 
     complete : (i o : List Kind) (x : Parameter) → IsParameter i x o → Anywhere o → calls.parameter i ≡ Some (x, o)
-    complete i o x d at = rw (name_exact.complete i o (parameter_name x) d tt, parameter_of_complete x) refl
+    complete i o x d at = rw (spelled_complete i o (parameter_name x) d, parameter_of_complete x) refl

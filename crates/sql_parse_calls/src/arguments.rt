@@ -44,7 +44,7 @@ impl Part for ArgumentPart {
 fn argument(alloc: Global, tokens: &[Token]) -> Result<(Argument, &[Token]), Stop>
     ensures { Gives (λ x. (x.0, kinds x.1.now)) result (spec.argument (kinds tokens.now)) }
 {
-    let (parameter, rest) = parameter(alloc, tokens)?;
+    let (parameter, rest) = parameter(tokens).ok_or(Stop::Unread)?;
     let rest = expect_mark(rest, Mark::Arrow).ok_or(Stop::Unread)?;
     let (value, rest) = value(alloc, rest)?;
     Ok((Argument { parameter, value }, rest))

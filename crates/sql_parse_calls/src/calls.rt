@@ -60,7 +60,7 @@ fn block(alloc: Global, tokens: &[Token]) -> Result<(Statement, &[Token]), Stop>
 fn call(alloc: Global, tokens: &[Token]) -> Result<(Call, &[Token]), Stop>
     ensures { Gives (λ x. (x.0, kinds x.1.now)) result (spec.call (kinds tokens.now)) }
 {
-    let (procedure, rest) = procedure(alloc, tokens)?;
+    let (procedure, rest) = procedure(tokens).ok_or(Stop::Unread)?;
     let rest = expect_mark(rest, Mark::OpenParenthesis).ok_or(Stop::Unread)?;
     let (arguments, rest) = arguments(alloc, rest)?;
     let rest = expect_mark(rest, Mark::CloseParenthesis).ok_or(Stop::Unread)?;

@@ -1,6 +1,7 @@
 //! The procedures of packages: their names, and what they can be given.
 ghost use Rattle.std.specs.Prelude.{◌≡◌, ◌==◌, ◌++◌, map, find};
 ghost use Rattle.std.specs.List.{list_all};
+ghost use Rattle.std.specs.Option.{option_map};
 ghost use Rattle.sql_parse.specs.Symbols.{kinds};
 ghost use Rattle.sql_parse.specs.descent.Reading.{Gives};
 ghost use Rattle.sql_parse.specs.CallStatements as call;
@@ -8,30 +9,30 @@ ghost use Rattle.sql_parse_calls.specs.descent.ReadCalls as spec;
 
 use au_base::Name;
 use sql_ast::{Argument, Parameter, Procedure};
-use sql_lex::{Mark, Token};
+use sql_lex::{Kind, Mark, Token};
 use sql_parse::Stop;
 use sql_parse::cursor::{behind, expect_mark, sees_mark, sees_word};
 use sql_parse::names::name;
 use std::alloc::Global;
 
-/// `[SYS .] name . name`, the names of a package and its procedure.
+/// `[SYS .] name . name`, the names of a package and its procedure. It takes no memory.
 #[tactic(auto, unfolding(crate::specs::descent::ReadCalls::procedure))]
-pub fn procedure(alloc: Global, tokens: &[Token]) -> Result<(Procedure, &[Token]), Stop>
-    ensures { Gives (λ x. (x.0, kinds x.1.now)) result (spec.procedure (kinds tokens.now)) }
+pub fn procedure(tokens: &[Token]) -> Option<(Procedure, &[Token])>
+    ensures { option_map (λ x. (x.0, kinds x.1.now)) result ≡ spec.procedure (kinds tokens.now) }
 {
-    let ((qualifier, name), rest) = dotted(alloc, past_owner(tokens))?;
-    let found = procedure_of(qualifier.as_bytes(), name.as_bytes()).ok_or(Stop::Unread)?;
-    Ok((found, rest))
+    let (qualifier, rest) = spelled(past_owner(tokens))?;
+    let rest = expect_mark(rest, Mark::Period)?;
+    let (name, rest) = spelled(rest)?;
+    Some((procedure_of(qualifier, name)?, rest))
 }
 
-/// The name of a parameter.
+/// The name of a parameter. It takes no memory.
 #[tactic(auto, unfolding(crate::specs::descent::ReadCalls::parameter))]
-pub fn parameter(alloc: Global, tokens: &[Token]) -> Result<(Parameter, &[Token]), Stop>
-    ensures { Gives (λ x. (x.0, kinds x.1.now)) result (spec.parameter (kinds tokens.now)) }
+pub fn parameter(tokens: &[Token]) -> Option<(Parameter, &[Token])>
+    ensures { option_map (λ x. (x.0, kinds x.1.now)) result ≡ spec.parameter (kinds tokens.now) }
 {
-    let (name, rest) = name(alloc, tokens)?;
-    let found = parameter_of(name.as_bytes()).ok_or(Stop::Unread)?;
-    Ok((found, rest))
+    let (name, rest) = spelled(tokens)?;
+    Some((parameter_of(name)?, rest))
 }
 
 /// `name . name`
@@ -52,6 +53,22 @@ pub fn are_taken(procedure: Procedure, arguments: &[Argument]) -> bool
 {
     are_different(arguments)
         && (are_own(procedure, arguments) && are_given(procedure.needed(), arguments))
+}
+
+// The bytes of the word or quoted name that comes next. A reserved word is none of the names that
+// they are compared with.
+#[tactic(auto, unfolding(crate::specs::descent::ReadCalls::spelled))]
+fn spelled(tokens: &[Token]) -> Option<(&[u8], &[Token])>
+    ensures { option_map (λ x. (x.0.now, kinds x.1.now)) result ≡ spec.spelled (kinds tokens.now) }
+{
+    let [first, rest @ ..] = tokens else {
+        return None;
+    };
+    match &first.kind {
+        Kind::Word(word) => Some((word.as_bytes(), rest)),
+        Kind::Quoted(name) => Some((name.as_bytes(), rest)),
+        _ => None,
+    }
 }
 
 // The tokens behind SYS and its dot, if they come next.

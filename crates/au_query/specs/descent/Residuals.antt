@@ -1,5 +1,5 @@
 -- What the code holds of a comparison over the rows of one more table. No promise of the crate rests on these.
-use Rattle.std.specs.Prelude.{◌≡◌, ℤ, Bool, true, false, not, List, [], ◌∷◌, ◌++◌, Option, None, Some}
+use Rattle.std.specs.Prelude.{◌≡◌, IsTrue, ℤ, Bool, true, false, not, List, [], ◌∷◌, ◌++◌, Option, None, Some}
 use Rattle.std.specs.List.{list_all, list_any, slice_get}
 use Rattle.au_base.specs.declared.cell.Cell.{Cell}
 use Rattle.au_base.specs.declared.cell.Cell.TheVariants as cell
@@ -44,6 +44,10 @@ sides false relation side number = compare_value relation side number
 -- what the comparison gives over a row of the next table
 abbrev pub residual_value : Residual → List Cell → Value
 residual_value residual cells = sides residual.number_first residual.relation (side_value residual.side cells) (number residual.number)
+
+-- the comparison is Yes over whatever row of the next table
+abbrev pub IsAlwaysMet : Residual → Type 0
+IsAlwaysMet residual = (cells : List Cell) → IsTrue (is_met (residual_value residual cells))
 
 -- the cell at a place of the rows before and of the row behind them
 abbrev pub cell_behind : List (List Cell) → List Cell → Place → Cell

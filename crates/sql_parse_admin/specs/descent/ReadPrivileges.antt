@@ -1,5 +1,5 @@
 -- Reading what is granted by descent: what each function of the code answers.
-use Rattle.std.specs.Prelude.{Bool, not, ◌||◌, ◌&&◌, if◌then◌else◌, List, Option, Some, None, codes}
+use Rattle.std.specs.Prelude.{ℕ, Bool, not, ◌||◌, ◌&&◌, if◌then◌else◌, List, Option, Some, None, codes}
 use Rattle.au_base.specs.declared.grant.ObjectRight.{ObjectRight}
 use Rattle.au_base.specs.declared.grant.ObjectRight.TheVariants as on
 use Rattle.au_base.specs.declared.grant.Right.{Right}
@@ -22,14 +22,14 @@ privilege = first_of words_of each_privilege
 unfoldable pub privileges : Reader (List Privilege)
 privileges = parted comma privilege
 
--- a role, unless a privilege was read
-abbrev pub role_unless : List Kind → Option (Privilege × List Kind) → Option (Right × List Kind)
-role_unless i None = under kind.Role (name i)
-role_unless i (Some x) = Some (kind.Privilege x.0, x.1)
+-- a role, where a name was read, or else a privilege
+abbrev pub role_or : List Kind → Option (List ℕ × List Kind) → Option (Right × List Kind)
+role_or i (Some x) = Some (kind.Role x.0, x.1)
+role_or i None = under kind.Privilege (privilege i)
 
 -- privilege | name
 unfoldable pub right : Reader Right
-right i = role_unless i (privilege i)
+right i = role_or i (name i)
 
 -- SELECT | INSERT | UPDATE | DELETE | ALL [PRIVILEGES]
 unfoldable pub object_right : Reader ObjectRight

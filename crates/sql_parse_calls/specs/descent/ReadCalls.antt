@@ -2,7 +2,7 @@
 use Rattle.std.specs.Prelude.{ℕ, Bool, ◌&&◌, if◌then◌else◌, List, [], ◌∷◌, map, find, Option, Some, None, codes}
 use Rattle.std.specs.Str.{bytes_eq}
 use Rattle.sql_lex.specs.declared.token.Kind.{Kind}
-use Rattle.sql_lex.specs.declared.token.Kind.TheVariants.{Word, Number, Text, Mark}
+use Rattle.sql_lex.specs.declared.token.Kind.TheVariants.{Word, Quoted, Number, Text, Mark}
 use Rattle.sql_lex.specs.declared.token.Mark.TheVariants as mark
 use Rattle.sql_ast.specs.declared.call.Argument.{Argument}
 use Rattle.sql_ast.specs.declared.call.Call.{Call}
@@ -36,6 +36,16 @@ is_named n p = bytes_eq n (parameter_name p)
 unfoldable pub parameter_of : List ℕ → Option Parameter
 parameter_of n = find (is_named n) each_parameter
 
+-- the bytes of a word, reserved or not, or of a quoted name
+abbrev pub spelling : Kind → Option (List ℕ)
+spelling (Word w) = Some w
+spelling (Quoted n) = Some n
+spelling _ = None
+
+unfoldable pub spelled : Reader (List ℕ)
+spelled [] = None
+spelled (k ∷ o) = spelling k >>= λ n. Some (n, o)
+
 -- name . name
 unfoldable pub dotted : Reader (List ℕ × List ℕ)
 dotted i = name i >>= λ p. expect dot p.1 >>= λ j. under (λ n. (p.0, n)) (name j)
@@ -44,12 +54,13 @@ dotted i = name i >>= λ p. expect dot p.1 >>= λ j. under (λ n. (p.0, n)) (nam
 abbrev pub past_owner : List Kind → List Kind
 past_owner i = if sees (Word (codes "SYS")) i && sees dot (behind i) then behind (behind i) else i
 
--- [SYS .] name . name
+-- [SYS .] name . name, none of which is a reserved word
 unfoldable pub procedure : Reader Procedure
-procedure i = dotted (past_owner i) >>= λ n. procedure_of n.0.0 n.0.1 >>= λ f. Some (f, n.1)
+procedure i = spelled (past_owner i) >>= λ q. expect dot q.1 >>= λ j. spelled j >>= λ n. procedure_of q.0 n.0 >>= λ f. Some (f, n.1)
 
+-- a name, which is no reserved word
 unfoldable pub parameter : Reader Parameter
-parameter i = name i >>= λ n. parameter_of n.0 >>= λ p. Some (p, n.1)
+parameter i = spelled i >>= λ n. parameter_of n.0 >>= λ p. Some (p, n.1)
 
 -- ---- arguments
 

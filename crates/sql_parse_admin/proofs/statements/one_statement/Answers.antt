@@ -4,7 +4,7 @@ use Rattle.sql_lex.specs.declared.token.Token.{Token}
 use Rattle.sql_parse.specs.Symbols.{kinds}
 use Rattle.sql_parse_admin.specs.declared.statements.Family.{Family}
 use Rattle.sql_parse_admin.specs.declared.statements.Family.TheVariants as family
-use Rattle.sql_parse_admin.specs.Families.{IsOf, family_of}
+use Rattle.sql_parse_admin.specs.descent.Families.{IsOf, family_of}
 use Rattle.sql_parse_admin.proofs.FamilyLaws.{of_family}
 use Rattle.sql_parse_admin.proofs.statements.one_statement.Goals as goal
 

@@ -6,7 +6,7 @@ use Rattle.sql_ast.specs.declared.statement.Statement.{Statement}
 use Rattle.sql_lex.specs.declared.token.Token.{Token}
 use Rattle.sql_lex.specs.Tokens.{AreTokens}
 use Rattle.sql_parse.specs.Statements.{IsStatement, IsUnread, Reads, too_long, no_tokens}
-use Rattle.sql_parse_admin.specs.Unread.{HasCode}
+use Rattle.sql_parse_admin.specs.descent.Unread.{HasCode}
 use Rattle.sql_parse_admin.proofs.FamilyLaws.{of_text}
 use Rattle.sql_parse_admin.proofs.statements.read.Goals as goal
 

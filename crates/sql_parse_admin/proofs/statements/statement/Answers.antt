@@ -1,12 +1,11 @@
-use Rattle.std.specs.Prelude.{◌≡◌, true, Ok, Err, Result, Option, List, ℕ}
+use Rattle.std.specs.Prelude.{Ok, Err, Result, Option, List, ℕ}
 use Rattle.au_base.specs.declared.memory.Memory.{Memory}
 use Rattle.sql_ast.specs.declared.statement.Statement.{Statement}
 use Rattle.sql_lex.specs.declared.token.Token.{Token}
 use Rattle.sql_parse.specs.Symbols.{kinds}
-use Rattle.sql_parse.specs.Conditions.{opens_few}
 use Rattle.sql_parse.specs.Statements.{IsStatement}
 use Rattle.sql_parse.specs.Whole.{Finds}
-use Rattle.sql_parse_admin.specs.Families.{IsOf, family_of}
+use Rattle.sql_parse_admin.specs.descent.Families.{IsOf, family_of}
 use Rattle.sql_parse_admin.proofs.FamilyLaws.{found_of_all}
 use Rattle.sql_parse_admin.proofs.statements.statement.Goals as goal
 

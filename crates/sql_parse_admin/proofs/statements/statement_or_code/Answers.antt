@@ -1,7 +1,7 @@
 use Rattle.std.specs.Prelude.{◌≡◌, true}
 use Rattle.sql_parse.specs.Conditions.{opens_few}
 use Rattle.sql_parse.specs.Symbols.{kinds}
-use Rattle.sql_parse_admin.specs.Unread.{too_deep, no_statement}
+use Rattle.sql_parse_admin.specs.descent.Unread.{too_deep, no_statement}
 use Rattle.sql_parse_admin.proofs.statements.statement_or_code.Goals as goal
 
 pub returns-then-not-opens_few : goal.returns-then-not-opens_few
