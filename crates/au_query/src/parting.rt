@@ -13,7 +13,8 @@ use std::alloc::Global;
 use std::slice;
 
 /// ON of each join and WHERE, with the places of their columns, in written order; in place of one in
-/// which AND joins conditions, these. `None` where a name or a kind refuses one of them.
+/// which AND joins conditions, these. `None` where AND joins none, and where a name or a kind refuses
+/// one of them.
 pub fn parted(
     alloc: Global,
     select: &Select,
@@ -21,6 +22,9 @@ pub fn parted(
 ) -> Result<Option<Vec<Resolved>>, Memory>
     ensures { IfOk result (λ found. IfSome found (λ parts. AreMetTogether parts.items (conditions_of ranges.now select.now))) }
 {
+    if !has_and(select) {
+        return Ok(None);
+    }
     let mut parts = Vec::new(alloc);
     if !push_ons(alloc, &mut parts, select.from.joins.as_slice(), ranges)? {
         return Ok(None);
@@ -29,6 +33,24 @@ pub fn parted(
         return Ok(None);
     }
     Ok(Some(parts))
+}
+
+// Whether AND joins conditions in some ON or in WHERE, as its outermost operator.
+fn has_and(select: &Select) -> bool {
+    is_and(&select.condition)
+        || select
+            .from
+            .joins
+            .as_slice()
+            .iter()
+            .any(|join| is_and(&join.on))
+}
+
+fn is_and(condition: &Option<Expr>) -> bool {
+    match condition {
+        Some(Expr::And(_)) => true,
+        _ => false,
+    }
 }
 
 fn push_ons(
