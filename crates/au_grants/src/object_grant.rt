@@ -25,7 +25,7 @@ impl Model for ObjectGrant {
 
 impl ObjectGrant {
     /// The grant. Where there is no memory, the names are dropped.
-    pub fn new(
+    pub(crate) fn new(
         alloc: Global,
         grantee: Name,
         table: TableName,

@@ -25,7 +25,12 @@ impl Model for RoleGrant {
 
 impl RoleGrant {
     /// The grant. Where there is no memory, the names are dropped.
-    pub fn new(alloc: Global, grantee: Name, role: Name, admin: bool) -> Result<RoleGrant, Memory>
+    pub(crate) fn new(
+        alloc: Global,
+        grantee: Name,
+        role: Name,
+        admin: bool,
+    ) -> Result<RoleGrant, Memory>
         ensures { IfOk result (λ made. made ≡ (grantee, role, admin)) }
     {
         Ok(RoleGrant {
@@ -56,7 +61,7 @@ impl RoleGrant {
     }
 
     /// Gives it this admin option.
-    pub fn set_admin(&mut self, admin: bool)
+    pub(crate) fn set_admin(&mut self, admin: bool)
         ensures { self.new ≡ (self.old.0, self.old.1, admin) }
     {
         self.admin = admin;

@@ -26,7 +26,7 @@ impl Model for SystemGrant {
 
 impl SystemGrant {
     /// The grant. Where there is no memory, the name is dropped.
-    pub fn new(
+    pub(crate) fn new(
         alloc: Global,
         grantee: Name,
         privilege: Privilege,
@@ -63,7 +63,7 @@ impl SystemGrant {
     }
 
     /// Gives it this admin option.
-    pub fn set_admin(&mut self, admin: bool)
+    pub(crate) fn set_admin(&mut self, admin: bool)
         ensures { self.new ≡ (self.old.0, self.old.1, admin) }
     {
         self.admin = admin;
