@@ -25,7 +25,8 @@ impl Model for Edit {
     ghost view = { λ e. change_of e.change };
 }
 
-/// What changes grants, with the names of a new grant in their box.
+/// What changes grants. The variants are those of `GrantChange`; a new grant of three of them has its
+/// box.
 #[derive(Debug, Drop)]
 pub enum BoxedChange {
     UserGone(Name),

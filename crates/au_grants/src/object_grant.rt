@@ -46,14 +46,14 @@ impl ObjectGrant {
         &self.names.get().0
     }
 
-    /// What it is on.
+    /// The table.
     pub fn table(&self) -> &TableName
         ensures { result.now ≡ self.now.1 }
     {
         &self.names.get().1
     }
 
-    /// What it allows.
+    /// The action.
     pub fn action(&self) -> Action
         ensures { result ≡ self.now.2 }
     {

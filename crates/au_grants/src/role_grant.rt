@@ -46,7 +46,7 @@ impl RoleGrant {
         &self.names.get().0
     }
 
-    /// What it is of.
+    /// The role.
     pub fn role(&self) -> &Name
         ensures { result.now ≡ self.now.1 }
     {

@@ -48,7 +48,7 @@ impl SystemGrant {
         self.grantee.get()
     }
 
-    /// What it is of.
+    /// The privilege.
     pub fn privilege(&self) -> Privilege
         ensures { result ≡ self.now.1 }
     {
