@@ -1,6 +1,5 @@
 -- Chains of role grants.
 use Rattle.std.proofs.Common.{inl, inr, List, [], ◌∷◌, ◌++◌, ◌↔◌, refl, sym, subst}
-use Rattle.std.specs.List.{Contains}
 use Rattle.au_grants.specs.Rights.{Name, RoleEntry, IsRoleGranted, IsChain, HoldsRole, IsHolder}
 
 pub direct : (roles : List RoleEntry) (user role : Name) → IsRoleGranted roles user role → HoldsRole roles user role
@@ -45,22 +44,6 @@ chain_joined roles user held role (first ∷ path) chain more = behind roles use
 -- two chains after one another
 pub joined : (roles : List RoleEntry) (user held role : Name) → HoldsRole roles user held → HoldsRole roles held role → HoldsRole roles user role
 joined roles user held role (path, chain) more = chain_joined roles user held role path chain more
-
--- names that are closed under grants of roles
-abbrev pub IsClosed : List RoleEntry → List Name → Type 0
-IsClosed roles names = (entry : RoleEntry) → Contains roles entry → Contains names entry.0 → Contains names entry.1
-
-chain_within : (roles : List RoleEntry) (names : List Name) (user role : Name) (path : List Name) → IsClosed roles names → Contains names user → IsChain roles user (path ++ role ∷ []) → Contains names role
-chain_within roles names user role [] closed has chain = closed (user, role, chain.0.0) chain.0.1 has
-chain_within roles names user role (first ∷ path) closed has chain =
-    chain_within roles names first role path closed (closed (user, first, chain.0.0) chain.0.1 has) chain.1
-
--- a holder of one of the closed names is one of them
-pub holder_within : (roles : List RoleEntry) (names : List Name) (user holder : Name) → IsClosed roles names → Contains names user → IsHolder roles user holder → Contains names holder
-holder_within roles names user holder closed has is = elim is [
-  | inl same ↦ subst (λ (name : Name). Contains names name) (sym same) has
-  | inr holds ↦ chain_within roles names user holder holds.0 closed has holds.1
-]
 
 -- the role is granted to the user or to a held role exactly where a chain leads to it
 pub held : (roles : List RoleEntry) (user role : Name) → ((holder : Name) × IsHolder roles user holder × IsRoleGranted roles holder role) ↔ HoldsRole roles user role

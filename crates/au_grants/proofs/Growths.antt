@@ -111,10 +111,6 @@ pub new_whole : {X : Type 0} (fields : X → List (List ℕ)) (test : X → Bool
 new_whole fields test entry fresh kept told ready b is absent =
     placed_in_order fields entry (merged (before_by fields) fresh kept) (told_apart fields test entry (merged (before_by fields) fresh kept) told (sym is ∙ absent)) ready.whole
 
-pub placed_granted : {X Y : Type 0} (before : X × Y × Bool → X × Y × Bool → Bool) (test : X × Y × Bool → Bool) (entry : X × Y × Bool) (all after : List (X × Y × Bool)) (b : Bool) → after ≡ placed before entry all → b ≡ list_any test all → b ≡ false
-    → after ≡ with_grant before test entry all
-placed_granted before test entry all after b is told absent = is ∙ ap (λ c. cond c (map (with_admin test entry.2) all) (placed before entry all)) (sym absent ∙ told)
-
 -- there is room for what a change adds
 pub roomy_for : {X : Type 0} (before : X → X → Bool) (fresh kept : List X) (test : GrantChange → Bool) (change : GrantChange) (k m f l : ℕ) → IsRoomy (length kept + length fresh + 1) k m f l
     → IsRoomy (length (merged before fresh kept) + length (filter test (change ∷ []))) k m f l

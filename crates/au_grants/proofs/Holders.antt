@@ -219,13 +219,3 @@ queued_all grants user queue rights count at limit first reach low high is =
     (λ j given. queued_role grants user queue count (right_at rights j) reach (subst (λ n. IsGivenToQueued grants queue n (right_at rights j)) same given))
     (λ j given. subst (λ n. IsGivenToQueued grants queue n (right_at rights j)) (sym same) (role_queued grants user queue count (right_at rights j) reach given))
     is
-
--- where the first of all is found already, the search is at its end
-pub queued_first : (grants : Grants) (user : Name) (queue : List ℕ) (rights : List Sought) (count k limit first : ℕ) → IsReach grants.role user queue count → k < count → first ≡ 0
-    → IsFirstOf (λ j. IsGivenToQueued grants queue k (right_at rights j)) limit first → IsFirstOf (λ j. IsGivenByRole grants user (right_at rights j)) limit 0
-queued_first grants user queue rights count k limit first reach less zero_is is = record {
-  within = omega arith;
-  none = λ j below. absurd (omega (arith, below));
-  found = λ some. (let here = subst (λ n. IsGivenToQueued grants queue k (right_at rights n)) zero_is (is.found (omega (arith, some, zero_is))) in
-      queued_role grants user queue count (right_at rights 0) reach (here.0, (let lower = here.1 in omega (arith, lower, less)), here.2));
-}

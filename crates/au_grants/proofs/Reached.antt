@@ -348,17 +348,6 @@ pub record Searching (roles : List RoleEntry) (user : Name) (marks : List Bool) 
   pub length_is : length queue ≡ size
   pub up_to : done ≤ count
 
-pub searching_starts : (roles : List RoleEntry) (user : Name) (marks : List Bool) (queue : List ℕ) (marks2 : List Bool) (queue2 : List ℕ) (count2 : ℕ)
-    → WentOn roles (λ other. other ≡ user) marks queue 0 marks2 queue2 count2 → IsSeen roles marks2 user → Searching roles user marks2 queue2 count2 0 (length queue)
-searching_starts roles user marks queue marks2 queue2 count2 went seen = record {
-  search = went.search;
-  held = λ k less. inl (went.only k (omega arith) less);
-  seen = seen;
-  closed = λ k role less granted. absurd (omega (arith, less));
-  length_is = went.length_stays;
-  up_to = omega arith;
-}
-
 pub not_done : (roles : List RoleEntry) (user : Name) (marks : List Bool) (queue : List ℕ) (count done size : ℕ) → Searching roles user marks queue count done size → (done ≡ count → ⊥) → done < count
 not_done roles user marks queue count done size at apart = (let le = at.up_to in elim (cases_lt done count) [
   | inl is ↦ is
