@@ -4,7 +4,6 @@ ghost use Rattle.std.specs.List.{insert, list_any};
 ghost use Rattle.au_grants.specs.Changing.{applied, applied_all, without, with_admin, with_grant, with_object, system_to, role_to, object_to, names_role, names_table};
 ghost use Rattle.au_grants.specs.Holding.{grants_privilege, grants_role, grants_object};
 ghost use Rattle.au_grants.specs.Order.{AreInOrder, is_in_order, object_before, role_before, system_before};
-ghost use Rattle.au_grants.specs.descent.Boxing.{change_of};
 ghost use Rattle.au_grants.specs.descent.Editing.{HasRoom, KeepsCapacity, listed};
 
 use crate::change::GrantChange;
@@ -79,18 +78,7 @@ pub fn make(lists: &mut GrantLists, edit: Edit)
     ensures after { listed lists.new ≡ applied edit (listed lists.old) }
     ensures capacity { KeepsCapacity lists.old lists.new }
 {
-    let Edit { change } = edit;
-    make_boxed(lists, change);
-}
-
-/// The same of a change whose new grant has its box.
-pub fn make_boxed(lists: &mut GrantLists, change: BoxedChange)
-    requires order { AreInOrder (listed lists.old) }
-    requires room { HasRoom (change_of change ∷ []) lists.old }
-    ensures after { listed lists.new ≡ applied (change_of change) (listed lists.old) }
-    ensures capacity { KeepsCapacity lists.old lists.new }
-{
-    match change {
+    match edit.change {
         BoxedChange::UserGone(user) => drop_user(lists, &user),
         BoxedChange::RoleGone(role) => drop_role(lists, &role),
         BoxedChange::TableGone(table) => drop_on_table(&mut lists.object, &table),

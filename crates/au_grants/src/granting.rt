@@ -5,11 +5,10 @@ ghost use Rattle.au_grants.specs.Changing.{applied, applied_all, with_grant, wit
 ghost use Rattle.au_grants.specs.Holding.{grants_privilege, grants_role, grants_object};
 ghost use Rattle.au_grants.specs.Order.{AreInOrder, object_before, role_before, system_before};
 ghost use Rattle.au_grants.specs.Holding.{grants_privilege_as, grants_role_as};
-ghost use Rattle.au_grants.specs.descent.Boxing.{change_of};
 ghost use Rattle.au_grants.specs.descent.Editing.{listed};
 ghost use Rattle.au_grants.specs.descent.Growing.{AreGrowing, AreReady, HasGrowth, IsRoomy, KeepsGrowth, grown, merged};
 
-use crate::applying::{make_boxed, set_privilege_admin, set_role_admin};
+use crate::applying::{make, set_privilege_admin, set_role_admin};
 use crate::direct::{has_object, has_privilege, has_privilege_as, has_role, has_role_as};
 use crate::edit::{BoxedChange, Edit};
 use crate::growing::{GrowingLists, add, join};
@@ -41,19 +40,7 @@ pub fn make_growing(lists: &mut GrowingLists, edit: Edit)
     ensures ready { AreGrowing lists.new }
     ensures room { KeepsGrowth lists.old lists.new }
 {
-    let Edit { change } = edit;
-    make_boxed_growing(lists, change);
-}
-
-// The same of a change whose new grant has its box.
-fn make_boxed_growing(lists: &mut GrowingLists, change: BoxedChange)
-    requires ready { AreGrowing lists.old }
-    requires room { HasGrowth (change_of change ∷ []) lists.old }
-    ensures after { grown lists.new ≡ applied (change_of change) (grown lists.old) }
-    ensures ready { AreGrowing lists.new }
-    ensures room { KeepsGrowth lists.old lists.new }
-{
-    match change {
+    match edit.change {
         BoxedChange::SystemGrant(grant) => grant_system(
             &mut lists.kept.system,
             &mut lists.fresh.system,
@@ -72,20 +59,20 @@ fn make_boxed_growing(lists: &mut GrowingLists, change: BoxedChange)
             &mut lists.moving.object,
             grant,
         ),
-        other => make_on_joined(lists, other),
+        change => make_on_joined(lists, Edit { change }),
     }
 }
 
 // Makes a change in the lists without new entries apart.
-fn make_on_joined(lists: &mut GrowingLists, change: BoxedChange)
+fn make_on_joined(lists: &mut GrowingLists, edit: Edit)
     requires ready { AreGrowing lists.old }
-    requires room { HasGrowth (change_of change ∷ []) lists.old }
-    ensures after { grown lists.new ≡ applied (change_of change) (grown lists.old) }
+    requires room { HasGrowth (edit ∷ []) lists.old }
+    ensures after { grown lists.new ≡ applied edit (grown lists.old) }
     ensures ready { AreGrowing lists.new }
     ensures room { KeepsGrowth lists.old lists.new }
 {
     join_all(lists);
-    make_boxed(&mut lists.kept, change);
+    make(&mut lists.kept, edit);
 }
 
 /// The new entries of each kind go to their places. It takes no memory.
