@@ -30,6 +30,7 @@ pub use laws::{
 pub use lookup::column_place;
 pub use naming::name_code;
 pub use placed::{Place, Placed};
+pub use ranges::names_range;
 pub use resolved::{Resolved, resolve, resolve_condition, resolve_over, resolve_value};
 pub use row::Row;
 pub use scope::Scope;

@@ -3,6 +3,7 @@ ghost use Rattle.std.specs.Prelude.{◌≡◌, map};
 ghost use Rattle.au_expr.specs.Descent as spec;
 ghost use Rattle.au_expr.specs.Descent.{names_in_sum};
 ghost use Rattle.au_expr.specs.Overflows.{any_holds};
+ghost use Rattle.au_expr.specs.Ranges as ranges;
 
 use crate::{Place, Placed};
 
@@ -22,6 +23,13 @@ fn is_asked(asked: Asked, place: &Place) -> bool
         Asked::Range(range) => place.range == range,
         Asked::Column(range, column) => place.range == range && place.column == column,
     }
+}
+
+/// As `Resolved::names_range`, of a tree, such as a part of a condition. It takes no memory.
+pub fn names_range(tree: &Placed, range: usize) -> bool
+    ensures { result ≡ ranges.names_range range tree.now }
+{
+    names(tree, Asked::Range(range))
 }
 
 /// Whether a column of the expression is asked for.

@@ -8,7 +8,7 @@ ghost use Rattle.au_expr.specs.Resolving.{Resolves, ResolvesAsCondition, Resolve
 use crate::kinds::{condition_code, kind_over, value_code};
 use crate::overflows::can_overflow;
 use crate::placing::place;
-use crate::ranges::{Asked, names};
+use crate::ranges::{Asked, names, names_range};
 use crate::{ExprKind, Placed, Scope};
 use au_base::{Code, Column, ColumnKind, List, Memory, Name};
 use sql_ast::Expr;
@@ -44,7 +44,7 @@ impl Resolved {
     pub fn names_range(&self, range: usize) -> bool
         ensures { result ≡ spec_of.names_range range self.now }
     {
-        names(&self.tree, Asked::Range(range))
+        names_range(&self.tree, range)
     }
 
     /// Whether it names this column of this range, by their numbers from 0. It takes no memory.

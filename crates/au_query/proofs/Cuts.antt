@@ -1,9 +1,9 @@
 -- A front over which a condition isn't Yes that names none of the further tables begins no combination that passes.
-use Rattle.std.proofs.Common.{◌≡◌, ◌≢◌, ◌∙◌, refl, sym, ap, eqb-true, Bool, true, false, not, ◌&&◌, ◌||◌, ◌==◌, ◌≤◌, ◌<◌, ◌+◌, ℕ, zero, suc, List, [], ◌∷◌, ◌++◌, length, map, arith, Option, Some, None}
+use Rattle.std.proofs.Common.{◌≡◌, ◌≢◌, ◌∙◌, refl, sym, ap, ap₂, eqb-true, Bool, true, false, not, ◌&&◌, ◌||◌, ◌==◌, ◌≤◌, ◌<◌, ◌+◌, ℕ, zero, suc, List, [], ◌∷◌, ◌++◌, length, map, take, get_or, arith, Option, Some, None}
 use Rattle.std.specs.Prelude.{filter, IfSome, IsTrue, if◌then◌else◌}
 use Rattle.std.specs.List.{AllByRecursion, flat_map, list_all, list_any, slice_get}
 use Rattle.std.proofs.lemmas.List.{length_push, map-append}
-use Rattle.std.proofs.lemmas.List.Folds.{list_all-append}
+use Rattle.std.proofs.lemmas.List.Folds.{list_all-append, list_all_more}
 use Rattle.au_base.specs.Limits.{FROM_TABLES}
 use Rattle.au_base.specs.declared.cell.Cell.{Cell}
 use Rattle.sql_ast.specs.declared.expression.Expr.{Expr}
@@ -121,34 +121,22 @@ pub views_count : (sources : List Source) → length (views sources) ≡ length 
 views_count [] = refl
 views_count (source ∷ sources) = ap suc (views_count sources)
 
-and_itself : (b : Bool) → (b && true) ≡ b
-and_itself true = refl
-and_itself false = refl
-
 -- an AND is placed by its parts
 pub placed_and : (ranges : List Range) (parts : List Expr) → placed ranges (expr.And parts) ≡ tree.And (map (placed ranges) parts)
 placed_and ranges parts = ap (placed ranges) (sym (expr.rolls-And parts)) ∙ fold-roll-Expr Placed (step ranges) (expr_part.And parts)
 
--- the parts of an AND are Yes together exactly where it is
-pub parts_together : ((parts : List Placed) (session : Session) (rows : List (List Cell))
-    → is_met (value_at rows session (tree.And parts)) ≡ list_all (λ (part : Placed). is_met (value_at rows session part)) parts)
-    → (ranges : List Range) (parts : List Expr) (condition : Expr) → condition ≡ expr.And parts
-    → AreMetTogether (map (placed ranges) parts) (placed ranges condition ∷ [])
-parts_together met ranges parts condition is session rows =
-    sym (met (map (placed ranges) parts) session rows)
-    ∙ ap (λ z. is_met (value_at rows session z)) (sym (placed_and ranges parts) ∙ ap (placed ranges) (sym is))
-    ∙ sym (and_itself (is_met (value_at rows session (placed ranges condition))))
+pub and_itself : (b : Bool) → (b && true) ≡ b
+and_itself true = refl
+and_itself false = refl
 
--- behind others that are Yes together, or before them
-pub behind_others : (before some others : List Placed) → AreMetTogether some others → AreMetTogether (before ++ some) (before ++ others)
-behind_others before some others together session rows =
+-- the parts of one more condition
+pub one_parted : (old parts new conditions : List Placed) (i : ℕ) (condition : Placed) → i < length conditions → condition ≡ get_or conditions i condition
+    → new ≡ old ++ parts → AreMetTogether parts (condition ∷ []) → AreMetTogether old (take i conditions) → AreMetTogether new (take (i + 1) conditions)
+one_parted old parts new conditions i condition within is added together so_far session rows =
     let met = λ (tree : Placed). is_met (value_at rows session tree) in
-    list_all-append met before some ∙ ap (λ b. list_all met before && b) (together session rows) ∙ sym (list_all-append met before others)
-
-pub before_others : (some others behind : List Placed) → AreMetTogether some others → AreMetTogether (some ++ behind) (others ++ behind)
-before_others some others behind together session rows =
-    let met = λ (tree : Placed). is_met (value_at rows session tree) in
-    list_all-append met some behind ∙ ap (λ b. b && list_all met behind) (together session rows) ∙ sym (list_all-append met others behind)
+    ap (list_all met) added ∙ list_all-append met old parts
+    ∙ ap₂ (λ a b. a && b) (so_far session rows) (together session rows ∙ and_itself (met condition) ∙ ap met is)
+    ∙ sym (list_all_more met conditions i condition within)
 
 pub some_other : {X : Type 0} (P Q : X → Type 0) → ((x : X) → P x → Q x) → (found : Option X) → IfSome found P → IfSome found Q
 some_other P Q f None e = e

@@ -7,7 +7,6 @@ pub mod Fronts
 pub mod Nothing
 pub mod Numbers
 pub mod Orders
-pub mod Partings
 pub mod Residuals
 pub mod Scans
 pub mod Tallies

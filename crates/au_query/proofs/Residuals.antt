@@ -19,6 +19,7 @@ use Rattle.au_expr.specs.Placing.{signed_values_at, step, value_at, values_at}
 use Rattle.au_expr.specs.Sessions.{Session}
 use Rattle.au_expr.specs.Values.{Value, Is, Holds, Overflows, is_met, is_overflow, truth_in}
 use Rattle.au_query.proofs.Anywhere.{any_map, any_same}
+use Rattle.au_query.proofs.Cuts.{and_itself}
 use Rattle.au_query.specs.Combos.{Line, cells_of, lent, lines, passes}
 use Rattle.au_query.specs.declared.cutting.Test.{Test}
 use Rattle.au_query.specs.declared.source.Source.{Source}
@@ -163,10 +164,6 @@ lone_list [] x one is = absurd (omega (arith, one))
 lone_list (y ∷ []) x one is = ap (λ z. z ∷ []) is
 lone_list (y ∷ z ∷ xs) x one is = absurd (omega (arith, one))
 
-pub and_true : (b : Bool) → (b && true) ≡ b
-and_true true = refl
-and_true false = refl
-
 -- one more condition, and what is left of it
 pub left_more : (p : Placed → Bool) (q : Residual → Bool) (trees : List Placed) (i : ℕ) (tree : Placed) (residuals more : List Residual) (residual : Residual)
     → i < length trees → tree ≡ get_or trees i tree → more ≡ residuals ++ residual ∷ [] → p tree ≡ q residual
@@ -174,7 +171,7 @@ pub left_more : (p : Placed → Bool) (q : Residual → Bool) (trees : List Plac
 left_more p q trees i tree residuals more residual within is pushed same so_far =
     list_all_more p trees i tree within
     ∙ ap₂ (λ a b. a && b) so_far (ap p (sym is) ∙ same)
-    ∙ sym (ap (list_all q) pushed ∙ list_all-append q residuals (residual ∷ []) ∙ ap (λ b. list_all q residuals && b) (and_true (q residual)))
+    ∙ sym (ap (list_all q) pushed ∙ list_all-append q residuals (residual ∷ []) ∙ ap (λ b. list_all q residuals && b) (and_itself (q residual)))
 
 -- ---- an overflow of one of several conditions
 

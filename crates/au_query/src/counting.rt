@@ -12,6 +12,7 @@ ghost use Rattle.au_query.specs.Counts.{IsCounted, IsTally, numbers_of, passing_
 ghost use Rattle.au_query.specs.descent.Plans.{Finds};
 ghost use Rattle.au_query.specs.descent.Residuals.{AreLeft, IsResidual, are_met_by};
 
+use crate::cutting::parts_of;
 use crate::naming::named;
 use crate::planning::{Plan, with_where};
 use crate::query::conditions_overflow;
@@ -20,7 +21,7 @@ use crate::residual::{Residual, are_all_met, residual_of};
 use crate::scan::are_met;
 use crate::{Selected, Source};
 use au_base::{Cell, Code, Column, List, Memory, Name, Reply, RowNo, Text};
-use au_expr::{Placed, Resolved, Row, SessionFacts, parts_of_and_are_met};
+use au_expr::{Placed, Resolved, Row, SessionFacts};
 use sql_ast::Count;
 use std::alloc::Global;
 use std::slice;
@@ -121,17 +122,8 @@ fn comparisons(alloc: Global, conditions: &[Resolved]) -> Result<Option<Vec<Resi
 fn comparisons_in(alloc: Global, condition: &Resolved) -> Result<Option<Vec<Residual>>, Memory>
     ensures { IfOk result (λ found. IfSome found (λ residuals. AreLeft (condition.now ∷ []) residuals.items)) }
 {
-    parts_of_and_are_met();
-    match condition.tree() {
-        Placed::And(parts) => {
-            let found = residuals_of(alloc, parts.as_slice())?;
-            Ok(found)
-        }
-        tree => {
-            let found = residuals_of(alloc, slice::from_ref(tree))?;
-            Ok(found)
-        }
-    }
+    let found = residuals_of(alloc, parts_of(condition.tree()))?;
+    Ok(found)
 }
 
 fn residuals_of(alloc: Global, trees: &[Placed]) -> Result<Option<Vec<Residual>>, Memory>

@@ -9,7 +9,6 @@ mod laws;
 mod naming;
 mod output;
 mod overflow;
-mod parting;
 mod planning;
 mod query;
 mod ranking;

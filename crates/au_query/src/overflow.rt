@@ -98,8 +98,9 @@ fn told_by_residuals(tree: &Placed, row: &Row<'_>, rows: &[(RowNo, &[Cell])]) ->
     }
 }
 
-// Whether one of the parts overflows over one of the rows, of which none is gone through before each
-// part is known to leave something.
+// Whether one of the parts overflows over one of the rows. What is left of each part is made twice:
+// none of the rows is gone through before each part is known to leave something, and a list of what is
+// left would take memory.
 fn told_of_parts(parts: &[Placed], row: &Row<'_>, rows: &[(RowNo, &[Cell])]) -> Option<bool>
     ensures { IfSome result (λ found. (session : Session) → found ≡ list_any (overflows_behind session row.now (cells_in rows.now)) parts.now) }
 {

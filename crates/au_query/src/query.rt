@@ -13,7 +13,6 @@ use crate::cutting::tests;
 use crate::naming::named;
 use crate::output::Output;
 use crate::overflow::overflows_somewhere;
-use crate::parting::{parted, parts_or};
 use crate::planning::{Plan, planned};
 use crate::ranking::put_in_order;
 use crate::reply::{column_names, rows};
@@ -75,7 +74,7 @@ fn run(
     if overflows(plan, session, sources) {
         return Ok(Selected::refused(alloc, Code::OVERFLOW));
     }
-    match passing(alloc, sources, ranges, session, select, plan)? {
+    match passing(alloc, sources, session, plan)? {
         Some(combos) => {
             let selected = answer(alloc, sources, ranges, session, select, plan, combos)?;
             Ok(selected)
@@ -89,20 +88,15 @@ fn run(
 fn passing<'a>(
     alloc: Global,
     sources: &[Source<'a>],
-    ranges: &[(Name, List<Column>)],
     session: &SessionFacts,
-    select: &Select,
     plan: &Plan,
 ) -> Result<Option<Vec<Combo<'a>>>, Memory>
-    requires few { length sources.now ≤ limits.FROM_TABLES }
-    requires plan { IsPlanOf ranges.now select.now plan.now }
+    requires { length sources.now ≤ limits.FROM_TABLES }
     ensures { IfOk result (λ found. MatchOption found
         (limits.REPLY_ROWS < length (combos_of session.now plan.now.conditions.items (views sources.now)))
         (λ kept. (kept.items ≡ combos_of session.now plan.now.conditions.items (views sources.now)) × (length (combos_of session.now plan.now.conditions.items (views sources.now)) ≤ limits.REPLY_ROWS))) }
 {
-    let parts = parted(alloc, select, ranges)?;
-    let conditions = parts_or(&parts, plan.conditions.as_slice());
-    let tests = tests(alloc, conditions)?;
+    let tests = tests(alloc, plan.conditions.as_slice())?;
     let found = combos(alloc, tests.as_slice(), session, sources)?;
     Ok(found)
 }

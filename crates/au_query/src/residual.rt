@@ -14,7 +14,7 @@ ghost use Rattle.std.specs.List.{slice_get};
 
 use crate::cutting::Test;
 use au_base::{Cell, add, subtract};
-use au_expr::{Place, Placed, Resolved, Row};
+use au_expr::{Place, Placed, Row};
 use sql_ast::Relation;
 
 /// One side of a comparison over a row of the next table.
@@ -306,10 +306,10 @@ pub fn sieve_of(tests: &[Test<'_>], row: &Row<'_>) -> Option<Residual>
     None
 }
 
-fn sieve_in(condition: &Resolved, row: &Row<'_>) -> Option<Residual>
+fn sieve_in(condition: &Placed, row: &Row<'_>) -> Option<Residual>
     ensures { IfSome result (IsResidual row.now condition.now) }
 {
-    match residual_of(condition.tree(), row) {
+    match residual_of(condition, row) {
         Some(residual) if !residual.is_always_met() => Some(residual),
         _ => None,
     }

@@ -17,7 +17,7 @@ use crate::residual::{Residual, is_left_out, sieve_of};
 use crate::size::has_empty_table;
 use au_base::limits::REPLY_ROWS;
 use au_base::{Memory, Truth};
-use au_expr::{Resolved, Row, SessionFacts, truth};
+use au_expr::{Placed, Resolved, Row, SessionFacts, truth_at};
 use std::alloc::Global;
 
 /// The combinations over which each condition is Yes, in order. `None` where they are more than a
@@ -133,7 +133,7 @@ pub fn are_met(conditions: &[Resolved], session: &SessionFacts, row: &Row<'_>) -
     ensures { result ≡ list_all (λ (tree : Placed). values.is_met (value_at row.now session.now tree)) conditions.now }
 {
     for condition in conditions {
-        if !is_met(condition, session, row) {
+        if !is_met(condition.tree(), session, row) {
             return false;
         }
     }
@@ -141,10 +141,10 @@ pub fn are_met(conditions: &[Resolved], session: &SessionFacts, row: &Row<'_>) -
 }
 
 /// Whether a condition is Yes over a row.
-pub fn is_met(condition: &Resolved, session: &SessionFacts, row: &Row<'_>) -> bool
+pub fn is_met(condition: &Placed, session: &SessionFacts, row: &Row<'_>) -> bool
     ensures { result ≡ values.is_met (value_at row.now session.now condition.now) }
 {
-    match truth(condition, row, session) {
+    match truth_at(condition, row, session) {
         Ok(Truth::Yes) => true,
         _ => false,
     }
