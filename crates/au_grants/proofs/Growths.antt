@@ -111,6 +111,10 @@ pub new_whole : {X : Type 0} (fields : X → List (List ℕ)) (test : X → Bool
 new_whole fields test entry fresh kept told ready b is absent =
     placed_in_order fields entry (merged (before_by fields) fresh kept) (told_apart fields test entry (merged (before_by fields) fresh kept) told (sym is ∙ absent)) ready.whole
 
+-- whether an entry is there, by two of its parts as they were read
+pub told_by : {A B X : Type 0} (test : A → B → X → Bool) (all : List X) (a read : A) (b asked : B) (there : Bool) → there ≡ list_any (test read asked) all → read ≡ a → asked ≡ b → there ≡ list_any (test a b) all
+told_by test all a read b asked there is one two = is ∙ ap (λ x. list_any (test x asked) all) one ∙ ap (λ y. list_any (test a y) all) two
+
 -- there is room for what a change adds
 pub roomy_for : {X : Type 0} (before : X → X → Bool) (fresh kept : List X) (test : GrantChange → Bool) (change : GrantChange) (k m f l : ℕ) → IsRoomy (length kept + length fresh + 1) k m f l
     → IsRoomy (length (merged before fresh kept) + length (filter test (change ∷ []))) k m f l

@@ -6,7 +6,7 @@ use Rattle.au_grants.specs.Holding.{grants_object}
 use Rattle.au_grants.specs.Order.{object_before, object_fields}
 use Rattle.au_grants.specs.Rights.{Name, ObjectEntry}
 use Rattle.au_grants.specs.descent.Growing.{merged}
-use Rattle.au_grants.proofs.Growths.{merged_length, new_ordered, new_whole}
+use Rattle.au_grants.proofs.Growths.{merged_length, new_ordered, new_whole, told_by}
 use Rattle.au_grants.proofs.Ordered.{object_told}
 use Rattle.au_grants.proofs.granting.grant_object.Goals as goal
 
@@ -14,8 +14,7 @@ use Rattle.au_grants.proofs.granting.grant_object.Goals as goal
 told : (fresh kept : List ObjectEntry) (grantee read : Name) (table on : TableName) (action asked : Action) (there : Bool) → there ≡ list_any (grants_object read on asked) (merged object_before fresh kept) → read ≡ grantee → on ≡ table → asked ≡ action
     → there ≡ list_any (grants_object grantee table action) (merged object_before fresh kept)
 told fresh kept grantee read table on action asked there is one two three =
-    is ∙ ap (λ (n : Name). list_any (grants_object n on asked) (merged object_before fresh kept)) one ∙ ap (λ (t : TableName). list_any (grants_object grantee t asked) (merged object_before fresh kept)) two
-    ∙ ap (λ (a : Action). list_any (grants_object grantee table a) (merged object_before fresh kept)) three
+    told_by (λ (n : Name) (t : TableName). grants_object n t asked) (merged object_before fresh kept) _ _ _ _ _ is one two ∙ ap (λ (a : Action). list_any (grants_object grantee table a) (merged object_before fresh kept)) three
 
 pub add-requires-clause-ordered : goal.add-requires-clause-ordered
 add-requires-clause-ordered c = new_ordered object_fields (grants_object c.args.grant.0 c.args.grant.1 c.args.grant.2) c.args.grant _ c.args.kept.now.items (object_told c.args.grant.0 c.args.grant.1 c.args.grant.2) c.requires.ready _ (told c.args.fresh.now.items c.args.kept.now.items _ _ _ _ _ _ _ c.is_object_there.ensures c.grantee.ensures c.table.ensures c.action.ensures) c.if-not-is_object_there.true

@@ -1,25 +1,16 @@
-use Rattle.std.proofs.Common.{◌≡◌, Bool, refl, ap, ◌∙◌, List, arith}
-use Rattle.std.specs.List.{list_any}
-use Rattle.au_base.specs.declared.privilege.Privilege.{Privilege}
+use Rattle.std.proofs.Common.{refl, arith}
 use Rattle.au_grants.specs.Holding.{grants_privilege}
 use Rattle.au_grants.specs.Order.{system_before, system_fields}
-use Rattle.au_grants.specs.Rights.{Name, SystemEntry}
 use Rattle.au_grants.specs.descent.Growing.{merged}
-use Rattle.au_grants.proofs.Growths.{merged_length, new_ordered, new_whole, set_merged, set_ready}
+use Rattle.au_grants.proofs.Growths.{merged_length, new_ordered, new_whole, set_merged, set_ready, told_by}
 use Rattle.au_grants.proofs.Ordered.{system_told}
 use Rattle.au_grants.proofs.granting.grant_system.Goals as goal
 
--- whether the grant is there, by its name and privilege as they were read
-told : (fresh kept : List SystemEntry) (grantee read : Name) (privilege asked : Privilege) (there : Bool) → there ≡ list_any (grants_privilege read asked) (merged system_before fresh kept) → read ≡ grantee → asked ≡ privilege
-    → there ≡ list_any (grants_privilege grantee privilege) (merged system_before fresh kept)
-told fresh kept grantee read privilege asked there is one two =
-    is ∙ ap (λ (n : Name). list_any (grants_privilege n asked) (merged system_before fresh kept)) one ∙ ap (λ (p : Privilege). list_any (grants_privilege grantee p) (merged system_before fresh kept)) two
-
 pub add-requires-clause-ordered : goal.add-requires-clause-ordered
-add-requires-clause-ordered c = new_ordered system_fields (grants_privilege c.args.grant.0 c.args.grant.1) c.args.grant _ c.args.kept.now.items (system_told c.args.grant.0 c.args.grant.1 c.args.grant.2) c.requires.ready _ (told c.args.fresh.now.items c.args.kept.now.items _ _ _ _ _ c.is_system_there.ensures c.grantee.ensures c.privilege.ensures) c.if-is_system_there.false
+add-requires-clause-ordered c = new_ordered system_fields (grants_privilege c.args.grant.0 c.args.grant.1) c.args.grant _ c.args.kept.now.items (system_told c.args.grant.0 c.args.grant.1 c.args.grant.2) c.requires.ready _ (told_by grants_privilege (merged system_before c.args.fresh.now.items c.args.kept.now.items) _ _ _ _ _ c.is_system_there.ensures c.grantee.ensures c.privilege.ensures) c.if-is_system_there.false
 
 pub add-requires-clause-whole : goal.add-requires-clause-whole
-add-requires-clause-whole c = new_whole system_fields (grants_privilege c.args.grant.0 c.args.grant.1) c.args.grant c.args.fresh.now.items c.args.kept.now.items (system_told c.args.grant.0 c.args.grant.1 c.args.grant.2) c.requires.ready _ (told c.args.fresh.now.items c.args.kept.now.items _ _ _ _ _ c.is_system_there.ensures c.grantee.ensures c.privilege.ensures) c.if-is_system_there.false
+add-requires-clause-whole c = new_whole system_fields (grants_privilege c.args.grant.0 c.args.grant.1) c.args.grant c.args.fresh.now.items c.args.kept.now.items (system_told c.args.grant.0 c.args.grant.1 c.args.grant.2) c.requires.ready _ (told_by grants_privilege (merged system_before c.args.fresh.now.items c.args.kept.now.items) _ _ _ _ _ c.is_system_there.ensures c.grantee.ensures c.privilege.ensures) c.if-is_system_there.false
 
 pub add-requires-clause-kept_room : goal.add-requires-clause-kept_room
 add-requires-clause-kept_room c =
@@ -38,7 +29,7 @@ add-requires-clause-moving_room c =
     omega (arith, room, long, one, two)
 
 pub returns-then-is_system_there-clause-after : goal.returns-then-is_system_there-clause-after
-returns-then-is_system_there-clause-after c = set_merged system_fields (grants_privilege c.args.grant.0 c.args.grant.1) c.args.grant c.args.fresh.now.items c.args.kept.now.items _ _ (λ x a. refl) c.set_privilege_admin-then-is_system_there.ensures.items c.set_privilege_admin.ensures.items _ (told c.args.fresh.now.items c.args.kept.now.items _ _ _ _ _ c.is_system_there.ensures c.grantee.ensures c.privilege.ensures) c.if-is_system_there.true
+returns-then-is_system_there-clause-after c = set_merged system_fields (grants_privilege c.args.grant.0 c.args.grant.1) c.args.grant c.args.fresh.now.items c.args.kept.now.items _ _ (λ x a. refl) c.set_privilege_admin-then-is_system_there.ensures.items c.set_privilege_admin.ensures.items _ (told_by grants_privilege (merged system_before c.args.fresh.now.items c.args.kept.now.items) _ _ _ _ _ c.is_system_there.ensures c.grantee.ensures c.privilege.ensures) c.if-is_system_there.true
 
 pub returns-then-is_system_there-clause-ready : goal.returns-then-is_system_there-clause-ready
 returns-then-is_system_there-clause-ready c = set_ready system_fields (grants_privilege c.args.grant.0 c.args.grant.1) c.args.grant c.args.fresh.now.items c.args.kept.now.items _ _ (λ x a. refl) c.set_privilege_admin-then-is_system_there.ensures.items c.set_privilege_admin.ensures.items c.requires.ready
