@@ -61,9 +61,6 @@ module _ {X : Type 0} where
   rest_of [] = []
   rest_of (x ∷ xs) = xs
 
-  empty_not : (x : X) (xs : List X) → [] ≡ x ∷ xs → ⊥
-  empty_not x xs is = cc
-
   -- no element comes before one that stands in front of it
   abbrev Rises : (X → X → Bool) → List X → Type 0
   Rises lt [] = ⊤
