@@ -205,7 +205,7 @@ fn without_password(alloc: Global, text: &Text, password: &Password) -> Result<T
 {
     let (before, _) = text.as_bytes().split_at(password.from as usize);
     let (_, behind) = text.as_bytes().split_at(password.to as usize);
-    let mut recorded = text_of(alloc, before)?.into_string();
+    let mut recorded = text_of(alloc, before)?.into_string()?;
     recorded.push_str("*")?;
     recorded.push_str(text_of(alloc, behind)?.as_str())?;
     Ok(Text::from_string(recorded))

@@ -14,3 +14,4 @@ pub mod Placing
 mod PrivilegeLemmas
 pub mod SamenessDecides
 pub mod SameLemmas
+mod Uppercase

@@ -5,25 +5,31 @@ ghost use Rattle.std.specs.String.{string_bytes};
 ghost use Rattle.au_base.specs.Found.{MakesExactly};
 
 use crate::Memory;
+use smallvec::SmallVec;
 use std::alloc::{AllocError, Global};
 use std::cmp::Ordering;
 use std::hash::{Hash, Hasher};
 use std::marker::Model;
-use std::str;
+use std::{fmt, str};
 
-/// Text in UTF-8. Contracts see the list of its bytes, by which texts are compared.
-#[derive(Debug, Drop)]
+// How many bytes stand in a text itself. A longer one has memory of its own.
+const INLINE_BYTES: usize = 16;
+
+/// Text in UTF-8. Contracts see the list of its bytes, by which texts are compared. One of up to 16
+/// bytes stands in the value itself and takes no memory, unless it was made of a string with more
+/// room.
 pub struct Text {
-    string: String,
+    bytes: SmallVec<u8, INLINE_BYTES>,
 }
 
 impl Model for Text {
-    ghost use Rattle.std.specs.Prelude.{List, ℕ};
-    ghost use Rattle.std.specs.String.{string_bytes};
+    ghost use Rattle.std.specs.Prelude.{List, ℕ, IsUtf8};
 
     ghost Value = { List ℕ };
 
-    ghost view = { λ t. string_bytes t.string };
+    ghost view = { λ t. t.bytes.items };
+
+    ghost invariant = { λ t. IsUtf8 t.bytes.items };
 }
 
 impl Text {
@@ -42,7 +48,7 @@ impl Text {
         ensures { IfOk result (λ made. made ≡ text.now) }
     {
         Ok(Text {
-            string: String::from_str(alloc, text)?,
+            bytes: SmallVec::from_slice(alloc, text.as_bytes())?,
         })
     }
 
@@ -51,25 +57,28 @@ impl Text {
         requires { IsAscii bytes.now }
         ensures { IfOk result (λ made. made ≡ bytes.now) }
     {
-        match str::from_utf8(bytes) {
-            Ok(text) => Text::from_str(alloc, text),
-            Err(_) => unreachable!(),
-        }
+        Ok(Text {
+            bytes: SmallVec::from_slice(alloc, bytes)?,
+        })
     }
 
     /// The same string as a text. It takes no memory.
     pub fn from_string(string: String) -> Text
         ensures { result ≡ string_bytes string }
     {
-        Text { string }
+        Text {
+            bytes: SmallVec::from_vec(string.into_bytes()),
+        }
     }
 
-    /// The text as a string. It takes no memory.
-    pub fn into_string(self) -> String
-        ensures { string_bytes result ≡ self }
+    /// The text as a string. It takes memory only where the bytes stand in the value itself.
+    pub fn into_string(self) -> Result<String, Memory>
+        ensures { IfOk result (λ string. string_bytes string ≡ self) }
     {
-        let Text { string } = self;
-        string
+        let Text { bytes } = self;
+        let bytes = bytes.into_vec()?;
+        // SAFETY: a text's bytes are UTF-8.
+        Ok(unsafe { String::from_utf8_unchecked(bytes) })
     }
 
     /// Its bytes, which are UTF-8.
@@ -77,21 +86,29 @@ impl Text {
         ensures value { result.now ≡ self.now }
         ensures utf8 { IsUtf8 self.now }
     {
-        self.string.as_bytes()
+        self.bytes.as_slice()
     }
 
     /// The text as a `str`.
     pub fn as_str(&self) -> &str
         ensures { result.now ≡ self.now }
     {
-        self.string.as_str()
+        // SAFETY: a text's bytes are UTF-8.
+        unsafe { str::from_utf8_unchecked(self.bytes.as_slice()) }
     }
 
     /// Changes its letters of ASCII to upper case.
     pub fn make_ascii_uppercase(&mut self)
         ensures { self.new ≡ map to_ascii_uppercase self.old }
     {
-        self.string.make_ascii_uppercase();
+        self.bytes.as_mut_slice().make_ascii_uppercase();
+    }
+}
+
+// Whoever drops a text calls this, and so need not tell where its bytes stand.
+impl Drop for Text {
+    fn drop(self) {
+        let Text { bytes: _bytes } = self;
     }
 }
 
@@ -100,8 +117,18 @@ impl Clone for Text {
 
     fn clone(&self) -> Result<Self, AllocError> {
         Ok(Text {
-            string: self.string.clone()?,
+            bytes: SmallVec::from_slice(*self.bytes.allocator(), self.bytes.as_slice())?,
         })
+    }
+}
+
+impl fmt::Debug for Text {
+    ghost use Rattle.std.specs.Fmt.{debug_str};
+
+    ghost debug_output = { debug_str };
+
+    fn fmt<W: fmt::Write>(&self, f: &mut fmt::Formatter<W>) -> fmt::Result {
+        fmt::Debug::fmt(&self.as_str(), f)
     }
 }
 

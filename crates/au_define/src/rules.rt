@@ -95,9 +95,8 @@ pub fn only(alloc: Global, change: Change) -> Result<List<Change>, Memory>
 pub fn unless(alloc: Global, stands: bool, change: Change) -> Result<List<Change>, Memory>
     ensures { IfOk result (λ changes. changes ≡ (if stands then [] else change ∷ [])) }
 {
-    let mut changes = List::new(alloc);
-    if !stands {
-        changes.push(change)?;
+    if stands {
+        return Ok(List::new(alloc));
     }
-    Ok(changes)
+    only(alloc, change)
 }

@@ -102,5 +102,5 @@ fn moment_value(alloc: Global, moment: u64) -> Result<Value, Memory>
     ensures { IfOk result (λ value. view value ≡ moment_data moment) }
 {
     let text = Text::from_ascii(alloc, &moment_text(moment))?;
-    Ok(Value::String(text.into_string()))
+    Ok(Value::String(text.into_string()?))
 }

@@ -100,7 +100,7 @@ fn counted_step<D: Disk, C: Clock, L: Ledger>(
 fn text_line(alloc: Global, said: &Said) -> Result<Vec<u8>, Memory>
     ensures { IfOk result (λ text. text.items ≡ line_of said.now) }
 {
-    let mut text = said_text(alloc, said)?.into_string().into_bytes();
+    let mut text = said_text(alloc, said)?.into_string()?.into_bytes();
     text.push(b'\n')?;
     Ok(text)
 }

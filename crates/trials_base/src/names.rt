@@ -24,7 +24,7 @@ fn shown(alloc: Global, name: Option<Name>) -> Result<String, Memory> {
             let copied = name.clone()? == name;
             let same = name.as_text().as_str() == name.as_str();
             if copied && same {
-                Ok(name.into_text().into_string())
+                name.into_text().into_string()
             } else {
                 Ok(String::from_str(alloc, "changed")?)
             }

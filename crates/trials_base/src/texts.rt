@@ -34,7 +34,7 @@ fn kept(alloc: Global, digits: &str) -> Result<&'static str, Memory> {
 fn upper(alloc: Global, given: &str) -> Result<String, Memory> {
     let mut text = Text::from_string(String::from_str(alloc, given)?);
     text.make_ascii_uppercase();
-    Ok(text.into_string())
+    text.into_string()
 }
 
 fn upper_ascii(alloc: Global, given: &str) -> Result<String, Memory> {
@@ -43,7 +43,7 @@ fn upper_ascii(alloc: Global, given: &str) -> Result<String, Memory> {
     }
     let mut text = Text::from_ascii(alloc, given.as_bytes())?;
     text.make_ascii_uppercase();
-    Ok(text.into_string())
+    text.into_string()
 }
 
 fn order(alloc: Global, a: &str, b: &str) -> Result<&'static str, Memory> {

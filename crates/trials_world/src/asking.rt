@@ -46,11 +46,15 @@ fn ask(alloc: Global, set: &[String], more: u32, rest: &str) -> Result<String, F
     let (client, rest) = rest.split_once('|').ok_or(Fault::NoCase)?;
     let (user, text) = rest.split_once('|').ok_or(Fault::NoCase)?;
     let client = ClientNo(whole_number(client)?);
-    let user = name(alloc, user)?;
-    let session = SessionFacts::new(alloc, user, SessionNo(1_000_000_001), Stamp(1_000_000))?;
+    let session = session_of(alloc, user)?;
     let statement = statement(alloc, text)?;
-    let stage = staged(alloc, set)?;
-    over(alloc, &stage, client, &session, &statement, more)
+    on_stage(alloc, set, client, &session, &statement, more)
+}
+
+// A session of the user's.
+fn session_of(alloc: Global, user: &str) -> Result<SessionFacts, Fault> {
+    let user = name(alloc, user)?;
+    Ok(SessionFacts::new(alloc, user, SessionNo(1_000_000_001), Stamp(1_000_000))?)
 }
 
 // The statement that a text is.
@@ -62,6 +66,18 @@ fn statement(alloc: Global, text: &str) -> Result<Statement, Fault> {
         Ok(tokens) => sql_parse::row_statement(alloc, &tokens)?.ok_or(Fault::NoCase),
         Err(_) => Err(Fault::NoCase),
     }
+}
+
+fn on_stage(
+    alloc: Global,
+    set: &[String],
+    client: ClientNo,
+    session: &SessionFacts,
+    statement: &Statement,
+    more: u32,
+) -> Result<String, Fault> {
+    let stage = staged(alloc, set)?;
+    over(alloc, &stage, client, session, statement, more)
 }
 
 fn over(

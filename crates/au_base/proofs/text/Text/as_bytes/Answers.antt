@@ -1,5 +1,0 @@
-use Rattle.std.proofs.lemmas.Str.{IsUtf8-string_bytes}
-use Rattle.au_base.proofs.text.Text.as_bytes.Goals as goal
-
-pub returns-clause-utf8 : goal.returns-clause-utf8
-returns-clause-utf8 c = rw (← c.self.view_is) (IsUtf8-string_bytes c.self.inside.string)
