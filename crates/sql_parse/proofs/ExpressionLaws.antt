@@ -92,19 +92,19 @@ no_clash known w r f = go (bytes_eq known w) refl
         let is : is_reserved w ≡ true = subst (λ (v : List ℕ). is_reserved v ≡ true) (word_is known w h) r in
         let none_left : is_free w ≡ false = rw is refl in absurd cc
 
-null_reserved : is_reserved (codes "NULL") ≡ true
+pub null_reserved : is_reserved (codes "NULL") ≡ true
 unfolding is_reserved
 null_reserved = refl
 
-user_reserved : is_reserved (codes "USER") ≡ true
+pub user_reserved : is_reserved (codes "USER") ≡ true
 unfolding is_reserved
 user_reserved = refl
 
-now_reserved : is_reserved (codes "SYSTIMESTAMP") ≡ true
+pub now_reserved : is_reserved (codes "SYSTIMESTAMP") ≡ true
 unfolding is_reserved
 now_reserved = refl
 
-timestamp_reserved : is_reserved (codes "TIMESTAMP") ≡ true
+pub timestamp_reserved : is_reserved (codes "TIMESTAMP") ≡ true
 unfolding is_reserved
 timestamp_reserved = refl
 
@@ -466,10 +466,10 @@ module _ (Inner : List Kind → Expr → List Kind → Type 0) (inner : List Kin
   -- ---- sums
 
   -- a summand's sign is seen at its front
-  summand_repeats : Repeats (g.Summand Inner) (read.summand inner) (read.signed inner) (Above 2)
+  summand_repeats : Repeats (g.Summand Inner) (read.summand inner) read.signed (Above 2)
   summand_repeats = record { sound = sound; complete = complete; begins = begins; follows = follows; shorter = shorter }
     where
-      signed_sound : (i : List Kind) (y : (Bool × Expr) × List Kind) → read.signed inner i ≡ true → (b : Bool) → sees minus i ≡ b → under (λ x. (b, x)) (read.term inner (behind i)) ≡ Some y → g.Summand Inner i y.0 y.1
+      signed_sound : (i : List Kind) (y : (Bool × Expr) × List Kind) → read.signed i ≡ true → (b : Bool) → sees minus i ≡ b → under (λ x. (b, x)) (read.term inner (behind i)) ≡ Some y → g.Summand Inner i y.0 y.1
       signed_sound i y s true m h =
           let b = under_some (λ (x : Expr). (true, x)) (read.term inner (behind i)) y h in
           subst (λ (z : (Bool × Expr) × List Kind). g.Summand Inner i z.0 z.1) b.2
@@ -484,14 +484,14 @@ module _ (Inner : List Kind → Expr → List Kind → Type 0) (inner : List Kin
           either false true h n = absurd cc
           either false false h n = absurd cc
 
-      sound : (i : List Kind) (y : (Bool × Expr) × List Kind) → read.signed inner i ≡ true → read.summand inner i ≡ Some y → g.Summand Inner i y.0 y.1
+      sound : (i : List Kind) (y : (Bool × Expr) × List Kind) → read.signed i ≡ true → read.summand inner i ≡ Some y → g.Summand Inner i y.0 y.1
       sound i y s h = signed_sound i y s (sees minus i) refl h
 
       complete : (i o : List Kind) (x : Bool × Expr) → g.Summand Inner i x o → Above 2 o → read.summand inner i ≡ Some (x, o)
       complete i o x (g.added {i = j} {x = y} d) f = rw (term_exact.complete j o y d f) refl
       complete i o x (g.subtracted {i = j} {x = y} d) f = rw (term_exact.complete j o y d f) refl
 
-      begins : (i o : List Kind) (x : Bool × Expr) → g.Summand Inner i x o → read.signed inner i ≡ true
+      begins : (i o : List Kind) (x : Bool × Expr) → g.Summand Inner i x o → read.signed i ≡ true
       begins i o x (g.added d) = refl
       begins i o x (g.subtracted d) = refl
 
@@ -510,23 +510,23 @@ module _ (Inner : List Kind → Expr → List Kind → Type 0) (inner : List Kin
       sound : (i : List Kind) (y : Expr × List Kind) → read.sum inner i ≡ Some y → g.Sum Inner i y.0 y.1
       sound i y h =
           let a = under_some g.summed (read.summands inner i) y h in
-          let b = bind_some (read.term inner i) (λ x. read.many (read.signed inner) (read.summand inner) (length x.1) ((false, x.0) ∷ []) x.1) a.0 a.1 in
-          let c = many_sound (g.Summand Inner) (read.summand inner) (read.signed inner) (Above 2) summand_repeats (length b.0.1) ((false, b.0.0) ∷ []) b.0.1 a.0 b.2 in
+          let b = bind_some (read.term inner i) (λ x. read.many read.signed (read.summand inner) (length x.1) ((false, x.0) ∷ []) x.1) a.0 a.1 in
+          let c = many_sound (g.Summand Inner) (read.summand inner) read.signed (Above 2) summand_repeats (length b.0.1) ((false, b.0.0) ∷ []) b.0.1 a.0 b.2 in
           subst (λ (z : Expr × List Kind). g.Sum Inner i z.0 z.1) a.2
           (subst (λ (xs : List (Bool × Expr)). g.Sum Inner i (g.summed xs) a.0.1) (sym c.1) (g.sums (term_exact.sound i b.0 b.1) c.2))
 
       complete : (i o : List Kind) (x : Expr) → g.Sum Inner i x o → Above 3 o → read.sum inner i ≡ Some (x, o)
       complete i o x (g.sums {m = m} {x = y} {xs = ys} d ds) f =
           let ends : Above 2 o = omega arith in
-          let stops : read.signed inner o ≡ false = rw (not_seen plus o 3 (omega arith) f, not_seen minus o 3 (omega arith) f) refl in
+          let stops : read.signed o ≡ false = rw (not_seen plus o 3 (omega arith) f, not_seen minus o 3 (omega arith) f) refl in
           rw (
-            term_exact.complete i m y d (many_follows (g.Summand Inner) (read.summand inner) (read.signed inner) (Above 2) summand_repeats m o ys ds ends),
-            many_complete (g.Summand Inner) (read.summand inner) (read.signed inner) (Above 2) summand_repeats (length m) ((false, y) ∷ []) m o ys ds ends stops (omega arith),
+            term_exact.complete i m y d (many_follows (g.Summand Inner) (read.summand inner) read.signed (Above 2) summand_repeats m o ys ds ends),
+            many_complete (g.Summand Inner) (read.summand inner) read.signed (Above 2) summand_repeats (length m) ((false, y) ∷ []) m o ys ds ends stops (omega arith),
           ) refl
 
       shorter : (i o : List Kind) (x : Expr) → g.Sum Inner i x o → length o < length i
       shorter i o x (g.sums {m = m} {x = y} {xs = ys} d ds) =
-          omega (arith, term_exact.shorter i m y d, many_shorter (g.Summand Inner) (read.summand inner) (read.signed inner) (Above 2) summand_repeats m o ys ds)
+          omega (arith, term_exact.shorter i m y d, many_shorter (g.Summand Inner) (read.summand inner) read.signed (Above 2) summand_repeats m o ys ds)
 
   -- ---- tests
 

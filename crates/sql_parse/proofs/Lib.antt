@@ -4,6 +4,7 @@ pub mod Depth
 pub mod Exact
 pub mod ExpressionLaws
 pub mod Follow
+pub mod LoneItems
 pub mod MomentLaws
 pub mod QueryLaws
 pub mod ReservedLaws

@@ -114,17 +114,32 @@ fn factor(alloc: Global, depth: u32, tokens: &[Token]) -> Result<(Expr, &[Token]
 }
 
 #[cycle(expression)]
-#[tactic(auto, using(crate::proofs::Turns::turns), unfolding(crate::specs::descent::Reading::term, crate::specs::descent::Reading::parted))]
+#[tactic(auto, unfolding(crate::specs::descent::Reading::term, crate::specs::descent::Reading::parted, crate::specs::descent::Reading::product))]
 fn term(alloc: Global, depth: u32, tokens: &[Token]) -> Result<(Expr, &[Token]), Stop>
     ensures { Gives (λ x. (x.0, kinds x.1.now)) result (spec.term (spec.inside depth) (kinds tokens.now)) }
 {
-    let (first, mut rest) = factor(alloc, depth, tokens)?;
-    if !sees_mark(rest, Mark::Asterisk) {
-        return Ok((first, rest));
+    let (first, rest) = factor(alloc, depth, tokens)?;
+    product(alloc, depth, first, rest)
+}
+
+// A term whose first factor came before.
+#[cycle(expression)]
+#[tactic(auto, using(crate::proofs::Turns::turns), unfolding(crate::specs::descent::Reading::product))]
+fn product(
+    alloc: Global,
+    depth: u32,
+    first: Expr,
+    tokens: &[Token],
+) -> Result<(Expr, &[Token]), Stop>
+    ensures { Gives (λ x. (x.0, kinds x.1.now)) result (spec.product (spec.inside depth) first (kinds tokens.entry.now)) }
+{
+    if !sees_mark(tokens, Mark::Asterisk) {
+        return Ok((first, tokens));
     }
+    let mut rest = tokens;
     let mut parts = List::new(alloc);
     parts.push(first)?;
-    for _turn in 0..rest.len() {
+    for _turn in 0..tokens.len() {
         if !sees_mark(rest, Mark::Asterisk) {
             break;
         }
@@ -138,22 +153,42 @@ fn term(alloc: Global, depth: u32, tokens: &[Token]) -> Result<(Expr, &[Token]),
     }
 }
 
+/// A factor alone, as most sums are, is told at once.
 #[cycle(expression)]
-#[tactic(auto, using(crate::proofs::Turns::turns), unfolding(crate::specs::descent::Reading::sum, crate::specs::descent::Reading::summands))]
+#[tactic(auto, using(crate::proofs::Turns::turns), unfolding(crate::specs::descent::Reading::sum, crate::specs::descent::Reading::summands, crate::specs::descent::Reading::term, crate::specs::descent::Reading::parted, crate::specs::descent::Reading::product, crate::specs::descent::Reading::summation, crate::specs::descent::Reading::further_summands))]
 pub fn sum(alloc: Global, depth: u32, tokens: &[Token]) -> Result<(Expr, &[Token]), Stop>
     ensures { Gives (λ x. (x.0, kinds x.1.now)) result (spec.sum (spec.inside depth) (kinds tokens.now)) }
 {
-    let (first, mut rest) = term(alloc, depth, tokens)?;
-    if !sees_mark(rest, Mark::Plus) && !sees_mark(rest, Mark::Minus) {
+    let (first, rest) = factor(alloc, depth, tokens)?;
+    if !sees_mark(rest, Mark::Asterisk) && !is_signed(rest) {
         return Ok((first, rest));
     }
+    let (first, rest) = product(alloc, depth, first, rest)?;
+    summation(alloc, depth, first, rest)
+}
+
+// A sum whose first term came before.
+#[cycle(expression)]
+#[tactic(auto, using(crate::proofs::Turns::turns), unfolding(crate::specs::descent::Reading::summation, crate::specs::descent::Reading::further_summands))]
+fn summation(
+    alloc: Global,
+    depth: u32,
+    first: Expr,
+    tokens: &[Token],
+) -> Result<(Expr, &[Token]), Stop>
+    ensures { Gives (λ x. (x.0, kinds x.1.now)) result (spec.summation (spec.inside depth) first (kinds tokens.entry.now)) }
+{
+    if !is_signed(tokens) {
+        return Ok((first, tokens));
+    }
+    let mut rest = tokens;
     let mut parts = List::new(alloc);
     parts.push((false, first))?;
-    for _turn in 0..rest.len() {
-        let is_minus = sees_mark(rest, Mark::Minus);
-        if !sees_mark(rest, Mark::Plus) && !is_minus {
+    for _turn in 0..tokens.len() {
+        if !is_signed(rest) {
             break;
         }
+        let is_minus = sees_mark(rest, Mark::Minus);
         let (part, after) = term(alloc, depth, behind(rest))?;
         parts.push((is_minus, part))?;
         rest = after;
@@ -162,6 +197,13 @@ pub fn sum(alloc: Global, depth: u32, tokens: &[Token]) -> Result<(Expr, &[Token
         Ok((_, part)) => Ok((part, rest)),
         Err(parts) => Ok((Expr::Sum(parts), rest)),
     }
+}
+
+// Whether a sign comes next.
+fn is_signed(tokens: &[Token]) -> bool
+    ensures { result ≡ spec.signed (kinds tokens.now) }
+{
+    sees_mark(tokens, Mark::Plus) || sees_mark(tokens, Mark::Minus)
 }
 
 #[cycle(expression)]

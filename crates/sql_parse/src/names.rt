@@ -21,13 +21,14 @@ fn is_free(word: &[u8]) -> bool
     !is_reserved(word) && 1 <= word.len() && word.len() <= NAME_BYTES
 }
 
+// No reserved word has fewer than two bytes.
 #[tactic(auto, unfolding(crate::specs::descent::ReservedWords::AreReservedFrom))]
 fn is_reserved(word: &[u8]) -> bool
     ensures { result ≡ is_reserved word.now }
 {
     match word {
-        [first, ..] => is_among(words_from(*first), word),
-        [] => false,
+        [first, _, ..] => is_among(words_from(*first), word),
+        _ => false,
     }
 }
 
@@ -66,7 +67,8 @@ fn is_among(mut words: &[&[u8]], word: &[u8]) -> bool
     ensures { result ≡ list_any (bytes_eq word.now) (map (λ known. known.now) words.entry.now) }
 {
     while let [known, rest @ ..] = words {
-        if word == *known {
+        // The lengths tell most words apart without the call that compares bytes.
+        if word.len() == known.len() && word == *known {
             return true;
         }
         words = rest;

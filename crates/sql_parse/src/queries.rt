@@ -12,7 +12,7 @@ use crate::names::name;
 use crate::stop::Stop;
 use crate::tables::{alias, aliased, qualified};
 use au_base::List;
-use sql_ast::{Count, FromClause, Item, Items, Join, Select, SortKey};
+use sql_ast::{Count, Expr, FromClause, Item, Items, Join, Select, SortKey};
 use sql_lex::{Mark, Token};
 use std::alloc::Global;
 
@@ -81,8 +81,23 @@ impl Part for ItemPart {
     }
 }
 
-#[tactic(auto, unfolding(crate::specs::descent::ReadQueries::item))]
+// A name with a comma behind it is told at once, without the descent.
+#[tactic(auto, using(crate::proofs::LoneItems::lone_item))]
 fn item(alloc: Global, depth: u32, tokens: &[Token]) -> Result<(Item, &[Token]), Stop>
+    ensures { Gives (λ x. (x.0, kinds x.1.now)) result (spec.item (inside depth) (kinds tokens.now)) }
+{
+    if sees_mark(behind(tokens), Mark::Comma) {
+        let (column, rest) = alias(alloc, tokens)?;
+        if let Some(column) = column {
+            let value = Expr::Column(None, column);
+            return Ok((Item { value, alias: None }, rest));
+        }
+    }
+    any_item(alloc, depth, tokens)
+}
+
+#[tactic(auto, unfolding(crate::specs::descent::ReadQueries::item))]
+fn any_item(alloc: Global, depth: u32, tokens: &[Token]) -> Result<(Item, &[Token]), Stop>
     ensures { Gives (λ x. (x.0, kinds x.1.now)) result (spec.item (inside depth) (kinds tokens.now)) }
 {
     let (value, rest) = sum(alloc, depth, tokens)?;

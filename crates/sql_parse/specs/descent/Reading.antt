@@ -141,6 +141,10 @@ worded_atom i =
     else (if sees (Word (codes "SYSTIMESTAMP")) i then Some (e.Now, behind i) else (if sees (Word (codes "TIMESTAMP")) i then moment (behind i)
     else (if sees (Word (codes "SYS_CONTEXT")) i && sees opening (behind i) then context (behind (behind i)) else column i))))
 
+-- whether a sign comes next
+abbrev pub signed : List Kind → Bool
+signed i = sees plus i || sees minus i
+
 module _ (inner : List Kind → Option (Expr × List Kind)) where
   abbrev pub parenthesized : Reader Expr
   parenthesized i = inner i >>= λ x. expect closing x.1 >>= λ o. Some (x.0, o)
@@ -159,14 +163,22 @@ module _ (inner : List Kind → Option (Expr × List Kind)) where
   unfoldable pub term : Reader Expr
   term i = under (joined e.Product) (parted star factor i)
 
-  abbrev pub signed : List Kind → Bool
-  signed i = sees plus i || sees minus i
+  -- behind the first factor of a term
+  unfoldable pub product : Expr → Reader Expr
+  product x i = under (joined e.Product) (many (sees star) (after factor) (length i) (x ∷ []) i)
 
   abbrev pub summand : Reader (Bool × Expr)
   summand i = under (λ x. (sees minus i, x)) (term (behind i))
 
   unfoldable pub summands : Reader (List (Bool × Expr))
   summands i = term i >>= λ x. many signed summand (length x.1) ((false, x.0) ∷ []) x.1
+
+  -- behind the first term of a sum
+  unfoldable pub further_summands : Expr → Reader (List (Bool × Expr))
+  further_summands x i = many signed summand (length i) ((false, x) ∷ []) i
+
+  unfoldable pub summation : Expr → Reader Expr
+  summation x i = under summed (further_summands x i)
 
   unfoldable pub sum : Reader Expr
   sum i = under summed (summands i)
