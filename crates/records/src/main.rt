@@ -4,6 +4,7 @@
 use au_base::{Memory, Text};
 use au_io::{FileDisk, NoLobby, RealClock, StdSink, StdSource};
 use au_main::{Status, top};
+use std::alloc::Global;
 use std::env;
 use std::io::{Error, ErrorKind};
 use std::process::ExitCode;
@@ -42,6 +43,18 @@ fn why_none(error: &Error) -> NoWords {
     }
 }
 
+// A block just below the largest, of 33,554,432 bytes, for which the C library's allocator raises
+// its thresholds (mallopt(3), M_MMAP_THRESHOLD).
+const RAISING_BLOCK: usize = 32_000_000;
+
+// That allocator gives what is free at the end of its heap back to the system once it is more than a
+// threshold, which is low until a large block was taken and freed. One such block, of which nothing
+// is written, keeps what a statement frees at hand for the next. Where the system refuses it, all
+// goes on as before.
+fn keep_what_is_freed(alloc: Global) {
+    let _block = Vec::<u8>::with_capacity(alloc, RAISING_BLOCK);
+}
+
 // Does what the words say, on the system's outside: the standard streams, the files of the working
 // folder, of which none is made before it is asked for, and the system's clock.
 fn run(rt: HostRuntime, words: &[Text]) -> Status {
@@ -62,6 +75,7 @@ fn run(rt: HostRuntime, words: &[Text]) -> Status {
 }
 
 fn main(rt: HostRuntime) -> ExitCode {
+    keep_what_is_freed(rt.alloc());
     let status = match words(&rt) {
         Ok(words) => run(rt, &words),
         Err(NoWords::Unread) => Status::Usage,
