@@ -1,6 +1,7 @@
 //! What a case asks in one word, and how it is answered in one.
 
 use crate::fault::Fault;
+use crate::texts::push_between;
 use std::alloc::Global;
 
 // How the answer begins to what is done and gives no rows.
@@ -57,11 +58,11 @@ fn line_of(ask: &str) -> Result<&'static str, Fault> {
 
 /// Adds the answers in short, with spaces between them.
 pub fn push_answers(said: &mut String, given: &str) -> Result<(), Fault> {
-    let mut before = "";
+    let mut is_first = true;
     for line in given.lines() {
-        said.push_str(before)?;
+        push_between(said, is_first, " ")?;
         said.push_str(short(line))?;
-        before = " ";
+        is_first = false;
     }
     Ok(())
 }

@@ -2,6 +2,7 @@
 
 use crate::fault::Fault;
 use crate::steps::push_step;
+use crate::texts::push_between;
 use crate::words::{number, numbers};
 use au_io::MemDisk;
 use std::alloc::Global;
@@ -61,11 +62,11 @@ fn push_on_disk(
     steps: &str,
     said: &mut String,
 ) -> Result<(), Fault> {
-    let mut before = "";
+    let mut is_first = true;
     for step in steps.split(';') {
-        said.push_str(before)?;
+        push_between(said, is_first, "; ")?;
         push_step(alloc, disk, step.trim(), said)?;
-        before = "; ";
+        is_first = false;
     }
     said.push('\n')?;
     Ok(())

@@ -2,7 +2,7 @@
 
 use crate::fault::Fault;
 use crate::frame;
-use crate::outside::{CLOCK, Handed, command, make_store};
+use crate::outside::{CLOCK, Handed, Outcome, command, make_store};
 use crate::series::{Series, written_out};
 use crate::words::{asks, first_word, number};
 use au_io::{MemClock, MemDisk};
@@ -79,8 +79,7 @@ impl Script {
             &Handed::of(&script, self.clock),
             &mut self.disk,
         )?;
-        push_lines(said, lines, &ran.given)?;
-        push_status(said, ran.status)
+        push_run(said, lines, &ran)
     }
 }
 
@@ -92,8 +91,10 @@ fn clock_of(numbers: &str) -> Result<MemClock, Fault> {
     })
 }
 
-// Adds how the run ended, where that isn't that all was done.
-fn push_status(said: &mut String, status: Status) -> Result<(), Fault> {
+// Adds the lines with their answers, and how the run ended, where that isn't that all was done.
+fn push_run(said: &mut String, lines: &str, ran: &Outcome) -> Result<(), Fault> {
+    push_lines(said, lines, &ran.given)?;
+    let status = ran.status;
     if status != Status::Done {
         writeln!(said, "  {status}")?;
     }

@@ -4,7 +4,7 @@ use crate::asks::{push_answers, push_counts, script_of};
 use crate::ends::push_short;
 use crate::fault::Fault;
 use crate::frame::write_end;
-use crate::outside::{CLOCK, Handed, command};
+use crate::outside::{CLOCK, Handed, Outcome, command};
 use crate::texts::push_joined;
 use crate::words::{first_word, number};
 use au_io::{Area, Disk, MemDisk};
@@ -51,6 +51,12 @@ fn init(alloc: Global, disk: &mut MemDisk, limit: &str, said: &mut String) -> Re
 fn run(alloc: Global, disk: &mut MemDisk, asks: &str, said: &mut String) -> Result<(), Fault> {
     let script = script_of(alloc, asks)?;
     let ran = command(alloc, "run", &Handed::of(&script, CLOCK), disk)?;
+    push_run(said, &ran)
+}
+
+// Adds the answers, how often the clock was read, and how the run ended, where that isn't that all was
+// done.
+fn push_run(said: &mut String, ran: &Outcome) -> Result<(), Fault> {
     push_answers(said, &ran.given)?;
     write!(said, ", {} readings", ran.readings)?;
     if ran.status != Status::Done {

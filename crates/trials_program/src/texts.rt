@@ -59,11 +59,19 @@ pub fn push_indented(said: &mut String, text: &str) -> Result<(), Fault> {
 
 /// Adds the lines of the text, with that between them.
 pub fn push_joined(said: &mut String, text: &str, between: &str) -> Result<(), Fault> {
-    let mut before = "";
+    let mut is_first = true;
     for line in text.lines() {
-        said.push_str(before)?;
+        push_between(said, is_first, between)?;
         said.push_str(line)?;
-        before = between;
+        is_first = false;
+    }
+    Ok(())
+}
+
+/// Adds what stands between the parts of a list, unless this part is the first.
+pub fn push_between(said: &mut String, is_first: bool, between: &str) -> Result<(), Fault> {
+    if !is_first {
+        said.push_str(between)?;
     }
     Ok(())
 }
