@@ -1,6 +1,7 @@
 //! Frames that are appended to a journal by hand, also such as no store writes.
 
 use crate::fault::Fault;
+use crate::words::bytes_of;
 use au_io::{Area, Disk, Failed, MemDisk};
 use std::alloc::Global;
 
@@ -9,26 +10,7 @@ use std::alloc::Global;
 pub fn append(alloc: Global, disk: &mut MemDisk, digits: &str) -> Result<(), Fault> {
     let frame = gated(alloc, &bytes_of(alloc, digits)?)?;
     let area = selected(disk)?;
-    match disk.size(area)? {
-        0 => Err(Fault::NoTrial),
-        size => {
-            disk.write_at(area, size - 1, &frame)?;
-            disk.sync(area)?;
-            Ok(())
-        }
-    }
-}
-
-// The bytes that the digits spell. Blanks part them.
-fn bytes_of(alloc: Global, digits: &str) -> Result<Vec<u8>, Fault> {
-    let mut bytes = Vec::new(alloc);
-    for part in digits.split(' ') {
-        match hex::decode(alloc, part) {
-            Ok(more) => bytes.extend_from_slice(&more)?,
-            Err(_) => return Err(Fault::NoTrial),
-        }
-    }
-    Ok(bytes)
+    write_end(disk, area, &frame)
 }
 
 // The body behind an open gate and its length, and with a closed gate behind it.
@@ -48,5 +30,17 @@ fn selected(disk: &mut MemDisk) -> Result<Area, Failed> {
     match letter[0] {
         0x42 => Ok(Area::B),
         _ => Ok(Area::A),
+    }
+}
+
+/// Writes the bytes over the closed gate at the end of the area, and syncs it.
+pub fn write_end(disk: &mut MemDisk, area: Area, bytes: &[u8]) -> Result<(), Fault> {
+    match disk.size(area)? {
+        0 => Err(Fault::NoCase),
+        size => {
+            disk.write_at(area, size - 1, bytes)?;
+            disk.sync(area)?;
+            Ok(())
+        }
     }
 }

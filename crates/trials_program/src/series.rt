@@ -1,4 +1,4 @@
-//! Lines that stand for many.
+//! Lines of a script that stand for many.
 
 use crate::fault::Fault;
 use crate::words::{first_word, number};
@@ -25,14 +25,25 @@ impl<'a> Series<'a> {
     }
 
     // Adds these lines to the script.
-    fn push_to(&self, alloc: Global, script: &mut String) -> Result<(), Fault> {
+    fn push_to(&self, script: &mut String) -> Result<(), Fault> {
         for number in self.first..=self.last {
-            let digits = format!(in alloc; "{number}")?;
-            script.push_str(&self.line.replace(alloc, '#', &digits)?)?;
-            script.push('\n')?;
+            push_with(script, self.line, number)?;
         }
         Ok(())
     }
+}
+
+// Adds the line with the number in place of each `#`.
+fn push_with(script: &mut String, line: &str, number: u64) -> Result<(), Fault> {
+    let mut parts = line.split('#');
+    if let Some(front) = parts.next() {
+        script.push_str(front)?;
+    }
+    for part in parts {
+        write!(script, "{number}{part}")?;
+    }
+    script.push('\n')?;
+    Ok(())
 }
 
 /// The script with the lines for which others stand in their place.
@@ -40,11 +51,8 @@ pub fn written_out(alloc: Global, script: &str) -> Result<String, Fault> {
     let mut lines = String::new(alloc);
     for line in script.lines() {
         match Series::read(line) {
-            Some(series) => series.push_to(alloc, &mut lines)?,
-            None => {
-                lines.push_str(line)?;
-                lines.push('\n')?;
-            }
+            Some(series) => series.push_to(&mut lines)?,
+            None => writeln!(lines, "{line}")?,
         }
     }
     Ok(lines)

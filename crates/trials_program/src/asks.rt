@@ -1,6 +1,7 @@
-//! Scripts of one client, and what is said to them.
+//! What a case asks in one word, and how it is answered in one.
 
 use crate::fault::Fault;
+use crate::texts::push_between;
 use std::alloc::Global;
 
 // How the answer begins to what is done and gives no rows.
@@ -55,42 +56,29 @@ fn line_of(ask: &str) -> Result<&'static str, Fault> {
     }
 }
 
-/// The answers in short, with spaces between them.
-pub fn said_answers(alloc: Global, given: &str) -> Result<String, Fault> {
-    let mut said = String::new(alloc);
+/// Adds the answers in short, with spaces between them.
+pub fn push_answers(said: &mut String, given: &str) -> Result<(), Fault> {
+    let mut is_first = true;
     for line in given.lines() {
-        if !said.is_empty() {
-            said.push(' ')?;
-        }
+        push_between(said, is_first, " ")?;
         said.push_str(short(line))?;
+        is_first = false;
     }
-    Ok(said)
+    Ok(())
 }
 
-/// The lines with commas between them.
-pub fn joined_lines(alloc: Global, given: &str) -> Result<String, Fault> {
-    let mut said = String::new(alloc);
-    for line in given.lines() {
-        if !said.is_empty() {
-            said.push_str(", ")?;
-        }
-        said.push_str(line)?;
-    }
-    Ok(said)
-}
-
-/// What the answers to `local count rows` count: the records, and behind a comma the rows of T, where
-/// it stands.
-pub fn said_counts(alloc: Global, given: &str) -> Result<String, Fault> {
+/// Adds what the answers to `local count rows` count: the records, and behind a comma the rows of T,
+/// where it stands.
+pub fn push_counts(said: &mut String, given: &str) -> Result<(), Fault> {
     let mut answers = given.lines();
     let _local = answers.next();
-    let records = short(answers.next().unwrap_or(""));
+    said.push_str(short(answers.next().unwrap_or("")))?;
     let rows = answers.next().unwrap_or("");
-    if rows == NO_TABLE {
-        return Ok(String::from_str(alloc, records)?);
+    if rows != NO_TABLE {
+        said.push(',')?;
+        said.push_str(short(rows))?;
     }
-    let rows = short(rows);
-    Ok(format!(in alloc; "{records},{rows}")?)
+    Ok(())
 }
 
 // An answer in short: `ok`, the code of a bad argument, a count, a fault, or the text itself.
