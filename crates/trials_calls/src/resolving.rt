@@ -12,15 +12,27 @@ use trials_lines::{Fault, cell_text, cells, columns, name, said};
 pub fn answers(alloc: Global, case: &str) -> Result<String, Fault> {
     let (_, text) = case.split_once('|').ok_or(Fault::NoCase)?;
     let expr = expression(alloc, text)?;
-    let scope = scope(alloc, columns(alloc, "K NUMBER,N NUMBER,A TEXT,M MOMENT")?)?;
-    match &resolve(alloc, &expr, &scope)? {
+    over_table(alloc, &expr)
+}
+
+// What comes of an expression over the table.
+fn over_table(alloc: Global, expr: &Expr) -> Result<String, Fault> {
+    let columns = columns(alloc, "K NUMBER,N NUMBER,A TEXT,M MOMENT")?;
+    let scope = scope(alloc, columns)?;
+    in_scope(alloc, expr, &scope)
+}
+
+fn in_scope(alloc: Global, expr: &Expr, scope: &Scope) -> Result<String, Fault> {
+    let resolved = resolve(alloc, expr, scope)?;
+    match &resolved {
         Err(code) => code_text(alloc, *code),
-        Ok(resolved) => given(
-            alloc,
-            resolved,
-            cells(alloc, "1,NULL,'a',@1000000")?.as_slice(),
-        ),
+        Ok(resolved) => over_row(alloc, resolved),
     }
+}
+
+fn over_row(alloc: Global, resolved: &Resolved) -> Result<String, Fault> {
+    let cells = cells(alloc, "1,NULL,'a',@1000000")?;
+    given(alloc, resolved, cells.as_slice())
 }
 
 // The expression that a text is.
