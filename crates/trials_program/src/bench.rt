@@ -2,7 +2,7 @@
 
 use crate::ends::{end_of, push_end};
 use crate::fault::Fault;
-use crate::outside::{Handed, Outcome, command, make_store, top_command};
+use crate::outside::{Handed, Outcome, blank, command, make_store, top_command};
 use crate::setting::Setting;
 use crate::texts::push_indented;
 use crate::words::{bytes_of, first_word, number};
@@ -46,18 +46,18 @@ impl Bench {
             "alone" => self.try_all(alloc, Call::Alone, part, said),
             "do" => self.do_once(alloc, part, said),
             "read" => self.read(alloc, part, said),
-            "end" => {
-                push_end(said, end_of(part)?)?;
-                said.push('\n')?;
-                Ok(())
-            }
-            "blank" => {
-                self.disk = MemDisk::new(alloc, &[])?;
-                Ok(())
-            }
+            "end" => push_named_end(said, part),
+            _ => self.set_up(alloc, step, part),
+        }
+    }
+
+    // Sets up what the commands that come are done on.
+    fn set_up(&mut self, alloc: Global, step: &str, part: &str) -> Result<(), Fault> {
+        match step {
+            "blank" => blank(alloc, &mut self.disk),
             "store" => make_store(alloc, &mut self.disk),
             "scribble" => scribble(alloc, &mut self.disk, part),
-            "cut" => cut(&mut self.disk, number(part)?),
+            "cut" => cut(&mut self.disk, part),
             _ => self.setting.set(alloc, step, part),
         }
     }
@@ -138,6 +138,12 @@ fn done(
     said_outcome(alloc, &outcome)
 }
 
+fn push_named_end(said: &mut String, name: &str) -> Result<(), Fault> {
+    push_end(said, end_of(name)?)?;
+    said.push('\n')?;
+    Ok(())
+}
+
 fn said_outcome(alloc: Global, outcome: &Outcome) -> Result<String, Fault> {
     let mut said = String::new(alloc);
     push_end(&mut said, outcome.status)?;
@@ -159,7 +165,8 @@ fn scribble(alloc: Global, disk: &mut MemDisk, part: &str) -> Result<(), Fault> 
 }
 
 // Cuts area A.
-fn cut(disk: &mut MemDisk, size: u64) -> Result<(), Fault> {
+fn cut(disk: &mut MemDisk, size: &str) -> Result<(), Fault> {
+    let size = number(size)?;
     if size > disk.size(Area::A)? {
         return Err(Fault::NoCase);
     }

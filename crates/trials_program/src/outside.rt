@@ -81,9 +81,15 @@ pub fn top_command(
     by_top(alloc, &mut rest, disk)
 }
 
+/// Puts an empty disk in the place of the disk.
+pub fn blank(alloc: Global, disk: &mut MemDisk) -> Result<(), Fault> {
+    *disk = MemDisk::new(alloc, &[])?;
+    Ok(())
+}
+
 /// Puts a new store, whose SYS has the password `p`, in the place of the disk.
 pub fn make_store(alloc: Global, disk: &mut MemDisk) -> Result<(), Fault> {
-    *disk = MemDisk::new(alloc, &[])?;
+    blank(alloc, disk)?;
     let made = command(alloc, "init --sys-password p", &Handed::of("", CLOCK), disk)?;
     match made.status {
         Status::Done => Ok(()),
