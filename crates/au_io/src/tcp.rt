@@ -14,7 +14,8 @@ use std::net::{Ipv4Addr, SocketAddr, TcpListener};
 ///
 /// Its peer has ten minutes for each request, counted from the accept or from the response before
 /// it, and ten minutes to take each response. A call that is late is a fault. The time is counted
-/// anew at the first `take` after a `give`, and at the first `give` after a `take`.
+/// anew where a `take` follows a `give` or a `give` a `take`, and behind a `give` whose bytes were
+/// all taken.
 #[derive(Drop)]
 pub struct TcpLink {
     stream: TimedStream,

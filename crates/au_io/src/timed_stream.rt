@@ -1,22 +1,19 @@
 //! A connection of the system whose calls end by a deadline.
 ghost use Rattle.std.specs.Prelude.{◌<◌, ◌≤◌, length, IfSome};
 
-use crate::deadline::{Deadline, Way};
+use crate::deadline::{Deadline, Phase};
 use crate::tries::{read_some, write_some};
 use std::net::{Shutdown, TcpStream};
 use std::time::{Duration, Instant};
 
-/// A connection of the system. A request has to come whole within ten minutes, counted from the
-/// accept or from the response before it; a response has to be taken within ten minutes. A call that
-/// is late fails.
+/// A connection of the system whose requests and responses have a deadline. A call that is late fails.
 #[derive(Drop)]
 pub(crate) struct TimedStream {
     rt: HostRuntime,
     stream: TcpStream,
     deadline: Deadline,
-    // what the system was told last
-    read_timeout: Option<Duration>,
-    write_timeout: Option<Duration>,
+    // the time-out that the system has for reads and for writes
+    timeout: Option<Duration>,
 }
 
 impl TimedStream {
@@ -27,29 +24,34 @@ impl TimedStream {
             rt,
             stream,
             deadline,
-            read_timeout: None,
-            write_timeout: None,
+            timeout: None,
         })
     }
 
     /// Reads once. `None` is a failed or a late read.
     ///
-    /// It is one call of the system, and one more where the time that is left isn't what the system
-    /// was told last: at the first read, and at each further read of one request.
+    /// It is one call of the system. Two more set the time-outs where the time that is left isn't
+    /// what the system has: at the first read, at the first of the next request, and at each further
+    /// read of one request.
     pub(crate) fn read(&mut self, room: &mut [u8]) -> Option<usize>
         ensures { IfSome result (λ n. n ≤ length room.new) }
     {
-        self.limit_read()?;
+        self.limit(Phase::Taking)?;
         read_some(&mut self.stream, room)
     }
 
     /// Writes once. `None` is a failed or a late write, or one that took no byte. It costs what a
-    /// read does.
+    /// read does. Where all bytes were taken the next write has the whole time again, so the time of
+    /// the server's own work is never counted.
     pub(crate) fn write(&mut self, bytes: &[u8]) -> Option<usize>
         ensures { IfSome result (λ n. (0 < n) × (n ≤ length bytes.now)) }
     {
-        self.limit_write()?;
-        write_some(&mut self.stream, bytes)
+        self.limit(Phase::Giving)?;
+        let taken = write_some(&mut self.stream, bytes)?;
+        if taken == bytes.len() {
+            self.deadline.rest();
+        }
+        Some(taken)
     }
 
     /// Ends what is written.
@@ -58,30 +60,18 @@ impl TimedStream {
         let _ = self.stream.shutdown(Shutdown::Write);
     }
 
-    // Lets the next read wait for as long as the deadline allows.
-    fn limit_read(&mut self) -> Option<()> {
-        let left = self.time_left(Way::Taking)?;
-        if self.read_timeout != Some(left) {
+    // Lets the next call wait for as long as the deadline allows. `None` where no time is left, no
+    // clock can be read, or the system refuses.
+    fn limit(&mut self, phase: Phase) -> Option<()> {
+        let left = self.deadline.left(phase, Instant::now(&self.rt).ok()?);
+        if left.is_zero() {
+            return None;
+        }
+        if self.timeout != Some(left) {
             self.stream.set_read_timeout(Some(left)).ok()?;
-            self.read_timeout = Some(left);
-        }
-        Some(())
-    }
-
-    // Lets the next write wait for as long as the deadline allows.
-    fn limit_write(&mut self) -> Option<()> {
-        let left = self.time_left(Way::Giving)?;
-        if self.write_timeout != Some(left) {
             self.stream.set_write_timeout(Some(left)).ok()?;
-            self.write_timeout = Some(left);
+            self.timeout = Some(left);
         }
         Some(())
-    }
-
-    // The time that a call of this way may still take. `None` where there is none, or no clock can
-    // be read.
-    fn time_left(&mut self, way: Way) -> Option<Duration> {
-        let left = self.deadline.left(way, Instant::now(&self.rt).ok()?);
-        if left.is_zero() { None } else { Some(left) }
     }
 }
