@@ -2,7 +2,7 @@ use Rattle.std.proofs.Common.{◌≡◌, ◌+◌, ◌-◌, ◌≤◌}
 use Rattle.au_main.specs.Lines.{script_limit}
 use Rattle.au_main.specs.Means.{means_of}
 use Rattle.au_main.proofs.Runs.{RanSoFar}
-use Rattle.au_main.proofs.run.do_lines.Given as goal
+use Rattle.au_main.proofs.run.do_each.Given as goal
 
 abbrev pub invariant-loop-line : goal.invariant-loop-line
 invariant-loop-line g l =
