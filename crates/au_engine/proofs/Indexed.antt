@@ -1,7 +1,7 @@
 -- What a step that is worked out makes of the catalogue, and of what is ready for the index of its policies.
-use Rattle.std.proofs.Common.{◌≡◌, ◌∙◌, ◌∷◌, Bool, true, false, List, [], ℕ, length, refl, sym, ap, subst}
+use Rattle.std.proofs.Common.{◌≡◌, ◌∙◌, true, false, List, [], ℕ, length, refl, ap, subst}
 use Rattle.std.specs.List.{list_any}
-use Rattle.std.specs.Prelude.{IfOk, IfSome, IsSome, IsTrue, Option, None, Some, Result, Ok, Err, IsErrAnd, is_none}
+use Rattle.std.specs.Prelude.{IfOk, IfSome, IsSome, IsTrue, Option, None, Some, Result, Ok, Err, is_none}
 use Rattle.au_base.specs.declared.memory.Memory.{Memory}
 use Rattle.au_base.specs.declared.numbers.ClientNo.{ClientNo}
 use Rattle.au_catalog.specs.Settling.{catalog_after_all, catalog_of}
@@ -54,8 +54,3 @@ index_ready (Ok ready) changes logged same one others = record {
   others = λ is. others (ap (list_any changes_policies) same ∙ is);
 }
 index_ready (Err short) changes logged same one others = tt
-
--- nothing is asked of what failed
-pub none_ok : {X E : Type 0} (Q : E → Type 0) (r : Result X E) (P : X → Type 0) → IsErrAnd r Q → IfOk r P
-none_ok Q (Ok x) P is = absurd is
-none_ok Q (Err y) P is = tt

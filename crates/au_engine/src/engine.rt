@@ -100,8 +100,13 @@ impl Engine {
         ensures { IfOk result (λ engine. engine.state ≡ resting (opening password.now)) }
     {
         let mut engine = Engine::empty(alloc)?;
-        engine.take_opening(alloc, password)?;
-        Ok(engine)
+        match engine.take_opening(alloc, password) {
+            Ok(()) => Ok(engine),
+            Err(why) => {
+                drop(engine);
+                Err(why)
+            }
+        }
     }
 
     /// The stamp of an event at this reading of the clock: the larger of the reading and the last
@@ -326,8 +331,9 @@ fn settle_made(index: &mut Option<Index>, staged: StagedIndex)
     ensures leads { (catalog after : Catalog) → indexes.IsStaged catalog after staged → IfSome index.old (IsIndexOf catalog) → IfSome index.new (IsIndexOf after) }
     ensures stays { IsSome index.old → IsSome index.new }
 {
-    if let Some(index) = index {
-        index.settle(staged);
+    match index {
+        Some(index) => index.settle(staged),
+        None => drop(staged),
     }
 }
 

@@ -51,7 +51,9 @@ impl Engine {
             self.image_seen(alloc, committing(&prepared.sessions), &events)
         } else {
             let changed = self.changed_by(alloc, prepared)?;
-            changed.image_told(alloc, &events)
+            let image = changed.image_told(alloc, &events);
+            drop(changed);
+            image
         }
     }
 
@@ -96,12 +98,12 @@ impl Engine {
         ensures { IfOk result (λ changed. untold changed.state.kept ≡ untold (after prepared.now self.now.state).kept) }
     {
         sights_suffice();
-        let mut copy = self.copy_untold(alloc)?;
+        let copy = self.copy_untold(alloc)?;
         match prepared.body() {
             None => Ok(copy),
             Some(body) => {
-                copy.take_body(alloc, body)?;
-                Ok(copy)
+                let changed = copy.after_body(alloc, body)?;
+                Ok(changed)
             }
         }
     }
@@ -114,9 +116,25 @@ impl Engine {
         self.lawful();
         au_entries::images_come_back();
         let image = self.image_told(alloc, &Told::all(&[], Stamp(0)))?;
-        let mut copy = Engine::empty(alloc)?;
-        copy.take_body(alloc, body_in(image.as_slice()))?;
+        let blank = Engine::empty(alloc)?;
+        let copy = blank.after_body(alloc, body_in(image.as_slice()))?;
         Ok(copy)
+    }
+
+    // The engine after the body of a frame, which goes on.
+    fn after_body(self, alloc: Global, body: &[u8]) -> Result<Engine, Memory>
+        requires idle { self.state.sessions ≡ [] }
+        requires takes { (next : Kept) × Takes self.state.kept body.now next }
+        ensures { IfOk result (λ engine. (next : Kept) → Takes self.state.kept body.now next → engine.state ≡ record self.state { kept = next }) }
+    {
+        let mut engine = self;
+        match engine.take_body(alloc, body) {
+            Ok(()) => Ok(engine),
+            Err(why) => {
+                drop(engine);
+                Err(why)
+            }
+        }
     }
 
     // Replays the body of a frame, which goes on.

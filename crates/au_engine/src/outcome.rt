@@ -9,7 +9,7 @@ use au_txn::RowChange;
 use std::alloc::Global;
 
 /// What becomes of a client's changes of rows that aren't committed.
-#[derive(Debug, Drop)]
+#[derive(Drop)]
 pub enum RowsChange {
     Nothing,
     /// They are committed.
@@ -25,7 +25,7 @@ pub enum RowsChange {
 }
 
 /// What becomes of the sessions.
-#[derive(Debug, Drop)]
+#[derive(Drop)]
 pub enum SessionChange {
     Nothing,
     /// This session begins, as the instance's next one.

@@ -68,12 +68,27 @@ impl Engine {
         ensures follows { IfOk result (λ prepared. IsIndexReady (logged_of prepared).changes prepared.index) }
         ensures steps { CountsFor self.old.state client ask.now stamp.0 steps.old steps.new }
     {
-        self.reserve()?;
-        self.index_policies(alloc)?;
+        if let Err(why) = self.reserve() {
+            drop(plan);
+            return Err(why);
+        }
+        if let Err(why) = self.index_policies(alloc) {
+            drop(plan);
+            return Err(why);
+        }
         let outcome = self.step(alloc, client, ask, read, plan, stamp, steps)?;
         let outcome = self.framed(alloc, client, ask, stamp, outcome)?;
-        self.reserve_rows(alloc, &outcome.sessions)?;
-        let index = self.stage_index(alloc, client, ask, stamp, &outcome)?;
+        if let Err(why) = self.reserve_rows(alloc, &outcome.sessions) {
+            drop(outcome);
+            return Err(why);
+        }
+        let index = match self.stage_index(alloc, client, ask, stamp, &outcome) {
+            Ok(index) => index,
+            Err(why) => {
+                drop(outcome);
+                return Err(why);
+            }
+        };
         self.ready(alloc, client, ask, stamp, outcome, index)
     }
 
@@ -251,9 +266,17 @@ impl Engine {
         steps_hold();
         clients_have_one_session();
         spellings_are_short();
-        let staged = self
+        let staged = match self
             .keeping
-            .stage(alloc, behind(&outcome), outcome.records.len())?;
+            .stage(alloc, behind(&outcome), outcome.records.len())
+        {
+            Ok(staged) => staged,
+            Err(why) => {
+                drop(outcome);
+                drop(index);
+                return Err(why);
+            }
+        };
         let Outcome {
             reply,
             sessions,

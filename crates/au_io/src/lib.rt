@@ -4,6 +4,7 @@
 mod call;
 mod clock;
 mod contents;
+mod deadline;
 mod disk;
 mod fault_plan;
 mod file_disk;
@@ -25,6 +26,7 @@ mod std_sink;
 mod std_source;
 mod stream;
 mod tcp;
+mod timed_stream;
 mod tries;
 
 pub use clock::{Clock, MemClock};

@@ -69,4 +69,14 @@ impl Sink for MemLink {
     }
 }
 
-impl Link for MemLink {}
+impl Link for MemLink {
+    /// Nothing happens: a link in memory has no peer that reads.
+    fn shut(&mut self)
+        ensures left { Some (source_left self.new.source) ≡ Some (source_left self.old.source) }
+        ensures taken { Some (source_taken self.new.source) ≡ Some (source_taken self.old.source) }
+        ensures given { Some (sink_given self.new.sink) ≡ Some (sink_given self.old.sink) }
+        ensures faults { link_faults self.new ≡ link_faults self.old }
+        ensures short { sink_short self.new.sink ≡ sink_short self.old.sink }
+        ensures same { self.new ≡ self.old }
+    {}
+}

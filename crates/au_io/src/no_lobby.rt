@@ -40,7 +40,9 @@ impl Sink for NoLink {
     }
 }
 
-impl Link for NoLink {}
+impl Link for NoLink {
+    fn shut(&mut self) {}
+}
 
 impl Lobby for NoLobby {
     type Link = NoLink;

@@ -3,16 +3,22 @@ ghost use Rattle.std.specs.Prelude.{◌≡◌, ◌≤◌, None};
 ghost use Rattle.au_io.specs.Faults.{one_more};
 
 use crate::standard_streams::StandardStreams;
-use crate::tries::{accept_some, read_some, write_some};
+use crate::timed_stream::TimedStream;
+use crate::tries::accept_some;
 use crate::{Gave, Link, Lobby, Next, Opened, Sink, Source, Stream, Took};
-use std::net::{Ipv4Addr, SocketAddr, TcpListener, TcpStream};
+use std::net::{Ipv4Addr, SocketAddr, TcpListener};
 
 /// A connection of the system. It tells nothing of its bytes: that they are those of its peer is
 /// trusted. A call is one read or write, made again where a signal interrupts it; a write that takes
 /// no byte is a fault.
+///
+/// Its peer has ten minutes for each request, counted from the accept or from the response before
+/// it, and ten minutes to take each response. A call that is late is a fault. The time is counted
+/// anew where a `take` follows a `give` or a `give` a `take`, and behind a `give` whose bytes were
+/// all taken.
 #[derive(Drop)]
 pub struct TcpLink {
-    stream: TcpStream,
+    stream: TimedStream,
     faults: u64,
 }
 
@@ -39,7 +45,7 @@ impl Source for TcpLink {
     ghost plan = { λ _. None };
 
     fn take(&mut self, room: &mut [u8]) -> Took {
-        match read_some(&mut self.stream, room) {
+        match self.stream.read(room) {
             Some(0) => Took::End,
             Some(count) => Took::Bytes(count),
             None => {
@@ -56,7 +62,7 @@ impl Sink for TcpLink {
     ghost plan = { λ _. None };
 
     fn give(&mut self, bytes: &[u8]) -> Gave {
-        match write_some(&mut self.stream, bytes) {
+        match self.stream.write(bytes) {
             Some(count) => Gave::Bytes(count),
             None => {
                 self.fail();
@@ -66,7 +72,11 @@ impl Sink for TcpLink {
     }
 }
 
-impl Link for TcpLink {}
+impl Link for TcpLink {
+    fn shut(&mut self) {
+        self.stream.shut();
+    }
+}
 
 /// A port of 127.0.0.1 that peers can connect to, off the places of the standard streams.
 #[derive(Drop)]
@@ -108,8 +118,9 @@ impl TcpLobby {
     }
 
     // The next connection.
-    fn accept(&self) -> Option<TcpStream> {
-        accept_some(&self.door.as_ref()?.listener)
+    fn accept(&self) -> Option<TimedStream> {
+        let stream = accept_some(&self.door.as_ref()?.listener)?;
+        TimedStream::new(self.rt, stream)
     }
 }
 

@@ -1,9 +1,8 @@
 -- What the words say of the command.
 use Rattle.std.proofs.Common.{◌≡◌, inl, inr, ℕ, List, arith, subst}
 use Rattle.au_journal.specs.Frames.{IsLimit}
-use Rattle.au_words.specs.declared.command.Command.{Command}
 use Rattle.au_words.specs.declared.command.Command.TheVariants as word
-use Rattle.au_words.specs.Words.{AreOptions, IsCommand, IsInit, LimitAt}
+use Rattle.au_words.specs.Words.{AreOptions, IsInit, LimitAt}
 use Rattle.au_main.specs.declared.export.Export.{Export}
 use Rattle.au_main.specs.declared.export.Export.TheVariants as export
 use Rattle.au_main.specs.Exports.{as_command}

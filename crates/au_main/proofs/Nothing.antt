@@ -1,5 +1,5 @@
 -- Commands that did nothing, since there was no memory for their words.
-use Rattle.std.proofs.Common.{◌≡◌, inl, inr, ℕ, List, refl}
+use Rattle.std.proofs.Common.{inl, ℕ, List, refl}
 use Rattle.std.specs.Prelude.{Option}
 use Rattle.au_io.specs.Disk.{Stays}
 use Rattle.au_io.specs.Moments.{CountsNow, OnlyNow, no_call}

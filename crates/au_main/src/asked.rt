@@ -1,7 +1,7 @@
 //! What was asked of a sample's store.
 
 /// What was asked of a sample's store.
-#[derive(Clone, Copy, Debug, PartialEq, Eq)]
+#[derive(Clone, Copy)]
 pub(crate) struct Asked {
     /// How many asks there were.
     pub(crate) count: u64,

@@ -1,7 +1,7 @@
 //! The commands that write what a store keeps.
 
 /// What is written of a store, which isn't opened for it.
-#[derive(Clone, Copy, Debug, PartialEq, Eq)]
+#[derive(Clone, Copy)]
 pub enum Export {
     /// The trail as comma-separated values.
     Trail,

@@ -9,7 +9,7 @@ use crate::status::Status;
 use au_io::{Gave, Sink};
 
 /// The sink failed.
-#[derive(Clone, Copy, Debug, PartialEq, Eq)]
+#[derive(Clone, Copy)]
 pub(crate) struct WriteFault;
 
 /// Gives all the bytes. At a fault a front of them was given.

@@ -1,7 +1,7 @@
 //! What comes next of a script.
 
 /// What comes next of a script.
-#[derive(Debug, Drop)]
+#[derive(Drop)]
 pub(crate) enum Line {
     /// A line, without the LF that ends it.
     Ended(Vec<u8>),

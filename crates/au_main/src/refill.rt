@@ -1,7 +1,7 @@
 //! What comes of asking a source for more.
 
 /// What comes of asking a source for more.
-#[derive(Clone, Copy, Debug, PartialEq, Eq)]
+#[derive(Clone, Copy)]
 pub(crate) enum Refill {
     /// Bytes were taken.
     More,

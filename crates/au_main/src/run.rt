@@ -1,5 +1,5 @@
 //! The command `run`.
-ghost use Rattle.std.specs.Prelude.{◌≡◌, ◌<◌, ◌⊎◌, List, length};
+ghost use Rattle.std.specs.Prelude.{◌≡◌, ◌<◌, ◌⊎◌, [], List, length};
 ghost use Rattle.au_store.specs.Stored.{IsKeptOn};
 ghost use Rattle.au_main.specs.Answers.{Answer};
 ghost use Rattle.au_main.specs.Means.{means_of};
@@ -73,17 +73,39 @@ fn do_lines<S: Source, W: Sink, D: Disk, C: Clock>(
         return Status::Memory;
     };
     let mut labels = Labels::new(alloc);
+    do_each(alloc, store, &mut labels, source, &mut pending, sink)
+}
+
+// Does what the lines of the source say, one after another. No label is used yet, and nothing is
+// pending.
+fn do_each<S: Source, W: Sink, D: Disk, C: Clock>(
+    alloc: Global,
+    store: &mut Store<D, C>,
+    labels: &mut Labels,
+    source: &mut S,
+    pending: &mut Pending,
+    sink: &mut W,
+) -> Status
+    requires settled { store.old.seat.doubt ≡ Doubt.Settled }
+    requires kept { D.told → IsKeptOn store.old.state.kept (D.meaning store.old.disk) store.old.seat }
+    requires unused { labels.old ≡ [] }
+    requires bytes { pending.old.bytes ≡ [] }
+    requires taken { pending.old.taken ≡ 0 }
+    ensures ran { (answers : List Answer) × RanTo (means_of D.told D.meaning D.faults C.ticking) result (S.left source.old) (S.left source.new) store.old store.new answers (W.given sink.old) (W.given sink.new) }
+    ensures read { IsReadCause result (S.faults source.old) (S.faults source.new) }
+    ensures write { IsWriteCause result (W.faults sink.old) (W.faults sink.new) }
+{
     let mut number = 1;
     loop {
-        match next_line(alloc, source, &mut pending) {
-            Ok(Line::Ended(line)) => match serve_line(alloc, store, &mut labels, sink, &line) {
+        match next_line(alloc, source, pending) {
+            Ok(Line::Ended(line)) => match serve_line(alloc, store, labels, sink, &line) {
                 Ok(()) => number += 1,
                 Err(Stop::BadLine) => return Status::BadLine(number),
                 Err(Stop::WriteFault) => return Status::WriteFault,
                 Err(Stop::Memory) => return Status::Memory,
             },
             Ok(Line::Last(line)) => {
-                return serve_last(alloc, store, &mut labels, sink, &line, number);
+                return serve_last(alloc, store, labels, sink, &line, number);
             }
             Ok(Line::End) => return Status::Done,
             Ok(Line::Overlong) => return Status::BadLine(number),

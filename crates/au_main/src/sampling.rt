@@ -66,10 +66,17 @@ fn summary_on<D: Disk + Drop, C: Clock + Drop>(
     ensures { IfOk result (λ text. IsSummary seed rows text.items) }
 {
     let mut store = new_store(alloc, disk, clock)?;
-    let asked = ask_all(alloc, &mut store, seed, rows)?;
-    let kept = kept_in(alloc, store)?;
-    let summary = summary_of(asked, &kept);
-    summary_text(alloc, &summary)
+    match ask_all(alloc, &mut store, seed, rows) {
+        Ok(asked) => {
+            let kept = kept_in(alloc, store)?;
+            let summary = summary_of(asked, &kept);
+            summary_text(alloc, &summary)
+        }
+        Err(why) => {
+            drop(store);
+            Err(why)
+        }
+    }
 }
 
 // A store that nobody has used yet, made on the disk and opened.

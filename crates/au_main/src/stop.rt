@@ -4,7 +4,7 @@ use crate::give::WriteFault;
 use au_base::Memory;
 
 /// Why a line ends a run.
-#[derive(Clone, Copy, Debug, PartialEq, Eq)]
+#[derive(Clone, Copy)]
 pub(crate) enum Stop {
     /// It is no script line.
     BadLine,

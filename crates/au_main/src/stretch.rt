@@ -15,7 +15,7 @@ const CHUNK: usize = 8192;
 /// The part of a script that was taken of its source and not handed out as lines yet. It keeps one
 /// chunk of the source and the place where the part begins, so that nothing moves when a line is
 /// handed out.
-#[derive(Debug, Drop)]
+#[derive(Drop)]
 pub(crate) struct Pending {
     chunk: Vec<u8>,
     front: usize,

@@ -71,31 +71,25 @@ module _ (m n : State) (f : Frame) where
     gone_after one_front no_image (Err e) rule makes = tt
 
   -- where nothing was kept
-  module _ (body : List ℕ) (is : IsFrame body f) (blank : m ≡ resting nothing) (done : Bool) (rule : IsTrue done ↔ IsReplayable m.kept f)
-      (makes : n ≡ (if done then record m { kept = after_frame m.kept f } else m)) where
-    from_nothing : m.kept ≡ nothing
-    from_nothing = ap (λ (s : State). s.kept) blank
-
-    made_kept : done ≡ true → n.kept ≡ after_frame m.kept f
-    made_kept true_is = ap (λ (s : State). s.kept) (makes ∙ ap (λ (b : Bool). if b then record m { kept = after_frame m.kept f } else m) true_is)
-
-    pub begun : IsImage f → done ≡ true → BeginsBy body n.kept
-    begun image true_is = record {
+  module _ (body : List ℕ) (is : IsFrame body f) (blank : m.kept ≡ nothing) where
+    pub begun_by : OneFront → IsImage f → (done : Bool) → IsTrue done ↔ IsReplayable m.kept f → n ≡ (if done then record m { kept = after_frame m.kept f } else m)
+        → MatchBool done (BeginsBy body n.kept) ((kept : Kept) → BeginsBy body kept → ⊥)
+    begun_by one_front image true rule makes = record {
       frame = f;
       spelled = is;
       image = image;
-      replayable = subst (λ (k : Kept). IsReplayable k f) from_nothing (rule.0 true_is);
-      makes = made_kept true_is ∙ ap (λ (k : Kept). after_frame k f) from_nothing;
+      replayable = subst (λ (k : Kept). IsReplayable k f) blank (rule.0 refl);
+      makes = ap (λ (s : State). s.kept) makes ∙ ap (λ (k : Kept). after_frame k f) blank;
     }
+    begun_by one_front image false rule makes = wrong_beginning one_front body f is (λ _ replayable. false≢true (rule.1 (subst (λ (k : Kept). IsReplayable k f) (sym blank) replayable)))
 
-    pub not_begun : OneFront → done ≡ false → (kept : Kept) → BeginsBy body kept → ⊥
-    not_begun one_front false_is = wrong_beginning one_front body f is (λ _ replayable. false≢true (sym false_is ∙ rule.1 (subst (λ (k : Kept). IsReplayable k f) (sym from_nothing) replayable)))
+    pub begun_after : {E : Type 0} → OneFront → IsImage f → (r : Result Bool E) → IfOk r (λ done. IsTrue done ↔ IsReplayable m.kept f) → IfOk r (λ done. n ≡ (if done then record m { kept = after_frame m.kept f } else m))
+        → IfOk r (λ done. MatchBool done (BeginsBy body n.kept) ((kept : Kept) → BeginsBy body kept → ⊥))
+    begun_after one_front image (Ok done) rule makes = begun_by one_front image done rule makes
+    begun_after one_front image (Err e) rule makes = tt
 
-    pub begun_resting : n ≡ resting n.kept
-    begun_resting = resting_by done makes (blank ∙ ap resting (sym from_nothing))
-
-    pub begun_ends : done ≡ true → EndsWell n.kept
-    begun_ends true_is = subst EndsWell (sym (made_kept true_is)) (frame_ends m.kept f (rule.0 true_is))
+pub begun_ends : (body : List ℕ) (kept : Kept) → BeginsBy body kept → EndsWell kept
+begun_ends body kept by = subst EndsWell (sym by.makes) (frame_ends nothing by.frame by.replayable)
 
 -- the state of the next instance
 pub started : (m n : State) (reading : ℕ) (f : Frame) (done : Bool) → m ≡ resting m.kept → f ≡ start_frame m.kept reading → LeadsTo m.kept (Some (start_frame m.kept reading)) (start m.kept reading).kept

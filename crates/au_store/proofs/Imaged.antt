@@ -7,7 +7,7 @@ use Rattle.au_image.specs.Image.{image_of}
 use Rattle.au_step.specs.Returning.{LeadsTo}
 use Rattle.au_engine.specs.Imaging.{LeadsBy}
 use Rattle.rec_codec.specs.Frames.{IsSpellable, framed}
-use Rattle.au_store.specs.descent.Making.{Begins, CarriesTo, IsImageFor}
+use Rattle.au_store.specs.descent.Making.{CarriesTo, IsImageFor}
 
 -- what carries what is kept on leads to what is kept then
 pub leads_by : (kept next : Kept) (bytes : Option (List ℕ)) → CarriesTo kept bytes next → LeadsBy kept bytes next

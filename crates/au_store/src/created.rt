@@ -1,7 +1,7 @@
 //! What making a store answers.
 
 /// What making a store answers.
-#[derive(Clone, Copy, Debug, PartialEq, Eq)]
+#[derive(Clone, Copy)]
 pub enum Created {
     /// The store is there, and is safe from a crash.
     Done,

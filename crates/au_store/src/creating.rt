@@ -55,6 +55,7 @@ fn opening_image(alloc: Global, password: &[u8]) -> Result<Vec<u8>, Memory>
     ensures spellable { IfOk result (λ bytes. IsSpellable (image_of (opening password.now))) }
 {
     let engine = Engine::of_new_store(alloc, password)?;
-    let framed = engine.image(alloc)?;
-    Ok(framed)
+    let framed = engine.image(alloc);
+    drop(engine);
+    framed
 }

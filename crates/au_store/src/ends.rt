@@ -51,11 +51,12 @@ impl<D: Disk, C: Clock> Store<D, C> {
         ensures clock { result.1 ≡ self.clock }
     {
         let Store {
-            engine: _,
+            engine,
             journal,
             clock,
             reading: _,
         } = self;
+        drop(engine);
         (journal.shut(), clock)
     }
 }

@@ -6,7 +6,7 @@ use au_io::Area;
 use au_journal::MountFault;
 
 /// Why a store couldn't be looked at.
-#[derive(Clone, Copy, Debug, PartialEq, Eq)]
+#[derive(Clone, Copy)]
 pub enum LookFault {
     /// The disk failed.
     Disk,

@@ -5,7 +5,7 @@ use crate::LookFault;
 use au_io::Area;
 
 /// Why a store couldn't be opened.
-#[derive(Clone, Copy, Debug, PartialEq, Eq)]
+#[derive(Clone, Copy)]
 pub enum OpenFault {
     /// The disk failed.
     Disk,

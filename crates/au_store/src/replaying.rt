@@ -1,5 +1,6 @@
 //! Replaying what stands in a journal.
-ghost use Rattle.std.specs.Prelude.{◌≡◌, ◌↔◌, IsTrue, ◌++◌, ◌∷◌, [], ⊤, ℕ, List, length, true, false, IfOk, IfErr, OnOk, MatchBool, MatchOption};
+ghost use Rattle.std.specs.Prelude.{◌≡◌, ◌↔◌, IsTrue, ◌++◌, ◌∷◌, [], ℕ, List, length, true, false, IfOk, IfErr, OnOk, MatchBool};
+ghost use Rattle.au_entries.specs.Imaging.{nothing};
 ghost use Rattle.au_entries.specs.declared.kept.Kept.{Kept};
 ghost use Rattle.au_io.specs.Disk.{Stays};
 ghost use Rattle.au_journal.specs.Journals.{disk_of, seat_of};
@@ -32,6 +33,34 @@ pub(crate) fn recover<D: Disk>(alloc: Global, journal: &mut Journal<D>) -> Resul
     ensures stays { Stays (D.meaning (disk_of journal.old)) (D.meaning (disk_of journal.new)) }
     ensures cause { LookMeets result (D.faults (disk_of journal.old)) (D.faults (disk_of journal.new)) }
 {
+    let mut engine = Engine::empty(alloc)?;
+    match replay_all(alloc, journal, &mut engine) {
+        Ok(()) => Ok(engine),
+        Err(why) => {
+            drop(engine);
+            Err(why)
+        }
+    }
+}
+
+// Replays the bodies of the journal on an engine that keeps nothing. The walk begins.
+fn replay_all<D: Disk>(
+    alloc: Global,
+    journal: &mut Journal<D>,
+    engine: &mut Engine,
+) -> Result<(), LookFault>
+    requires resting { engine.old.state ≡ resting engine.old.state.kept }
+    requires blank { engine.old.state.kept ≡ nothing }
+    ensures read { D.told → IsMounted (D.meaning (disk_of journal.old)) (seat_of journal.old)
+        → OnOk result (IsRead (D.meaning (disk_of journal.new)) (seat_of journal.new) engine.new.state.kept) }
+    ensures resting { engine.new.state ≡ resting engine.new.state.kept }
+    ensures ends { OnOk result (EndsWell engine.new.state.kept) }
+    ensures ended { OnOk result ((seat_of journal.new).ended ≡ true) }
+    ensures why { D.told → IsMounted (D.meaning (disk_of journal.old)) (seat_of journal.old) → IfErr result (LookSays (D.meaning (disk_of journal.old)).reads) }
+    ensures settled { (seat_of journal.new).doubt ≡ (seat_of journal.old).doubt }
+    ensures stays { Stays (D.meaning (disk_of journal.old)) (D.meaning (disk_of journal.new)) }
+    ensures cause { LookMeets result (D.faults (disk_of journal.old)) (D.faults (disk_of journal.new)) }
+{
     frames_stand_in_a_row();
     let area = journal.area();
     let at = journal.used();
@@ -40,36 +69,35 @@ pub(crate) fn recover<D: Disk>(alloc: Global, journal: &mut Journal<D>) -> Resul
         // The area became shorter since it was mounted.
         return Err(LookFault::Damaged { area, at });
     }
-    match begin_by(alloc, &room)? {
-        None => Err(LookFault::Damaged { area, at }),
-        Some(engine) => go_on(alloc, journal, engine, &mut room),
+    if !begin_by(alloc, engine, &room)? {
+        return Err(LookFault::Damaged { area, at });
     }
+    go_on(alloc, journal, engine, &mut room)
 }
 
 // Replays the bodies that come behind the first, each read into the room. The walk is at that place.
 fn go_on<D: Disk>(
     alloc: Global,
     journal: &mut Journal<D>,
-    first: Engine,
+    engine: &mut Engine,
     room: &mut Vec<u8>,
-) -> Result<Engine, LookFault>
-    requires resting { first.state ≡ resting first.state.kept }
-    requires ends { EndsWell first.state.kept }
-    ensures read { D.told → IsTaken (D.meaning (disk_of journal.old)) (seat_of journal.old) first.state.kept
-        → IfOk result (λ engine. IsRead (D.meaning (disk_of journal.new)) (seat_of journal.new) engine.state.kept) }
-    ensures resting { IfOk result (λ engine. engine.state ≡ resting engine.state.kept) }
-    ensures ends { IfOk result (λ engine. EndsWell engine.state.kept) }
-    ensures ended { IfOk result (λ _. (seat_of journal.new).ended ≡ true) }
-    ensures why { D.told → IsTaken (D.meaning (disk_of journal.old)) (seat_of journal.old) first.state.kept
+) -> Result<(), LookFault>
+    requires resting { engine.old.state ≡ resting engine.old.state.kept }
+    requires ends { EndsWell engine.old.state.kept }
+    ensures read { D.told → IsTaken (D.meaning (disk_of journal.old)) (seat_of journal.old) engine.old.state.kept
+        → OnOk result (IsRead (D.meaning (disk_of journal.new)) (seat_of journal.new) engine.new.state.kept) }
+    ensures resting { engine.new.state ≡ resting engine.new.state.kept }
+    ensures ends { EndsWell engine.new.state.kept }
+    ensures ended { OnOk result ((seat_of journal.new).ended ≡ true) }
+    ensures why { D.told → IsTaken (D.meaning (disk_of journal.old)) (seat_of journal.old) engine.old.state.kept
         → IfErr result (LookSays (D.meaning (disk_of journal.old)).reads) }
     ensures settled { (seat_of journal.new).doubt ≡ (seat_of journal.old).doubt }
     ensures stays { Stays (D.meaning (disk_of journal.old)) (D.meaning (disk_of journal.new)) }
     ensures cause { LookMeets result (D.faults (disk_of journal.old)) (D.faults (disk_of journal.new)) }
 {
-    let mut engine = first;
     for _turn in 0..u64::MAX {
-        if !take_frame(alloc, journal, &mut engine, room)? {
-            return Ok(engine);
+        if !take_frame(alloc, journal, engine, room)? {
+            return Ok(());
         }
     }
     // Each frame has ten bytes and more, and no area so many.
@@ -142,33 +170,30 @@ fn resize(room: &mut Vec<u8>, n: u64) -> Result<(), Memory>
     Ok(())
 }
 
-/// The state that the body is replayed to from nothing. None where it isn't the body of an image that
-/// can be.
-pub(crate) fn begin_by(alloc: Global, body: &[u8]) -> Result<Option<Engine>, Memory>
-    ensures begins { IfOk result (λ found. MatchOption found ((kept : Kept) → BeginsBy body.now kept → ⊥) (λ engine. BeginsBy body.now engine.state.kept)) }
-    ensures resting { IfOk result (λ found. MatchOption found ⊤ (λ engine. engine.state ≡ resting engine.state.kept)) }
-    ensures ends { IfOk result (λ found. MatchOption found ⊤ (λ engine. EndsWell engine.state.kept)) }
+// Replays the body of the first frame on an engine that keeps nothing. `false` where it isn't that of an
+// image that can be replayed.
+fn begin_by(alloc: Global, engine: &mut Engine, body: &[u8]) -> Result<bool, Memory>
+    requires resting { engine.old.state ≡ resting engine.old.state.kept }
+    requires blank { engine.old.state.kept ≡ nothing }
+    ensures begins { IfOk result (λ done. MatchBool done (BeginsBy body.now engine.new.state.kept) ((kept : Kept) → BeginsBy body.now kept → ⊥)) }
+    ensures resting { engine.new.state ≡ resting engine.new.state.kept }
 {
     one_front();
-    let mut engine = Engine::empty(alloc)?;
     match read(alloc, body)? {
-        None => Ok(None),
+        None => Ok(false),
         Some(frame) => {
-            if !is_image(&frame) {
-                return Ok(None);
-            }
-            if engine.replay(alloc, frame)? {
-                Ok(Some(engine))
+            if is_image(&frame) {
+                engine.replay(alloc, frame)
             } else {
-                Ok(None)
+                Ok(false)
             }
         }
     }
 }
 
-/// Replays the body. `false` where it isn't that of a frame that goes on from what is kept, and the
-/// state stays.
-pub(crate) fn go_on_by(alloc: Global, engine: &mut Engine, body: &[u8]) -> Result<bool, Memory>
+// Replays the body. `false` where it isn't that of a frame that goes on from what is kept, and the
+// state stays.
+fn go_on_by(alloc: Global, engine: &mut Engine, body: &[u8]) -> Result<bool, Memory>
     requires resting { engine.old.state ≡ resting engine.old.state.kept }
     requires ends { EndsWell engine.old.state.kept }
     ensures goes { IfOk result (λ done. MatchBool done (GoesOnBy engine.old.state.kept body.now engine.new.state.kept) ((kept : Kept) → GoesOnBy engine.old.state.kept body.now kept → ⊥)) }

@@ -88,6 +88,7 @@ impl<D: Disk, C: Clock> Store<D, C> {
     {
         if engine.instance() >= INSTANCES {
             engine.lawful();
+            drop(engine);
             return Err((journal.shut(), clock, OpenFault::Worn));
         }
         let mut engine = engine;
@@ -95,7 +96,10 @@ impl<D: Disk, C: Clock> Store<D, C> {
         let mut clock = clock;
         let reading = clock.now();
         match next_instance(alloc, &mut engine, reading) {
-            Err(_) => Err((journal.shut(), clock, OpenFault::Memory)),
+            Err(_) => {
+                drop(engine);
+                Err((journal.shut(), clock, OpenFault::Memory))
+            }
             Ok(framed) => match write_start(&mut journal, &framed) {
                 Ok(()) => Ok(Store {
                     engine,
@@ -103,7 +107,10 @@ impl<D: Disk, C: Clock> Store<D, C> {
                     clock,
                     reading,
                 }),
-                Err(_) => Err((journal.shut(), clock, OpenFault::Disk)),
+                Err(_) => {
+                    drop(engine);
+                    Err((journal.shut(), clock, OpenFault::Disk))
+                }
             },
         }
     }

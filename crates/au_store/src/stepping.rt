@@ -147,11 +147,11 @@ impl<D: Disk, C: Clock> Store<D, C> {
         match write(&mut self.journal, &ready) {
             Appended::Done => Said::Replied(apply(&mut self.engine, ready)),
             Appended::Disk => {
-                let_go(ready);
+                drop(ready);
                 Said::Disk
             }
             Appended::Full { needed, limit } => {
-                let_go(ready);
+                drop(ready);
                 Said::Full { needed, limit }
             }
         }
@@ -167,6 +167,3 @@ fn apply(engine: &mut Engine, ready: Ready) -> Reply
     let Ready { prepared, image: _ } = ready;
     engine.apply(prepared)
 }
-
-// Lets go of a step that isn't made.
-fn let_go(_ready: Ready) {}

@@ -6,7 +6,7 @@ ghost use Rattle.au_io.specs.Visits.{IsFresh};
 use crate::desk::Desk;
 use crate::fault::Fault;
 use crate::words::{first_word, numbers, size};
-use au_io::{Gave, MemLink, MemLobby, MemSink, MemSource, Next, Opened, Sink, Source, Took};
+use au_io::{Gave, Link, MemLink, MemLobby, MemSink, MemSource, Next, Opened, Sink, Source, Took};
 use std::alloc::Global;
 
 // As many bytes as a call of `take` may give here.
@@ -60,6 +60,7 @@ pub fn link_line(alloc: Global, parts: &str, calls: &str) -> Result<String, Faul
         let said = match first_word(call.trim()) {
             ("take", _) => said_taken(alloc, &mut link)?,
             ("give", offered) => said_given(alloc, &mut link, offered.as_bytes())?,
+            ("shut", _) => said_shut(alloc, &mut link)?,
             _ => return Err(Fault::NoCase),
         };
         line.push_str(&said)?;
@@ -158,6 +159,12 @@ pub fn said_given<W: Sink>(alloc: Global, sink: &mut W, offered: &[u8]) -> Resul
         Gave::Bytes(count) => Ok(format!(in alloc; "  {count}")?),
         Gave::Failed => Ok(format!(in alloc; "  failed")?),
     }
+}
+
+/// That nothing more is given to it.
+pub fn said_shut<L: Link>(alloc: Global, link: &mut L) -> Result<String, Fault> {
+    link.shut();
+    Ok(format!(in alloc; "  shut")?)
 }
 
 /// The bytes as a text.

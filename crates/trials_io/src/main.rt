@@ -7,7 +7,7 @@
 //!
 //! - `source TEXT PIECE FAIL: ..`: each call is `take`
 //! - `sink PIECE FAIL: ..`: each call is `give TEXT`
-//! - `link TEXT PIECE FAIL FAIL: ..`: calls of both, with the failing ones of each
+//! - `link TEXT PIECE FAIL FAIL: ..`: calls of both, with the failing ones of each, and `shut`
 //! - `lobby TEXTS FAIL: ..`: a link of each of the texts, with commas between them, or none for `-`;
 //!   `open`; `next`; `take`, `give TEXT` and `finish`, each of the last link that came and is out
 //! - `disk FAIL: ..`: `write PLACE TEXT`, `cut SIZE`, `sync`, `read PLACE`, of the area A or the one
@@ -19,8 +19,8 @@
 //! - `reader TEXT: ..`: a reader of the system, each call is `take`; `writer ROOM: ..`: a writer of it,
 //!   each call is `give TEXT`; `printed: TEXT`: standard output; `century:`: whether its clock reads a
 //!   moment of this century
-//! - `port: ..`: a port of this machine: `open`, `other` (another lobby opens it), `next`, `take`, `give TEXT`
-//!   and `finish`, of the last link; and what a peer does: `connect`, `say TEXT`, `hear`, `end`
+//! - `port: ..`: a port of this machine: `open`, `other` (another lobby opens it), `next`, `take`, `give TEXT`,
+//!   `shut` and `finish`, of the last link; and what a peer does: `connect`, `say TEXT`, `hear`, `end`
 #![tactic(auto)]
 
 mod answer;

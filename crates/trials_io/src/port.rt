@@ -1,7 +1,7 @@
 //! A port of this machine, and a peer that connects to it.
 
 use crate::fault::Fault;
-use crate::links::{said_given, said_opened, said_taken, text_of};
+use crate::links::{said_given, said_opened, said_shut, said_taken, text_of};
 use crate::words::first_word;
 use au_io::{Lobby, Next, TcpLink, TcpLobby};
 use std::io::{self, Read, Write};
@@ -50,6 +50,7 @@ fn said_call(rt: HostRuntime, port: &mut Port, call: &str) -> Result<String, Fau
             let link = port.link.as_mut().ok_or(Fault::NoCase)?;
             said_given(alloc, link, text.as_bytes())
         }
+        ("shut", _) => said_shut(alloc, port.link.as_mut().ok_or(Fault::NoCase)?),
         ("finish", _) => finish(rt, port),
         ("connect", _) => connect(rt, port),
         (call, text) => said_peer(rt, port.peer.as_mut().ok_or(Fault::NoCase)?, call, text),

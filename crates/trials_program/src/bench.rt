@@ -1,189 +1,175 @@
-//! What the lines set up, and what comes of them.
+//! The part `commands`: lines that set up an outside, and commands that are done on it.
 
-use crate::ends::{end_of, said_end};
+use crate::ends::{end_of, push_end};
 use crate::fault::Fault;
-use crate::outside::{Call, Handed, Outcome, command};
-use crate::texts::{first_word, indented, long, number, number_or_none, numbers, plain, words_of};
-use au_base::Text;
+use crate::outside::{Handed, Outcome, blank, command, make_store, top_command};
+use crate::setting::Setting;
+use crate::texts::push_indented;
+use crate::words::{bytes_of, first_word, number};
 use au_io::{Area, Disk, MemDisk};
-use au_main::Status;
 use std::alloc::Global;
 
 // The image of a disk that is as it reads.
 const AS_IT_READS: u8 = 1;
 
-/// What the next command is done on.
+/// By which call a command is done.
+#[derive(Clone, Copy)]
+enum Call {
+    /// The one that is handed a lobby.
+    Top,
+    /// The one that takes none.
+    Alone,
+}
+
+/// The outside on which the next command is done.
 #[derive(Drop)]
 pub struct Bench {
     disk: MemDisk,
-    input: String,
-    pieces: Vec<u64>,
-    source_faults: Vec<u64>,
-    sink_faults: Vec<u64>,
+    setting: Setting,
 }
 
 impl Bench {
     /// An empty disk, a source that has nothing, pieces of 4,096 bytes, and no faults.
     pub fn new(alloc: Global) -> Result<Bench, Fault> {
+        let setting = Setting::new(alloc)?;
         Ok(Bench {
             disk: MemDisk::new(alloc, &[])?,
-            input: String::new(alloc),
-            pieces: vec![in alloc; 4096]?,
-            source_faults: Vec::new(alloc),
-            sink_faults: Vec::new(alloc),
+            setting,
         })
     }
 
-    /// What comes of the line.
-    pub fn answer(&mut self, alloc: Global, line: &str) -> Result<String, Fault> {
+    /// Adds what comes of the line.
+    pub fn answer(&mut self, alloc: Global, line: &str, said: &mut String) -> Result<(), Fault> {
         let (step, part) = first_word(line);
         match step {
-            "try" => self.tried(alloc, Call::Top, part),
-            "alone" => self.tried(alloc, Call::Alone, part),
-            "do" => self.done(alloc, part),
-            "read" => self.read(alloc, part),
-            "end" => Ok(format!(in alloc; "  {}\n", said_end(alloc, end_of(part)?)?)?),
-            _ => {
-                self.set(alloc, step, part)?;
-                Ok(String::new(alloc))
-            }
+            "try" => self.try_all(alloc, Call::Top, part, said),
+            "alone" => self.try_all(alloc, Call::Alone, part, said),
+            "do" => self.do_once(alloc, part, said),
+            "read" => self.read(alloc, part, said),
+            "end" => push_named_end(said, part),
+            _ => self.set_up(alloc, step, part),
         }
     }
 
     // Sets up what the commands that come are done on.
-    fn set(&mut self, alloc: Global, step: &str, part: &str) -> Result<(), Fault> {
+    fn set_up(&mut self, alloc: Global, step: &str, part: &str) -> Result<(), Fault> {
         match step {
-            "blank" => self.disk = MemDisk::new(alloc, &[])?,
-            "store" => self.make_store(alloc)?,
-            "input" => self.input = plain(alloc, part)?,
-            "long" => {
-                let (count, rest) = first_word(part);
-                self.input = long(alloc, number(count)?, rest)?;
-            }
-            "pieces" => self.pieces = numbers(alloc, part)?,
-            "faults" => {
-                let (source, sink) = first_word(part);
-                self.source_faults = number_or_none(alloc, source)?;
-                self.sink_faults = number_or_none(alloc, sink)?;
-            }
-            "scribble" => self.scribble(alloc, part)?,
-            "cut" => self.cut(number(part)?)?,
-            _ => return Err(Fault::NoCase),
-        }
-        Ok(())
-    }
-
-    // Makes a store on an empty disk.
-    fn make_store(&mut self, alloc: Global) -> Result<(), Fault> {
-        self.disk = MemDisk::new(alloc, &[])?;
-        let words = words_of(alloc, "init --sys-password p")?;
-        let handed = Handed {
-            input: "",
-            piece: 4096,
-            fail: (&[], &[]),
-        };
-        let made = command(alloc, Call::Top, &words, &handed, &mut self.disk)?;
-        match made.status {
-            Status::Done => Ok(()),
-            _ => Err(Fault::NoCase),
+            "blank" => blank(alloc, &mut self.disk),
+            "store" => make_store(alloc, &mut self.disk),
+            "scribble" => scribble(alloc, &mut self.disk, part),
+            "cut" => cut(&mut self.disk, part),
+            _ => self.setting.set(alloc, step, part),
         }
     }
 
-    // Writes over bytes of area A.
-    fn scribble(&mut self, alloc: Global, part: &str) -> Result<(), Fault> {
-        let (at, digits) = first_word(part);
-        let at = number(at)?;
-        let bytes = hex::decode(alloc, digits).map_err(|_| Fault::NoCase)?;
-        if at > self.disk.size(Area::A)? {
+    // Adds what comes of the command on copies of the disk, in pieces of each size.
+    fn try_all(
+        &self,
+        alloc: Global,
+        call: Call,
+        words: &str,
+        said: &mut String,
+    ) -> Result<(), Fault> {
+        let Some((piece, others)) = self.setting.pieces.split_first() else {
             return Err(Fault::NoCase);
-        }
-        self.disk.write_at(Area::A, at, &bytes)?;
-        Ok(())
-    }
-
-    // Cuts area A.
-    fn cut(&mut self, size: u64) -> Result<(), Fault> {
-        if size > self.disk.size(Area::A)? {
-            return Err(Fault::NoCase);
-        }
-        self.disk.cut(Area::A, size)?;
-        Ok(())
-    }
-
-    // Bytes of area A, in hexadecimal digits.
-    fn read(&mut self, alloc: Global, part: &str) -> Result<String, Fault> {
-        let (at, count) = first_word(part);
-        let mut bytes = vec![in alloc; 0u8; number(count)? as usize]?;
-        let count = self.disk.read(Area::A, number(at)?, &mut bytes)?;
-        bytes.truncate(count);
-        Ok(format!(in alloc; "  {}\n", hex::encode(alloc, &bytes)?)?)
-    }
-
-    // The command on the disk itself.
-    fn done(&mut self, alloc: Global, part: &str) -> Result<String, Fault> {
-        let words = words_of(alloc, part)?;
-        let piece = self.pieces.first().copied().unwrap_or(4096);
-        let handed = Handed {
-            input: &self.input,
-            piece: piece as usize,
-            fail: (&self.source_faults, &self.sink_faults),
         };
-        let done = command(alloc, Call::Top, &words, &handed, &mut self.disk)?;
-        said(alloc, &done)
-    }
-
-    // The command on copies of the disk, in pieces of each size.
-    fn tried(&self, alloc: Global, call: Call, part: &str) -> Result<String, Fault> {
-        let words = words_of(alloc, part)?;
-        let mut first = None;
-        let mut text = String::new(alloc);
-        for piece in &self.pieces {
-            let outcome = self.in_pieces(alloc, call, &words, *piece)?;
-            text.push_str(&said_beside(alloc, &first, &outcome, *piece)?)?;
-            if first.is_none() {
-                first = Some(outcome);
-            }
+        let first = self.in_pieces(alloc, call, words, *piece)?;
+        said.push_str(&first)?;
+        for piece in others {
+            let other = self.in_pieces(alloc, call, words, *piece)?;
+            push_other(said, *piece, &first, &other)?;
         }
-        Ok(text)
+        Ok(())
     }
 
     fn in_pieces(
         &self,
         alloc: Global,
         call: Call,
-        words: &[Text],
+        words: &str,
         piece: u64,
-    ) -> Result<Outcome, Fault> {
+    ) -> Result<String, Fault> {
         let mut copy = self.disk.image(alloc, AS_IT_READS)?;
-        let handed = Handed {
-            input: &self.input,
-            piece: piece as usize,
-            fail: (&self.source_faults, &self.sink_faults),
-        };
-        command(alloc, call, words, &handed, &mut copy)
+        let handed = self.setting.handed(piece);
+        done(alloc, call, words, &handed, &mut copy)
+    }
+
+    // Adds what comes of the command on the disk itself, in pieces of the first size.
+    fn do_once(&mut self, alloc: Global, words: &str, said: &mut String) -> Result<(), Fault> {
+        let piece = self.setting.pieces.first().copied().unwrap_or(4096);
+        let handed = self.setting.handed(piece);
+        let text = done(alloc, Call::Top, words, &handed, &mut self.disk)?;
+        said.push_str(&text)?;
+        Ok(())
+    }
+
+    // Adds bytes of area A, as hexadecimal digits.
+    fn read(&mut self, alloc: Global, part: &str, said: &mut String) -> Result<(), Fault> {
+        let (at, count) = first_word(part);
+        let mut bytes = vec![in alloc; 0u8; number(count)? as usize]?;
+        let count = self.disk.read(Area::A, number(at)?, &mut bytes)?;
+        bytes.truncate(count);
+        let digits = hex::encode(alloc, &bytes)?;
+        writeln!(said, "  {digits}")?;
+        Ok(())
     }
 }
 
-// What came, where it isn't what came in the first pieces.
-fn said_beside(
+// Adds what came in pieces of that size, where it isn't what came in the first ones.
+fn push_other(said: &mut String, piece: u64, first: &str, other: &str) -> Result<(), Fault> {
+    if other != first {
+        write!(said, "  but in pieces of {piece}:\n{other}")?;
+    }
+    Ok(())
+}
+
+// What comes of the command on the disk, by that call.
+fn done(
     alloc: Global,
-    first: &Option<Outcome>,
-    outcome: &Outcome,
-    piece: u64,
+    call: Call,
+    words: &str,
+    handed: &Handed<'_>,
+    disk: &mut MemDisk,
 ) -> Result<String, Fault> {
-    match first {
-        None => said(alloc, outcome),
-        Some(first) if first.is_as(outcome) => Ok(String::new(alloc)),
-        Some(_) => {
-            let other = said(alloc, outcome)?;
-            Ok(format!(in alloc; "  but in pieces of {piece}:\n{other}")?)
-        }
-    }
+    let outcome = match call {
+        Call::Top => top_command(alloc, words, handed, disk)?,
+        Call::Alone => command(alloc, words, handed, disk)?,
+    };
+    said_outcome(alloc, &outcome)
 }
 
-fn said(alloc: Global, outcome: &Outcome) -> Result<String, Fault> {
-    let end = said_end(alloc, outcome.status)?;
-    let readings = outcome.readings;
-    let given = indented(alloc, &outcome.given)?;
-    Ok(format!(in alloc; "  {end}, {readings} readings\n{given}")?)
+fn push_named_end(said: &mut String, name: &str) -> Result<(), Fault> {
+    push_end(said, end_of(name)?)?;
+    said.push('\n')?;
+    Ok(())
+}
+
+fn said_outcome(alloc: Global, outcome: &Outcome) -> Result<String, Fault> {
+    let mut said = String::new(alloc);
+    push_end(&mut said, outcome.status)?;
+    writeln!(said, ", {} readings", outcome.readings)?;
+    push_indented(&mut said, &outcome.given)?;
+    Ok(said)
+}
+
+// Writes over bytes of area A.
+fn scribble(alloc: Global, disk: &mut MemDisk, part: &str) -> Result<(), Fault> {
+    let (at, digits) = first_word(part);
+    let at = number(at)?;
+    let bytes = bytes_of(alloc, digits)?;
+    if at > disk.size(Area::A)? {
+        return Err(Fault::NoCase);
+    }
+    disk.write_at(Area::A, at, &bytes)?;
+    Ok(())
+}
+
+// Cuts area A.
+fn cut(disk: &mut MemDisk, size: &str) -> Result<(), Fault> {
+    let size = number(size)?;
+    if size > disk.size(Area::A)? {
+        return Err(Fault::NoCase);
+    }
+    disk.cut(Area::A, size)?;
+    Ok(())
 }

@@ -3,7 +3,6 @@
 use crate::fault::Fault;
 use au_io::Area;
 use au_main::Status;
-use std::alloc::Global;
 
 /// The end of that name.
 pub fn end_of(name: &str) -> Result<Status, Fault> {
@@ -28,11 +27,24 @@ pub fn end_of(name: &str) -> Result<Status, Fault> {
     }
 }
 
-/// Its text, and the exit status. That all was done has none.
-pub fn said_end(alloc: Global, status: Status) -> Result<String, Fault> {
+/// Adds the text of the end, and the exit status. That all was done has no text.
+pub fn push_end(said: &mut String, status: Status) -> Result<(), Fault> {
     let number = status.number();
     match status {
-        Status::Done => Ok(format!(in alloc; "no text, exit {number}")?),
-        _ => Ok(format!(in alloc; "{status}, exit {number}")?),
+        Status::Done => write!(said, "  no text, exit {number}")?,
+        _ => write!(said, "  {status}, exit {number}")?,
     }
+    Ok(())
+}
+
+/// Adds the end in short: `done`, `formatted`, `none` without a store, `disk`, or its text.
+pub fn push_short(said: &mut String, status: Status) -> Result<(), Fault> {
+    match status {
+        Status::Done => said.push_str("done")?,
+        Status::Formatted => said.push_str("formatted")?,
+        Status::Unformatted => said.push_str("none")?,
+        Status::DiskFault => said.push_str("disk")?,
+        _ => write!(said, "{status}")?,
+    }
+    Ok(())
 }

@@ -6,13 +6,13 @@ use std::alloc::{AllocError, AllocFailed};
 use std::io;
 
 /// Why a line has no answer.
-#[derive(Clone, Copy, Debug, PartialEq, Eq)]
+#[derive(Clone, Copy)]
 pub enum Fault {
     /// There was no memory.
     Memory,
-    /// The disk failed at the line itself.
+    /// A disk failed at the line itself, and not at a command.
     Disk,
-    /// It is none of the lines that there are, or a part of it is missing or has no meaning.
+    /// The line has no meaning, a part of it is missing, or no store could be made for it.
     NoCase,
 }
 

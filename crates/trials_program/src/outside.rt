@@ -1,23 +1,18 @@
-//! The program's commands on an outside in memory.
+//! The program's commands on an outside in memory: a disk, a source, a sink and a clock.
 
 use crate::fault::Fault;
-use au_base::Text;
+use crate::words::words_of;
+use au_base::{Memory, Text};
 use au_io::{MemClock, MemDisk, MemSink, MemSource, NoLobby};
 use au_main::{Status, alone, top};
 use std::alloc::Global;
 use std::mem;
 
-// The clock's first reading.
-const FIRST: u64 = 1_000_000;
-
-/// By which call a command is done.
-#[derive(Clone, Copy)]
-pub enum Call {
-    /// The one that is handed a lobby.
-    Top,
-    /// The one that takes none.
-    Alone,
-}
+/// A clock that reads 1,000,000, and then one more each time.
+pub const CLOCK: MemClock = MemClock {
+    next: 1_000_000,
+    step: 1,
+};
 
 /// What a command is handed beside its words and its disk.
 #[derive(Clone, Copy)]
@@ -26,11 +21,27 @@ pub struct Handed<'a> {
     pub input: &'a str,
     /// How many bytes source and sink take a call.
     pub piece: usize,
-    /// The calls of the source that fail, and those of the sink.
-    pub fail: (&'a [u64], &'a [u64]),
+    /// The calls of the source that fail.
+    pub source_faults: &'a [u64],
+    /// The calls of the sink that fail.
+    pub sink_faults: &'a [u64],
+    pub clock: MemClock,
 }
 
-/// How a command ended, what was given, and how often the clock was read.
+impl<'a> Handed<'a> {
+    /// This input in pieces of 4,096 bytes, no faults, and this clock.
+    pub fn of(input: &'a str, clock: MemClock) -> Handed<'a> {
+        Handed {
+            input,
+            piece: 4096,
+            source_faults: &[],
+            sink_faults: &[],
+            clock,
+        }
+    }
+}
+
+/// How a command ended, what was given, and how often the clock was read, if each step of it is one.
 #[derive(Drop)]
 pub struct Outcome {
     pub status: Status,
@@ -38,76 +49,111 @@ pub struct Outcome {
     pub readings: u64,
 }
 
-impl Outcome {
-    /// Whether the other is the same.
-    pub fn is_as(&self, other: &Outcome) -> bool {
-        self.status == other.status
-            && self.given.as_str() == other.given.as_str()
-            && self.readings == other.readings
-    }
-}
-
-// The outside but its disk, and what is left of it.
+// What a command is handed beside its disk, and what is left of it.
 #[derive(Drop)]
 struct Rest {
+    words: Vec<Text>,
     source: MemSource,
     sink: MemSink,
     clock: MemClock,
+    first: u64,
 }
 
-/// The command that the words are. The disk is what it leaves.
+/// Does the command of these words by the call that takes no lobby. The disk is what it leaves.
 pub fn command(
     alloc: Global,
-    call: Call,
-    words: &[Text],
+    words: &str,
     handed: &Handed<'_>,
     disk: &mut MemDisk,
 ) -> Result<Outcome, Fault> {
-    let mut rest = Rest {
-        source: MemSource::new(alloc, handed.input.as_bytes(), handed.piece, handed.fail.0)?,
-        sink: MemSink::new(alloc, handed.piece, handed.fail.1)?,
-        clock: MemClock {
-            next: FIRST,
-            step: 1,
-        },
-    };
-    let blank = MemDisk::new(alloc, &[])?;
-    let held = mem::replace(disk, blank);
-    let (status, left) = commanded(alloc, call, words, &mut rest, held);
-    *disk = left;
-    Ok(Outcome {
-        status,
-        given: text_of(alloc, rest.sink.given())?,
-        readings: rest.clock.next.saturating_sub(FIRST),
-    })
+    let mut rest = rest_of(alloc, words, handed)?;
+    by_alone(alloc, &mut rest, disk)
 }
 
-fn commanded(
+/// Does it by the call that is handed a lobby.
+pub fn top_command(
     alloc: Global,
-    call: Call,
-    words: &[Text],
-    rest: &mut Rest,
-    disk: MemDisk,
-) -> (Status, MemDisk) {
-    let source = &mut rest.source;
-    let sink = &mut rest.sink;
-    match call {
-        Call::Top => {
-            let (status, disk, clock, _lobby) = top(
-                alloc, words, source, sink, disk, rest.clock, NoLobby,
-            );
-            rest.clock = clock;
-            (status, disk)
-        }
-        Call::Alone => {
-            let (status, disk, clock) = alone(alloc, words, source, sink, disk, rest.clock);
-            rest.clock = clock;
-            (status, disk)
-        }
+    words: &str,
+    handed: &Handed<'_>,
+    disk: &mut MemDisk,
+) -> Result<Outcome, Fault> {
+    let mut rest = rest_of(alloc, words, handed)?;
+    by_top(alloc, &mut rest, disk)
+}
+
+/// Puts an empty disk in the place of the disk.
+pub fn blank(alloc: Global, disk: &mut MemDisk) -> Result<(), Fault> {
+    *disk = MemDisk::new(alloc, &[])?;
+    Ok(())
+}
+
+/// Puts a new store, whose SYS has the password `p`, in the place of the disk.
+pub fn make_store(alloc: Global, disk: &mut MemDisk) -> Result<(), Fault> {
+    blank(alloc, disk)?;
+    let made = command(alloc, "init --sys-password p", &Handed::of("", CLOCK), disk)?;
+    match made.status {
+        Status::Done => Ok(()),
+        _ => Err(Fault::NoCase),
     }
 }
 
-fn text_of(alloc: Global, bytes: &[u8]) -> Result<String, Fault> {
-    let text = str::from_utf8(bytes).map_err(|_| Fault::NoCase)?;
-    Ok(String::from_str(alloc, text)?)
+fn rest_of(alloc: Global, words: &str, handed: &Handed<'_>) -> Result<Rest, Fault> {
+    Ok(Rest {
+        words: words_of(alloc, words)?,
+        source: MemSource::new(
+            alloc,
+            handed.input.as_bytes(),
+            handed.piece,
+            handed.source_faults,
+        )?,
+        sink: MemSink::new(alloc, handed.piece, handed.sink_faults)?,
+        clock: handed.clock,
+        first: handed.clock.next,
+    })
+}
+
+fn by_alone(alloc: Global, rest: &mut Rest, disk: &mut MemDisk) -> Result<Outcome, Fault> {
+    let held = take(alloc, disk)?;
+    let (status, left, clock) = alone(
+        alloc,
+        &rest.words,
+        &mut rest.source,
+        &mut rest.sink,
+        held,
+        rest.clock,
+    );
+    *disk = left;
+    rest.clock = clock;
+    outcome_of(alloc, status, rest)
+}
+
+fn by_top(alloc: Global, rest: &mut Rest, disk: &mut MemDisk) -> Result<Outcome, Fault> {
+    let held = take(alloc, disk)?;
+    let (status, left, clock, _lobby) = top(
+        alloc,
+        &rest.words,
+        &mut rest.source,
+        &mut rest.sink,
+        held,
+        rest.clock,
+        NoLobby,
+    );
+    *disk = left;
+    rest.clock = clock;
+    outcome_of(alloc, status, rest)
+}
+
+// The disk, in whose place an empty one is left.
+fn take(alloc: Global, disk: &mut MemDisk) -> Result<MemDisk, Memory> {
+    let empty = MemDisk::new(alloc, &[])?;
+    Ok(mem::replace(disk, empty))
+}
+
+fn outcome_of(alloc: Global, status: Status, rest: &Rest) -> Result<Outcome, Fault> {
+    let given = str::from_utf8(rest.sink.given()).map_err(|_| Fault::NoCase)?;
+    Ok(Outcome {
+        status,
+        given: String::from_str(alloc, given)?,
+        readings: rest.clock.next.saturating_sub(rest.first),
+    })
 }

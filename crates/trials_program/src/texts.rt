@@ -1,82 +1,13 @@
-//! The parts of a line, and the texts that it stands for.
+//! The texts that a line writes in short, and texts that are shown.
 
 use crate::fault::Fault;
-use au_base::Text;
 use std::alloc::Global;
-
-/// The word before the first space, and what stands behind the space.
-pub fn first_word(text: &str) -> (&str, &str) {
-    text.split_once(' ').unwrap_or((text, ""))
-}
-
-/// The number that the word writes.
-pub fn number(word: &str) -> Result<u64, Fault> {
-    word.parse().map_err(|_| Fault::NoCase)
-}
-
-/// The numbers that the words write.
-pub fn numbers(alloc: Global, words: &str) -> Result<Vec<u64>, Fault> {
-    let mut listed = Vec::new(alloc);
-    for word in words.split(' ') {
-        listed.push(number(word)?)?;
-    }
-    Ok(listed)
-}
-
-/// The one number that the word writes, or none where it is `-`.
-pub fn number_or_none(alloc: Global, word: &str) -> Result<Vec<u64>, Fault> {
-    if word == "-" {
-        return Ok(Vec::new(alloc));
-    }
-    numbers(alloc, word)
-}
-
-/// The words of a command; `''` is the empty one.
-pub fn words_of(alloc: Global, text: &str) -> Result<Vec<Text>, Fault> {
-    let mut words = Vec::new(alloc);
-    if text.is_empty() {
-        return Ok(words);
-    }
-    for word in text.split(' ') {
-        let word = if word == "''" { "" } else { word };
-        words.push(Text::from_str(alloc, word)?)?;
-    }
-    Ok(words)
-}
 
 /// The text in which `\n`, `\r` and `\t` are written out.
 pub fn plain(alloc: Global, text: &str) -> Result<String, Fault> {
     let mut written = String::new(alloc);
-    let mut parts = text.split('\\');
-    if let Some(first) = parts.next() {
-        written.push_str(first)?;
-    }
-    for part in parts {
-        push_part(&mut written, part)?;
-    }
+    push_plain(&mut written, text)?;
     Ok(written)
-}
-
-// What stands behind a backslash.
-fn push_part(written: &mut String, part: &str) -> Result<(), Fault> {
-    if let Some(rest) = part.strip_prefix('n') {
-        written.push('\n')?;
-        written.push_str(rest)?;
-        return Ok(());
-    }
-    if let Some(rest) = part.strip_prefix('r') {
-        written.push('\r')?;
-        written.push_str(rest)?;
-        return Ok(());
-    }
-    match part.strip_prefix('t') {
-        Some(rest) => {
-            written.push('\t')?;
-            written.push_str(rest)?;
-            Ok(())
-        }
-        None => Err(Fault::NoCase),
-    }
 }
 
 /// So many times `#`, and the text behind.
@@ -85,20 +16,62 @@ pub fn long(alloc: Global, count: u64, rest: &str) -> Result<String, Fault> {
     for _time in 0..count {
         written.push('#')?;
     }
-    written.push_str(&plain(alloc, rest)?)?;
+    push_plain(&mut written, rest)?;
     Ok(written)
 }
 
-/// The lines of the text, each with two spaces before it. Where no LF ends the last one, that is said.
-pub fn indented(alloc: Global, text: &str) -> Result<String, Fault> {
-    let mut said = String::new(alloc);
+fn push_plain(written: &mut String, text: &str) -> Result<(), Fault> {
+    let mut parts = text.split('\\');
+    if let Some(first) = parts.next() {
+        written.push_str(first)?;
+    }
+    for part in parts {
+        let (character, rest) = escaped(part)?;
+        written.push(character)?;
+        written.push_str(rest)?;
+    }
+    Ok(())
+}
+
+// The character that stands behind a backslash, and the text behind it.
+fn escaped(part: &str) -> Result<(char, &str), Fault> {
+    if let Some(rest) = part.strip_prefix('n') {
+        return Ok(('\n', rest));
+    }
+    if let Some(rest) = part.strip_prefix('r') {
+        return Ok(('\r', rest));
+    }
+    let rest = part.strip_prefix('t').ok_or(Fault::NoCase)?;
+    Ok(('\t', rest))
+}
+
+/// Adds the lines of the text, each with two spaces before it. If no LF ends the last one, `no LF`
+/// follows.
+pub fn push_indented(said: &mut String, text: &str) -> Result<(), Fault> {
     for line in text.lines() {
-        said.push_str("  ")?;
-        said.push_str(line)?;
-        said.push('\n')?;
+        writeln!(said, "  {line}")?;
     }
     if !text.is_empty() && !text.ends_with('\n') {
         said.push_str("  no LF\n")?;
     }
-    Ok(said)
+    Ok(())
+}
+
+/// Adds the lines of the text, with that between them.
+pub fn push_joined(said: &mut String, text: &str, between: &str) -> Result<(), Fault> {
+    let mut is_first = true;
+    for line in text.lines() {
+        push_between(said, is_first, between)?;
+        said.push_str(line)?;
+        is_first = false;
+    }
+    Ok(())
+}
+
+/// Adds what stands between the parts of a list, unless this part is the first.
+pub fn push_between(said: &mut String, is_first: bool, between: &str) -> Result<(), Fault> {
+    if !is_first {
+        said.push_str(between)?;
+    }
+    Ok(())
 }

@@ -7,47 +7,63 @@ use au_store::Store;
 use std::alloc::Global;
 use std::marker::Brand;
 use std::sync::ledger::{Blank, Ledger};
-use trials_lines::{Fault, said, yes_or_no};
+use trials_lines::Fault;
 
 const CLIENT: ClientNo = ClientNo(1);
 
-/// That the store is opened, and what comes of these asks, in their order.
-pub fn said_asks(
+/// Adds that the store is opened, and what comes of these asks, in their order.
+pub fn push_asks(
     alloc: Global,
     store: &mut Store<MemDisk, MemClock>,
     asks: &str,
-) -> Result<String, Fault> {
-    let mut answers = said(alloc, "opened")?;
+    said: &mut String,
+) -> Result<(), Fault> {
+    said.push_str("opened")?;
     for ask in asks.split_whitespace() {
-        let answer = said_ask(alloc, store, ask)?;
-        answers.push_str(", ")?;
-        answers.push_str(&answer)?;
+        said.push_str(", ")?;
+        push_ask(alloc, store, ask, said)?;
     }
-    Ok(answers)
+    Ok(())
 }
 
-fn said_ask(
+fn push_ask(
     alloc: Global,
     store: &mut Store<MemDisk, MemClock>,
     ask: &str,
-) -> Result<String, Fault> {
+    said: &mut String,
+) -> Result<(), Fault> {
     match ask {
-        "stands" => yes_or_no(alloc, store.stands(CLIENT)),
+        "stands" => push_test(store.stands(CLIENT), said),
         "abandon" => {
             store.abandon(CLIENT);
-            said(alloc, "ended")
+            said.push_str("ended")?;
+            Ok(())
         }
-        "reading" => number_text(alloc, store.reading()),
-        _ => {
-            let ask = ask_of(alloc, ask)?;
-            let answer = step::<Brand>(alloc, store, &ask, Blank::new(1));
-            said_answer(alloc, &answer)
+        "reading" => {
+            write!(said, "{}", store.reading())?;
+            Ok(())
         }
+        _ => push_statement(alloc, store, ask, said),
     }
 }
 
-fn number_text(alloc: Global, number: u64) -> Result<String, Fault> {
-    Ok(format!(in alloc; "{number}")?)
+fn push_test(test: bool, said: &mut String) -> Result<(), Fault> {
+    match test {
+        true => said.push_str("yes")?,
+        false => said.push_str("no")?,
+    }
+    Ok(())
+}
+
+fn push_statement(
+    alloc: Global,
+    store: &mut Store<MemDisk, MemClock>,
+    ask: &str,
+    said: &mut String,
+) -> Result<(), Fault> {
+    let ask = ask_of(alloc, ask)?;
+    let answer = step::<Brand>(alloc, store, &ask, Blank::new(1));
+    push_answer(&answer, said)
 }
 
 fn ask_of(alloc: Global, ask: &str) -> Result<Ask, Fault> {
@@ -79,21 +95,23 @@ fn step<L: Ledger>(
     store.step(alloc, CLIENT, ask, &mut steps)
 }
 
-fn said_answer(alloc: Global, answer: &Said) -> Result<String, Fault> {
+fn push_answer(answer: &Said, said: &mut String) -> Result<(), Fault> {
     match answer {
-        Said::Replied(reply) => said_reply(alloc, reply),
-        Said::Disk => said(alloc, "disk"),
-        Said::Full { needed, limit } => Ok(format!(in alloc; "full {needed} of {limit}")?),
-        Said::Memory => Err(Fault::Memory),
+        Said::Replied(reply) => push_reply(reply, said)?,
+        Said::Disk => said.push_str("disk")?,
+        Said::Full { needed, limit } => write!(said, "full {needed} of {limit}")?,
+        Said::Memory => return Err(Fault::Memory),
     }
+    Ok(())
 }
 
-fn said_reply(alloc: Global, reply: &Reply) -> Result<String, Fault> {
+fn push_reply(reply: &Reply, said: &mut String) -> Result<(), Fault> {
     let code = reply.code.0;
     match first_number(reply) {
-        Some(number) => Ok(format!(in alloc; "number {number}")?),
-        None => Ok(format!(in alloc; "code {code}")?),
+        Some(number) => write!(said, "number {number}")?,
+        None => write!(said, "code {code}")?,
     }
+    Ok(())
 }
 
 // The first cell of the first row, where it is a number.

@@ -1,53 +1,68 @@
 //! What comes of the steps of a case.
 
-use crate::stores::{looked, made, opened, size, written};
+use crate::stores::{look, make, open, push_size, write};
 use crate::words::{first_word, limit};
 use au_io::MemDisk;
 use std::alloc::Global;
 use trials_lines::{Fault, number};
 
-/// What comes of a case: a line, or one for each call of a range that is to fail in turn.
-pub fn answers(alloc: Global, case: &str) -> Result<String, Fault> {
+/// Adds what comes of a case: a line, or one for each call of a range that is to fail in turn.
+pub fn push_case(alloc: Global, case: &str, said: &mut String) -> Result<(), Fault> {
     let (fail, steps) = case.split_once(':').ok_or(Fault::NoCase)?;
     if fail == "-" {
-        let disk = MemDisk::new(alloc, &[])?;
-        return Ok(format!(in alloc; "  {}\n", on_disk(alloc, disk, steps)?)?);
+        said.push_str("  ")?;
+        return push_steps(alloc, &[], steps, said);
     }
     let (from, to) = fail.split_once("..").unwrap_or((fail, fail));
-    ranged(alloc, number(from)?, number(to)?, steps)
-}
-
-fn ranged(alloc: Global, from: u64, to: u64, steps: &str) -> Result<String, Fault> {
-    let mut said = String::new(alloc);
-    for call in from..=to {
-        let disk = MemDisk::new(alloc, &[call])?;
-        let answer = on_disk(alloc, disk, steps)?;
-        said.push_str(&format!(in alloc; "  {call}: {answer}\n")?)?;
+    for call in number(from)?..=number(to)? {
+        write!(said, "  {call}: ")?;
+        push_steps(alloc, &[call], steps, said)?;
     }
-    Ok(said)
+    Ok(())
 }
 
-// What comes of the steps on the disk.
-fn on_disk(alloc: Global, disk: MemDisk, steps: &str) -> Result<String, Fault> {
-    let mut disk = disk;
-    let mut said = String::new(alloc);
+// Adds what comes of the steps on a disk that fails at these calls.
+fn push_steps(alloc: Global, fail: &[u64], steps: &str, said: &mut String) -> Result<(), Fault> {
+    let mut disk = MemDisk::new(alloc, fail)?;
+    push_on_disk(alloc, &mut disk, steps, said)
+}
+
+fn push_on_disk(
+    alloc: Global,
+    disk: &mut MemDisk,
+    steps: &str,
+    said: &mut String,
+) -> Result<(), Fault> {
+    let mut is_first = true;
     for step in steps.split(';') {
-        if !said.is_empty() {
-            said.push_str("; ")?;
-        }
-        said.push_str(&said_step(alloc, &mut disk, step.trim())?)?;
+        push_between(said, is_first)?;
+        push_step(alloc, disk, step.trim(), said)?;
+        is_first = false;
     }
-    Ok(said)
+    said.push('\n')?;
+    Ok(())
 }
 
-fn said_step(alloc: Global, disk: &mut MemDisk, step: &str) -> Result<String, Fault> {
+fn push_between(said: &mut String, is_first: bool) -> Result<(), Fault> {
+    if !is_first {
+        said.push_str("; ")?;
+    }
+    Ok(())
+}
+
+fn push_step(
+    alloc: Global,
+    disk: &mut MemDisk,
+    step: &str,
+    said: &mut String,
+) -> Result<(), Fault> {
     let (step, part) = first_word(step);
     match step {
-        "make" => made(alloc, disk, limit(part)?),
-        "open" => opened(alloc, disk, part),
-        "look" => looked(alloc, disk),
-        "size" => size(alloc, disk),
-        "write" => written(alloc, disk, part),
+        "make" => make(alloc, disk, limit(part)?, said),
+        "open" => open(alloc, disk, part, said),
+        "look" => look(alloc, disk, part, said),
+        "size" => push_size(disk, said),
+        "write" => write(alloc, disk, part, said),
         _ => Err(Fault::NoCase),
     }
 }

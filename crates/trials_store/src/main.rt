@@ -12,7 +12,8 @@
 //!   they are answered: `code N`, `number N`, the one number of a row, `disk`, `full N of LIMIT`. And
 //!   `stands`: whether the client has a session; `abandon`: its session is ended; `reading`: the last
 //!   reading of the clock
-//! - `look`: the instance, the count of records and the used length, or why nothing is seen
+//! - `look`: the instance, the count of records and the used length, or why nothing is seen; `look users`:
+//!   each user with its verifier in hexadecimal digits, and how many grants of system privileges there are
 //! - `size`: the size of area A
 //! - `write AT BYTES`: these bytes, as hexadecimal digits, are written over area A there
 #![tactic(auto)]
@@ -27,16 +28,23 @@ use trials_lines::Fault;
 
 fn main(rt: HostRuntime) -> io::Result<()> {
     for line in rt.lines(rt.alloc()) {
-        let line = line?;
-        println!(rt; "{line}")?;
-        if line.is_empty() || line.starts_with('#') {
-            continue;
-        }
-        match case::answers(rt.alloc(), &line) {
-            Ok(said) => print!(rt; "{said}")?,
-            Err(Fault::Memory) => println!(rt; "  out of memory")?,
-            Err(Fault::NoCase) => println!(rt; "  no such case")?,
-        }
+        answer(&rt, &line?)?;
     }
     Ok(())
+}
+
+// Prints the line and what comes of it, up to a fault.
+fn answer(rt: &(impl Print + AllocGlobal), line: &str) -> io::Result<()> {
+    println!(rt; "{line}")?;
+    if line.is_empty() || line.starts_with('#') {
+        return Ok(());
+    }
+    let mut said = String::new(rt.alloc());
+    let answered = case::push_case(rt.alloc(), line, &mut said);
+    print!(rt; "{said}")?;
+    match answered {
+        Ok(()) => Ok(()),
+        Err(Fault::Memory) => println!(rt; "  out of memory"),
+        Err(Fault::NoCase) => println!(rt; "  no such case"),
+    }
 }

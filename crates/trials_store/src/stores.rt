@@ -1,40 +1,45 @@
 //! Stores on a disk.
 
-use crate::asking::said_asks;
-use crate::words::{bytes, first_word, said_created, said_why};
+use crate::asking::push_asks;
+use crate::words::{bytes, first_word, push_created, push_why};
 use au_entries::Kept;
 use au_io::{Area, Disk, Failed, MemClock, MemDisk};
 use au_store::{LookFault, OpenFault, Store};
 use std::alloc::Global;
 use std::mem;
-use trials_lines::{Fault, number, said};
+use trials_lines::{Fault, number};
 
 const CLOCK: MemClock = MemClock {
     next: 1_000_000,
     step: 1,
 };
 
-/// How making a store ends.
-pub fn made(alloc: Global, disk: &mut MemDisk, limit: u32) -> Result<String, Fault> {
+/// Adds how making a store ends.
+pub fn make(alloc: Global, disk: &mut MemDisk, limit: u32, said: &mut String) -> Result<(), Fault> {
     if limit < 400 || limit > 2_147_483_647 {
         return Err(Fault::NoCase);
     }
     let created = Store::<MemDisk, MemClock>::create(alloc, disk, b"p".as_slice(), limit);
-    said_created(alloc, created)
+    push_created(created, said)
 }
 
-/// What comes of these asks of the store on the disk, or why it isn't opened.
-pub fn opened(alloc: Global, disk: &mut MemDisk, asks: &str) -> Result<String, Fault> {
-    let blank = MemDisk::new(alloc, &[])?;
-    let (left, said) = open(alloc, mem::replace(disk, blank), asks);
+/// Adds what comes of these asks of the store on the disk, or why it isn't opened.
+pub fn open(alloc: Global, disk: &mut MemDisk, asks: &str, said: &mut String) -> Result<(), Fault> {
+    let empty = MemDisk::new(alloc, &[])?;
+    let (left, asked) = open_held(alloc, mem::replace(disk, empty), asks, said);
     *disk = left;
-    said
+    asked
 }
 
-fn open(alloc: Global, disk: MemDisk, asks: &str) -> (MemDisk, Result<String, Fault>) {
+fn open_held(
+    alloc: Global,
+    disk: MemDisk,
+    asks: &str,
+    said: &mut String,
+) -> (MemDisk, Result<(), Fault>) {
     match Store::open(alloc, disk, CLOCK) {
-        Ok(store) => ask(alloc, store, asks),
-        Err((disk, _clock, why)) => (disk, said_why(alloc, why)),
+        Ok(store) => ask(alloc, store, asks, said),
+        Err((disk, _clock, why)) => (disk, push_why(why, said)),
     }
 }
 
@@ -43,52 +48,78 @@ fn ask(
     alloc: Global,
     store: Store<MemDisk, MemClock>,
     asks: &str,
-) -> (MemDisk, Result<String, Fault>) {
+    said: &mut String,
+) -> (MemDisk, Result<(), Fault>) {
     let mut store = store;
-    let said = said_asks(alloc, &mut store, asks);
+    let asked = push_asks(alloc, &mut store, asks, said);
     let (disk, _clock) = store.shut();
-    (disk, said)
+    (disk, asked)
 }
 
-/// What is seen of the store on the disk, or why nothing is.
-pub fn looked(alloc: Global, disk: &mut MemDisk) -> Result<String, Fault> {
-    let blank = MemDisk::new(alloc, &[])?;
-    let (left, seen) = Store::<MemDisk, MemClock>::look(alloc, mem::replace(disk, blank));
+/// Adds this part of what is seen of the store on the disk, or why nothing is.
+pub fn look(alloc: Global, disk: &mut MemDisk, part: &str, said: &mut String) -> Result<(), Fault> {
+    let empty = MemDisk::new(alloc, &[])?;
+    let (left, seen) = Store::<MemDisk, MemClock>::look(alloc, mem::replace(disk, empty));
     *disk = left;
-    said_seen(alloc, &seen)
+    push_seen(alloc, &seen, part, said)
 }
 
-fn said_seen(alloc: Global, seen: &Result<(Kept, u64), LookFault>) -> Result<String, Fault> {
-    match seen {
-        Ok((kept, used)) => said_kept(alloc, kept, *used),
-        Err(why) => said_why(alloc, OpenFault::from(*why)),
+fn push_seen(
+    alloc: Global,
+    seen: &Result<(Kept, u64), LookFault>,
+    part: &str,
+    said: &mut String,
+) -> Result<(), Fault> {
+    match (seen, part) {
+        (Ok((kept, used)), "") => push_counts(kept, *used, said),
+        (Ok((kept, _)), "users") => push_users(alloc, kept, said),
+        (Ok(_), _) => Err(Fault::NoCase),
+        (Err(why), _) => push_why(OpenFault::from(*why), said),
     }
 }
 
-fn said_kept(alloc: Global, kept: &Kept, used: u64) -> Result<String, Fault> {
+fn push_counts(kept: &Kept, used: u64, said: &mut String) -> Result<(), Fault> {
     let (instance, records) = (kept.instance, kept.trail.len());
-    Ok(format!(in alloc; "instance {instance}, {records} records, {used} bytes")?)
+    write!(said, "instance {instance}, {records} records, {used} bytes")?;
+    Ok(())
 }
 
-/// How long area A is.
-pub fn size(alloc: Global, disk: &mut MemDisk) -> Result<String, Fault> {
-    match disk.size(Area::A) {
-        Ok(size) => Ok(format!(in alloc; "{size} bytes")?),
-        Err(Failed) => said(alloc, "disk"),
+// Adds each user with its verifier, and how many grants of system privileges there are.
+fn push_users(alloc: Global, kept: &Kept, said: &mut String) -> Result<(), Fault> {
+    for (name, verifier) in kept.users.as_slice() {
+        let digits = hex::encode(alloc, verifier)?;
+        write!(said, "{} {digits}, ", name.as_str())?;
     }
+    write!(said, "{} system grants", kept.grants.system.len())?;
+    Ok(())
+}
+
+/// Adds how long area A is.
+pub fn push_size(disk: &mut MemDisk, said: &mut String) -> Result<(), Fault> {
+    match disk.size(Area::A) {
+        Ok(size) => write!(said, "{size} bytes")?,
+        Err(Failed) => said.push_str("disk")?,
+    }
+    Ok(())
 }
 
 /// Writes the bytes over area A at that place.
-pub fn written(alloc: Global, disk: &mut MemDisk, part: &str) -> Result<String, Fault> {
+pub fn write(
+    alloc: Global,
+    disk: &mut MemDisk,
+    part: &str,
+    said: &mut String,
+) -> Result<(), Fault> {
     let (at, digits) = first_word(part);
     let bytes = bytes(alloc, digits)?;
-    match write(disk, number(at)?, &bytes) {
-        Ok(()) => said(alloc, "written"),
-        Err(Failed) => said(alloc, "disk"),
+    match write_over(disk, number(at)?, &bytes) {
+        Ok(()) => said.push_str("written")?,
+        Err(Failed) => said.push_str("disk")?,
     }
+    Ok(())
 }
 
-fn write(disk: &mut MemDisk, at: u64, bytes: &[u8]) -> Result<(), Failed> {
+fn write_over(disk: &mut MemDisk, at: u64, bytes: &[u8]) -> Result<(), Failed> {
     if at > disk.size(Area::A)? {
         return Err(Failed);
     }

@@ -3,9 +3,9 @@
 use au_io::Area;
 use au_store::{Created, OpenFault};
 use std::alloc::Global;
-use trials_lines::{Fault, said};
+use trials_lines::Fault;
 
-/// The word before the first space, and what stands behind the space.
+/// The word before the first space, and the text behind the space.
 pub fn first_word(text: &str) -> (&str, &str) {
     text.split_once(' ').unwrap_or((text, ""))
 }
@@ -23,28 +23,30 @@ pub fn bytes(alloc: Global, word: &str) -> Result<Vec<u8>, Fault> {
     hex::decode(alloc, word).map_err(|_| Fault::NoCase)
 }
 
-/// How making a store ended.
-pub fn said_created(alloc: Global, created: Created) -> Result<String, Fault> {
+/// Adds how making a store ended.
+pub fn push_created(created: Created, said: &mut String) -> Result<(), Fault> {
     match created {
-        Created::Done => said(alloc, "done"),
-        Created::Formatted => said(alloc, "formatted"),
-        Created::Disk => said(alloc, "disk"),
-        Created::Memory => Err(Fault::Memory),
+        Created::Done => said.push_str("done")?,
+        Created::Formatted => said.push_str("formatted")?,
+        Created::Disk => said.push_str("disk")?,
+        Created::Memory => return Err(Fault::Memory),
     }
+    Ok(())
 }
 
-/// Why a store isn't opened.
-pub fn said_why(alloc: Global, why: OpenFault) -> Result<String, Fault> {
+/// Adds why a store isn't opened.
+pub fn push_why(why: OpenFault, said: &mut String) -> Result<(), Fault> {
     match why {
-        OpenFault::Disk => said(alloc, "disk"),
-        OpenFault::Unformatted => said(alloc, "unformatted"),
+        OpenFault::Disk => said.push_str("disk")?,
+        OpenFault::Unformatted => said.push_str("unformatted")?,
         OpenFault::Damaged { area, at } => {
             let area = area_word(area);
-            Ok(format!(in alloc; "damaged {area} at {at}")?)
+            write!(said, "damaged {area} at {at}")?;
         }
-        OpenFault::Worn => said(alloc, "worn"),
-        OpenFault::Memory => Err(Fault::Memory),
+        OpenFault::Worn => said.push_str("worn")?,
+        OpenFault::Memory => return Err(Fault::Memory),
     }
+    Ok(())
 }
 
 fn area_word(area: Area) -> &'static str {

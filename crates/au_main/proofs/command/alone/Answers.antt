@@ -1,4 +1,4 @@
-use Rattle.std.proofs.Common.{◌≡◌, inl, inr, ⊎_elim, refl, subst}
+use Rattle.std.proofs.Common.{inl, inr, ⊎_elim, refl, subst}
 use Rattle.au_words.specs.declared.command.Command.{Command}
 use Rattle.au_words.specs.declared.command.Command.TheVariants as word
 use Rattle.au_words.specs.Words.{IsCommand}

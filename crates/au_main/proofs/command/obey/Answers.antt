@@ -1,6 +1,4 @@
-use Rattle.std.proofs.Common.{◌≡◌, inl, inr, ⊎_elim, ℕ, List, refl, sym, ◌∙◌, subst}
-use Rattle.au_words.specs.declared.command.Command.{Command}
-use Rattle.au_words.specs.declared.command.Command.TheVariants as word
+use Rattle.std.proofs.Common.{inl, inr, ⊎_elim, ℕ, List, refl, sym, ◌∙◌, subst}
 use Rattle.au_main.specs.declared.export.Export.{Export}
 use Rattle.au_main.specs.Exports.{HasExport}
 use Rattle.au_main.specs.Init.{HasInit}

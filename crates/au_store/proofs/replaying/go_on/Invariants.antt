@@ -10,7 +10,7 @@ abbrev pub invariant-loop-turn : goal.invariant-loop-turn
 invariant-loop-turn g l =
     let disk = g.D.Disk in
     record {
-      taken : disk.told → IsTaken (disk.meaning (disk_of l.fn.journal)) (seat_of l.fn.journal) l.fn.first.state.kept
+      taken : disk.told → IsTaken (disk.meaning (disk_of l.fn.journal)) (seat_of l.fn.journal) l.fn.engine.state.kept
           → IsTaken (disk.meaning (disk_of l.journal)) (seat_of l.journal) l.engine.state.kept;
       resting : l.engine.state ≡ resting l.engine.state.kept;
       ends : EndsWell l.engine.state.kept;

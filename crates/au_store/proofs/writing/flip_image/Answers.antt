@@ -1,4 +1,4 @@
-use Rattle.std.proofs.Common.{◌≡◌, inr, [], ◌∷◌, length, refl, sym, ◌∙◌, ap}
+use Rattle.std.proofs.Common.{inr, [], ◌∷◌, length}
 use Rattle.au_image.specs.Image.{image_of}
 use Rattle.au_journal.specs.Images.{other_of}
 use Rattle.au_journal.specs.Journals.{disk_of, seat_of}

@@ -16,8 +16,8 @@ image_told-requires c =
     let bare = told_all kept c.all.result (record { 0 = 0 }) c.all.ensures.records c.all.ensures.last in
     subst IsWritable (sym bare) (untold_writable conditions kept c.lawful.ensures.kept)
 
-pub take_body-requires-clause-takes : goal.take_body-requires-clause-takes
-take_body-requires-clause-takes c =
+pub after_body-requires-clause-takes : goal.after_body-requires-clause-takes
+after_body-requires-clause-takes c =
     let kept = c.args.self.now.state.kept in
     let bare = told_all kept c.all.result (record { 0 = 0 }) c.all.ensures.records c.all.ensures.last in
     let lent : c.as_slice.result.now ≡ c.in_ok-image.image.items = cc in
@@ -25,7 +25,7 @@ take_body-requires-clause-takes c =
     let spelled = subst (λ (k : Kept). IsSpellable (image_of k)) bare c.in_ok-image.ensures.spellable in
     let is = c.body_in.ensures (image_of (untold kept)) (lent ∙ bytes) in
     let takes = image_takes (record { goes = c.images_come_back.ensures.goes; back = c.images_come_back.ensures.back }) kept c.body_in.result.now is spelled c.lawful.ensures.kept c.requires.seated in
-    (untold kept, subst (λ (m : State). Takes m.kept c.body_in.result.now (untold kept)) (sym c.in_ok-copy.ensures) takes)
+    (untold kept, subst (λ (m : State). Takes m.kept c.body_in.result.now (untold kept)) (sym c.in_ok-blank.ensures) takes)
 
 pub returns : goal.returns
 returns c =
@@ -36,5 +36,5 @@ returns c =
     let spelled = subst (λ (k : Kept). IsSpellable (image_of k)) bare c.in_ok-image.ensures.spellable in
     let is = c.body_in.ensures (image_of (untold kept)) (lent ∙ bytes) in
     let takes = image_takes (record { goes = c.images_come_back.ensures.goes; back = c.images_come_back.ensures.back }) kept c.body_in.result.now is spelled c.lawful.ensures.kept c.requires.seated in
-    c.in_ok-take_body.ensures (untold kept) (subst (λ (m : State). Takes m.kept c.body_in.result.now (untold kept)) (sym c.in_ok-copy.ensures) takes)
-    ∙ ap (λ (m : State). record m { kept = untold kept }) c.in_ok-copy.ensures
+    c.in_ok-copy.ensures (untold kept) (subst (λ (m : State). Takes m.kept c.body_in.result.now (untold kept)) (sym c.in_ok-blank.ensures) takes)
+    ∙ ap (λ (m : State). record m { kept = untold kept }) c.in_ok-blank.ensures

@@ -50,8 +50,8 @@ returns-then-prepared-len-clause-spellable c =
     c.holds_together.ensures.together.desk_is.quiet c.holds_together.ensures.open_to (omega (arith, c.if-prepared-len.true, c.len.ensures)) refl is in
     subst (λ (k : Kept). IfOk c.image_seen.result (λ bytes. IsSpellable (image_of k))) same c.image_seen.ensures.spellable
 
-pub image_told-requires : goal.image_told-requires
-image_told-requires c =
+pub image_told-image-requires : goal.image_told-image-requires
+image_told-image-requires c =
     let e = c.args.self.now in
     let p = c.args.prepared.now in
     let next = (after p e.state).kept in
@@ -68,7 +68,7 @@ returns-in_ok-changed-clause-bytes c =
     let events : Told = record { trail = c.trail.result; purge = p.purge; records = c.as_slice.result; last = p.last } in
     let is = ap (λ (t : List Record). trail_left p.purge t ++ c.as_slice.result.now) c.trail.ensures ∙ ap (λ (r : List Record). trail_left p.purge e.state.kept.trail ++ r) c.as_slice.ensures in
     let same = told_changed conditions.tree e.state.kept c.in_ok-changed.changed.state.kept next p.last p.purge p.changes p.records _ c.in_ok-changed.ensures c.requires.fits.leaves is in
-    subst (λ (k : Kept). IfOk c.image_told.result (λ bytes. bytes.items ≡ framed (image_of k))) same c.image_told.ensures.bytes
+    subst (λ (k : Kept). IfOk c.image_told-image.result (λ bytes. bytes.items ≡ framed (image_of k))) same c.image_told-image.ensures.bytes
 
 pub returns-in_ok-changed-clause-spellable : goal.returns-in_ok-changed-clause-spellable
 returns-in_ok-changed-clause-spellable c =
@@ -78,4 +78,4 @@ returns-in_ok-changed-clause-spellable c =
     let events : Told = record { trail = c.trail.result; purge = p.purge; records = c.as_slice.result; last = p.last } in
     let is = ap (λ (t : List Record). trail_left p.purge t ++ c.as_slice.result.now) c.trail.ensures ∙ ap (λ (r : List Record). trail_left p.purge e.state.kept.trail ++ r) c.as_slice.ensures in
     let same = told_changed conditions.tree e.state.kept c.in_ok-changed.changed.state.kept next p.last p.purge p.changes p.records _ c.in_ok-changed.ensures c.requires.fits.leaves is in
-    subst (λ (k : Kept). IfOk c.image_told.result (λ bytes. IsSpellable (image_of k))) same c.image_told.ensures.spellable
+    subst (λ (k : Kept). IfOk c.image_told-image.result (λ bytes. IsSpellable (image_of k))) same c.image_told-image.ensures.spellable

@@ -22,7 +22,6 @@ use Rattle.au_txn.specs.Logs.{Changes}
 use Rattle.rec_codec.specs.Changes.{IsChangeSpellable}
 use Rattle.au_engine.specs.Prepared.{CanChange, committed_by, logged_by, made_of, sessions_after}
 use Rattle.au_engine.specs.Reserved.{Reserved, contents_of, with_changes}
-use Rattle.au_engine.proofs.Indexed.{none_ok}
 use Rattle.au_engine.proofs.Settled.{all_behind, grants_alone, grants_committed, spare_stays}
 use Rattle.au_engine.proofs.Settles.{short}
 use Rattle.au_engine.proofs.engine.Engine.ready.Goals as goal
@@ -53,12 +52,6 @@ stage-requires-clause-few c =
     (subst (λ (e : Reserved). grant_count (changed_all conditions.tree logged.changes e.state.kept).grants ≤ GRANTS) (sym c.self.view_is)
     (subst (λ (g : Grants). grant_count g ≤ GRANTS) (sym same) lawful.kept.whole.few.grants))
 
-pub returns-in_err-staged-clause-fits : goal.returns-in_err-staged-clause-fits
-returns-in_err-staged-clause-fits c = none_ok _ c.from_residual.result _ c.from_residual.ensures.1
-
-pub returns-in_err-staged-clause-follows : goal.returns-in_err-staged-clause-follows
-returns-in_err-staged-clause-follows c = none_ok _ c.from_residual.result _ c.from_residual.ensures.1
-
 pub returns-clause-fits : goal.returns-clause-fits
 returns-clause-fits c =
     let a = c.args in
@@ -74,7 +67,7 @@ returns-clause-fits c =
     let text = c.asks_are_text.ensures in
     let some = c.requires.client in
     let step = c.requires.step in
-    let staged = c.in_ok-staged.ensures in
+    let staged = c.in-Ok.ensures in
     let state_by : Kept → List Changes → State = λ k l. record { kept = k; sessions = map (with_changes l) inside.sessions.items; drawn = inside.drawn; results = inside.results } in
     let same = ap₂ state_by staged.kept staged.logs ∙ ap (λ (e : Reserved). e.state) c.self.view_is in
     let back = sym same in
@@ -82,7 +75,7 @@ returns-clause-fits c =
     let kept = staged.kept ∙ ap (λ (e : Reserved). e.state.kept) c.self.view_is in
     let told = λ (q : ClientNo). ap (λ (l : List Changes). open_in [] l q) logs ∙ c.holds_together.ensures.open_to q in
     record {
-      staged = subst (λ (cs : List Change). IsStaged cs c.in_ok-staged.staged) c.behind.ensures staged.staged;
+      staged = subst (λ (cs : List Change). IsStaged cs c.in-Ok.staged) c.behind.ensures staged.staged;
       fits = staged.fits;
       settles = law.settles m n a.client a.ask.now a.stamp.0 o.reply logged lawful ends is text some step c.stage.new.self kept told;
       logged = subst (λ (cs : List Change). IsLogged logged.commits c.stage.new.self logged.changes cs) (take-append-drop o.finals o.changes)

@@ -113,11 +113,11 @@ returns-in-Ok-write_start-clause-cost g c =
 pub returns-in-Ok-write_start-clause-cause : goal.returns-in-Ok-write_start-clause-cause
 returns-in-Ok-write_start-clause-cause g c = c.in-Ok-write_start.ensures.cause.done
 
-pub returns-in-Err-write_start-clause-time : goal.returns-in-Err-write_start-clause-time
-returns-in-Err-write_start-clause-time g c = rw c.shut-in-Err-write_start.ensures c.write_start.ensures.time
+pub returns-clause-time : goal.returns-clause-time
+returns-clause-time g c = rw c.shut-in-Err-write_start.ensures c.write_start.ensures.time
 
-pub returns-in-Err-write_start-clause-cost : goal.returns-in-Err-write_start-clause-cost
-returns-in-Err-write_start-clause-cost g c =
+pub returns-clause-cost : goal.returns-clause-cost
+returns-clause-cost g c =
     let meaning = g.D.Disk.meaning in
     let j = c.args.journal in
     let kept = c.args.engine.state.kept in
@@ -125,8 +125,8 @@ returns-in-Err-write_start-clause-cost g c =
     let is : c.deref.result.now ≡ framed (start_frame kept c.now-reading.result) = c.deref.ensures.value ∙ c.in-Ok.ensures.framed in
     rw c.shut-in-Err-write_start.ensures (start_cost kept c.now-reading.result (meaning (disk_of j)).written (meaning (disk_of n)).written c.deref.result.now is c.write_start.ensures.cost)
 
-pub returns-in-Err-write_start-clause-cause : goal.returns-in-Err-write_start-clause-cause
-returns-in-Err-write_start-clause-cause g c =
+pub returns-clause-cause : goal.returns-clause-cause
+returns-clause-cause g c =
     let cause = c.in-Err-write_start.ensures.cause in
     rw c.shut-in-Err-write_start.ensures (cause.never_falls, cause.failed refl)
 
@@ -136,8 +136,8 @@ returns-then-instance-ge-INSTANCES-clause-in_vain g c = (refl, c.shut.ensures)
 pub returns-in-Err-clause-in_vain : goal.returns-in-Err-clause-in_vain
 returns-in-Err-clause-in_vain g c = (inr (c.now-reading.result, c.now-reading.ensures), c.shut-in-Err.ensures)
 
-pub returns-in-Err-write_start-clause-in_vain : goal.returns-in-Err-write_start-clause-in_vain
-returns-in-Err-write_start-clause-in_vain g c = (
+pub returns-clause-in_vain : goal.returns-clause-in_vain
+returns-clause-in_vain g c = (
   c.now-reading.result,
   c.now-reading.ensures,
   λ told gated.
