@@ -1,4 +1,5 @@
 pub mod InitLaws
+pub mod OneLaws
+pub mod OptionLaws
 pub mod SampleLaws
-pub mod TwoLaws
 pub mod WalkLaws

@@ -1,35 +1,30 @@
 -- The options of `sample`, by what `clap` finds.
 use Rattle.std.specs.List.{All}
 use Rattle.std.specs.Prelude.{IsSomeAnd, MatchOption}
-use Rattle.std.proofs.Common.{◌≡◌, ℕ, true, List, [], ◌∷◌, Option, Some, None, refl, sym, ap, ◌∙◌, subst, codes}
+use Rattle.std.proofs.Common.{◌≡◌, ℕ, List, [], ◌∷◌, Option, Some, None, refl, sym, ap, ◌∙◌, subst, codes}
 use Rattle.clap.specs.Faults.{fault_of}
 use Rattle.clap.specs.Matches.{first_value, found_of}
 use Rattle.clap.specs.Simple.{App, matches_of}
 use Rattle.clap.specs.Walk.{Text, first_of, rows_of}
 use Rattle.clap.specs.declared.parser.matches.ArgMatches.{ArgMatches}
 use Rattle.clap.proofs.WalkLemmas.{first_value-rows}
-use Rattle.au_words.specs.descent.Options.{FindsSample, IsFormed, two_options}
-use Rattle.au_words.specs.Words.{AreBoth, IsNumber, IsRowsText, IsSample, rows_name, seed_name}
-use Rattle.au_words.proofs.TwoLaws.{AreGiven, AreNames, IsFound, IsGiven, IsTaken, given, taken}
-
-abbrev first_id : Text
-first_id = codes "seed"
-
-abbrev second_id : Text
-second_id = codes "rows"
+use Rattle.au_words.specs.descent.Options.{FindsSample, IsFormed, options_app, sample_options}
+use Rattle.au_words.specs.Words.{AreOptions, IsNumber, IsRowsText, IsSample, rows_name, seed_name}
+use Rattle.au_words.proofs.OptionLaws.{AreNames, IsFound, IsTaken, given, named_text, taken}
 
 abbrev pub app : App
-app = two_options (codes "sample") first_id second_id true
+app = options_app (codes "sample") sample_options
 
-names : AreNames first_id second_id
-names = record { some = λ e. cc; other_some = λ e. cc; plain = refl; other_plain = refl; apart = refl; other_apart = refl }
+names : AreNames sample_options
+names = ((λ e. cc), refl, refl, ((λ e. cc), refl, refl, tt))
 
-is_taken : (words : List Text) (seed rows : ℕ) (x : IsSample (codes "sample" ∷ words) seed rows) → IsTaken app first_id second_id words x.seed_text (Some x.rows_text)
+pub is_taken : (words : List Text) (seed rows : ℕ) (x : IsSample (codes "sample" ∷ words) seed rows)
+    → IsTaken app words ((seed_name, Some x.seed_text) ∷ (rows_name, Some x.rows_text) ∷ [])
 is_taken words seed rows x =
     let split : codes "sample" ∷ x.options ≡ codes "sample" ∷ words = sym x.split in
     let same : x.options ≡ words = cc in
-    let are = subst (λ (l : List Text). AreBoth seed_name rows_name x.seed_text x.rows_text l) same x.reads in
-    given (codes "sample") first_id second_id true names words x.seed_text (Some x.rows_text) are (λ _ e. let bad : Some x.rows_text ≡ None = e in cc)
+    let options : List (Text × Option Text) = (seed_name, Some x.seed_text) ∷ (rows_name, Some x.rows_text) ∷ [] in
+    given (codes "sample") sample_options names words options (refl, (λ q. refl), (refl, (λ q. refl), tt)) (subst (AreOptions options) same x.reads)
 
 pub no_sample : (words : List Text) → (All IsFormed words → fault_of app words ≡ [] → ⊥) → (seed rows : ℕ) → IsSample (codes "sample" ∷ words) seed rows → ⊥
 no_sample words none seed rows x = let t = is_taken words seed rows x in none t.formed t.passes
@@ -41,25 +36,26 @@ module _ (words : List Text) (m : ArgMatches) (found : IsFound app words (rows_o
   finds : (seed rows : ℕ) → IsSample (codes "sample" ∷ words) seed rows → FindsSample m seed rows
   finds seed rows x =
       let t = is_taken words seed rows x in (
-        subst (λ (o : Option Text). IsSomeAnd o (λ text. IsNumber text seed)) (sym (value_is first_id ∙ t.first)) x.seed_is,
-        subst (λ (o : Option Text). IsSomeAnd o (λ text. IsRowsText text rows)) (sym (value_is second_id ∙ t.second)) x.rows_is,
+        subst (λ (o : Option Text). IsSomeAnd o (λ text. IsNumber text seed)) (sym (value_is seed_name ∙ t.values.0)) x.seed_is,
+        subst (λ (o : Option Text). IsSomeAnd o (λ text. IsRowsText text rows)) (sym (value_is rows_name ∙ t.values.1.0)) x.rows_is,
       )
 
   is_sample : (seed rows : ℕ) → FindsSample m seed rows → IsSample (codes "sample" ∷ words) seed rows
   is_sample seed rows is =
-      let g = taken (codes "sample") first_id second_id true names words found.formed found.passes in
-      by_behind g g.behind refl
-    where
-      by_behind : (g : IsGiven first_id second_id true words (matches_of app words)) (o : Option Text) → g.behind ≡ o → IsSample (codes "sample" ∷ words) seed rows
-      by_behind g None e = absurd (g.needed refl e)
-      by_behind g (Some text) e = record {
+      let g = taken (codes "sample") sample_options names words found.formed found.passes in
+      let seed_at = named_text (first_of seed_name (matches_of app words)) (λ text. IsNumber text seed)
+      (subst (λ (o : Option Text). IsSomeAnd o (λ text. IsNumber text seed)) (value_is seed_name) is.0) in
+      let rows_at = named_text (first_of rows_name (matches_of app words)) (λ text. IsRowsText text rows)
+      (subst (λ (o : Option Text). IsSomeAnd o (λ text. IsRowsText text rows)) (value_is rows_name) is.1) in
+      record {
         options = words;
-        seed_text = g.value;
-        rows_text = text;
+        seed_text = seed_at.0;
+        rows_text = rows_at.0;
         split = refl;
-        reads = subst (λ (o : Option Text). AreGiven first_id second_id g.value o words) e g.are;
-        seed_is = subst (λ (o : Option Text). IsSomeAnd o (λ text. IsNumber text seed)) (value_is first_id ∙ g.first) is.0;
-        rows_is = subst (λ (o : Option Text). IsSomeAnd o (λ text. IsRowsText text rows)) (value_is second_id ∙ g.second ∙ e) is.1;
+        reads = subst (λ (o : Option Text). AreOptions ((seed_name, Some seed_at.0) ∷ (rows_name, o) ∷ []) words) rows_at.1
+            (subst (λ (o : Option Text). AreOptions ((seed_name, o) ∷ (rows_name, first_of rows_name (matches_of app words)) ∷ []) words) seed_at.1 g.are);
+        seed_is = seed_at.2;
+        rows_is = rows_at.2;
       }
 
   pub sample_read : (o : Option (ℕ × ℕ)) → MatchOption o ((seed rows : ℕ) → FindsSample m seed rows → ⊥) (λ sample. FindsSample m sample.0 sample.1)

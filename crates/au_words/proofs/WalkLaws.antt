@@ -121,7 +121,7 @@ with_option n value rows = used (option_rule n false) (value ∷ []) rows
 pub data Reads (c : List Rule) : List Row → List Text → List Row → Type 0 where
   ends : (rows after : List Row) (words : List Text) → words ≡ [] → after ≡ rows → Reads c rows words after
   takes : (rows after : List Row) (words front rest : List Text) (n value : Text) → IsNamed c n → has_row n rows ≡ false
-      → IsOption (45 ∷ 45 ∷ n) value front → words ≡ front ++ rest → Reads c (with_option n value rows) rest after → Reads c rows words after
+      → IsOption n value front → words ≡ front ++ rest → Reads c (with_option n value rows) rest after → Reads c rows words after
 
 -- the walk stands before a word that nothing waits for, or this option
 abbrev pub at : Held → Waiting → Walk

@@ -1,8 +1,8 @@
 //! The options of `init`.
-ghost use Rattle.std.specs.Prelude.{◌≡◌, ◌∷◌, ◌↔◌, ℕ, List, IfOk, IsTrue, MatchOption, codes, false, option_map};
+ghost use Rattle.std.specs.Prelude.{◌≡◌, ◌∷◌, ◌↔◌, ℕ, List, IfOk, IsTrue, MatchOption, codes, option_map};
 ghost use Rattle.clap.specs.Words.{app_of};
-ghost use Rattle.au_words.specs.descent.Options.{FindsInit, IsLimitOf, two_options};
-ghost use Rattle.au_words.specs.Words.{IsInit, IsPassword};
+ghost use Rattle.au_words.specs.descent.Options.{FindsInit, init_options, options_app};
+ghost use Rattle.au_words.specs.Words.{IsInit, IsLimitOf, IsPassword};
 
 use crate::options::{matches_of, str_words};
 use au_base::limits::{
@@ -28,8 +28,7 @@ pub(crate) fn init_of(alloc: Global, options: &[Text]) -> Result<Option<(Text, u
 
 // The command `init`, as `clap` reads what comes behind its name.
 fn init_command<'a>(alloc: Global) -> Result<Command<'a>, Memory>
-    ensures { IfOk result (λ command. app_of command
-        ≡ two_options (codes "init") (codes "sys-password") (codes "limit") false) }
+    ensures { IfOk result (λ command. app_of command ≡ options_app (codes "init") init_options) }
 {
     let password = Arg::new(alloc, "sys-password")
         .long("sys-password")

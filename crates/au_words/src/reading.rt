@@ -12,8 +12,8 @@ use std::alloc::Global;
 /// The command that the words are.
 ///
 /// It is `run`, `trail` or `check`; `init` and its options `--sys-password TEXT` and perhaps
-/// `--limit N`; or `sample` and its options `--seed N` and `--rows N`. Options come in either order,
-/// as `--name value` or as `--name=value`.
+/// `--limit N`; or `sample` and its options `--seed N` and `--rows N`. Options come in any order, as
+/// `--name value` or as `--name=value`.
 pub fn command_of(alloc: Global, words: &[Text]) -> Result<Option<Command>, Memory>
     ensures { IfOk result (λ found. MatchOption found ((command : AnyCommand) → IsCommand words.now command → ⊥) (λ command. IsCommand words.now command)) }
 {
@@ -35,6 +35,7 @@ pub fn command_of(alloc: Global, words: &[Text]) -> Result<Option<Command>, Memo
 }
 
 // The command that is the one word.
+#[tactic(auto, using(crate::proofs::OneLaws::init_alone, crate::proofs::OneLaws::sample_alone))]
 fn plain_command(word: &str) -> Option<Command>
     ensures { MatchOption result ((command : AnyCommand) → IsCommand (word.now ∷ []) command → ⊥) (λ command. IsCommand (word.now ∷ []) command) }
 {

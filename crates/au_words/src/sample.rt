@@ -1,7 +1,7 @@
 //! The options of `sample`.
-ghost use Rattle.std.specs.Prelude.{◌≡◌, ◌∷◌, ℕ, List, IfOk, MatchOption, codes, true};
+ghost use Rattle.std.specs.Prelude.{◌≡◌, ◌∷◌, ℕ, List, IfOk, MatchOption, codes};
 ghost use Rattle.clap.specs.Words.{app_of};
-ghost use Rattle.au_words.specs.descent.Options.{FindsSample, two_options};
+ghost use Rattle.au_words.specs.descent.Options.{FindsSample, options_app, sample_options};
 ghost use Rattle.au_words.specs.Words.{IsNumber, IsRowsText, IsSample};
 
 use crate::options::{matches_of, str_words};
@@ -26,8 +26,7 @@ pub(crate) fn sample_of(alloc: Global, options: &[Text]) -> Result<Option<(u32, 
 
 // The command `sample`, as `clap` reads what comes behind its name.
 fn sample_command<'a>(alloc: Global) -> Result<Command<'a>, Memory>
-    ensures { IfOk result (λ command. app_of command
-        ≡ two_options (codes "sample") (codes "seed") (codes "rows") true) }
+    ensures { IfOk result (λ command. app_of command ≡ options_app (codes "sample") sample_options) }
 {
     let seed = Arg::new(alloc, "seed").long("seed").required(true);
     let rows = Arg::new(alloc, "rows").long("rows").required(true);

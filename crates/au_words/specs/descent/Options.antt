@@ -1,11 +1,10 @@
 -- The options of a command, as `clap` is asked for them.
-use Rattle.std.specs.Prelude.{◌≡◌, ◌≢◌, ◌⊎◌, ℕ, Bool, true, List, [], ◌∷◌, Option, Some, None, IsSomeAnd, codes}
+use Rattle.std.specs.Prelude.{◌≡◌, ◌≢◌, ◌⊎◌, ℕ, Bool, true, false, List, [], ◌∷◌, Option, Some, None, IsSomeAnd, map}
 use Rattle.std.specs.List.{All}
 use Rattle.clap.specs.Simple.{new_shape}
 use Rattle.clap.specs.Words.{App, Rule, Text, fault_of, first_value, found_of, matches_of, new_rule, rows_of}
 use Rattle.clap.specs.declared.parser.matches.ArgMatches.{ArgMatches}
-use Rattle.au_base.specs.Limits.{JOURNAL_LIMIT_DEFAULT}
-use Rattle.au_words.specs.Words.{IsLimitText, IsNumber, IsOwnWord, IsPassword, IsRowsText}
+use Rattle.au_words.specs.Words.{IsLimitOf, IsNumber, IsOwnWord, IsPassword, IsRowsText, limit_name, password_name, rows_name, seed_name}
 
 -- ---- words
 
@@ -23,17 +22,25 @@ IsFormed word = IsLong word ⊎ IsOwnWord word
 abbrev pub option_of : Text → Bool → Rule
 option_of name required = record (new_rule name) { long = Some name; required = required }
 
--- a command without `--help`, whose own name is none of its words, and which has two options: the
--- first has to be given, and the second where `required` says so
-abbrev pub two_options : Text → Text → Text → Bool → App
-two_options name first second required = record {
+-- a command without `--help`, whose own name is none of its words, and which has these options: each
+-- by its name, and whether it has to be given
+abbrev pub options_app : Text → List (Text × Bool) → App
+options_app name asked = record {
   top = record (new_shape name) {
-    rules = option_of first true ∷ option_of second required ∷ [];
+    rules = map (λ o. option_of o.0 o.1) asked;
     no_binary_name = true;
     disable_help_flag = true;
   };
   subs = [];
 }
+
+-- the options of `init`
+abbrev pub init_options : List (Text × Bool)
+init_options = (password_name, true) ∷ (limit_name, false) ∷ []
+
+-- the options of `sample`
+abbrev pub sample_options : List (Text × Bool)
+sample_options = (seed_name, true) ∷ (rows_name, true) ∷ []
 
 -- what the command finds among the words: nothing, unless each is formed as an option or a value
 -- and the command takes them
@@ -44,19 +51,14 @@ Finds app words (Some found) =
 
 -- ---- values
 
--- the option's text is a limit, or it wasn't given and the limit is the default
-abbrev pub IsLimitOf : Option Text → ℕ → Type 0
-IsLimitOf None limit = limit ≡ JOURNAL_LIMIT_DEFAULT
-IsLimitOf (Some text) limit = IsLimitText text limit
-
 -- what was found for `init` is this password and this limit
 abbrev pub FindsInit : ArgMatches → Text → ℕ → Type 0
 FindsInit found password limit =
-    (first_value (found_of found) (codes "sys-password") ≡ Some password) × IsPassword password
-    × IsLimitOf (first_value (found_of found) (codes "limit")) limit
+    (first_value (found_of found) password_name ≡ Some password) × IsPassword password
+    × IsLimitOf (first_value (found_of found) limit_name) limit
 
 -- what was found for `sample` is this seed and this number of rows
 abbrev pub FindsSample : ArgMatches → ℕ → ℕ → Type 0
 FindsSample found seed rows =
-    IsSomeAnd (first_value (found_of found) (codes "seed")) (λ text. IsNumber text seed)
-    × IsSomeAnd (first_value (found_of found) (codes "rows")) (λ text. IsRowsText text rows)
+    IsSomeAnd (first_value (found_of found) seed_name) (λ text. IsNumber text seed)
+    × IsSomeAnd (first_value (found_of found) rows_name) (λ text. IsRowsText text rows)

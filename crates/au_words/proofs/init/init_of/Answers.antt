@@ -2,7 +2,7 @@ use Rattle.std.proofs.Common.{◌≡◌, ◌∙◌, ap}
 use Rattle.clap.specs.Walk.{texts}
 use Rattle.clap.specs.Words.{app_of}
 use Rattle.au_words.proofs.InitLaws.{app, init_read, no_init}
-use Rattle.au_words.proofs.TwoLaws.{none_found, some_found}
+use Rattle.au_words.proofs.OptionLaws.{none_found, some_found}
 use Rattle.au_words.proofs.init.init_of.Goals as goal
 
 pub returns-in-Some : goal.returns-in-Some

@@ -1,7 +1,7 @@
 use Rattle.std.proofs.Common.{ℕ, Bor, rules, List}
 use Rattle.std.proofs.lemmas.Iterator.{YieldsList-from_slice, cases_from_all}
 use Rattle.au_words.specs.descent.Options.{IsFormed}
-use Rattle.au_words.proofs.TwoLaws.{all_formed}
+use Rattle.au_words.proofs.OptionLaws.{all_formed}
 use Rattle.au_words.proofs.options.are_formed.Goals as goal
 
 pub returns : goal.returns

@@ -2,7 +2,7 @@ use Rattle.std.proofs.Common.{◌≡◌, ◌∙◌, ap}
 use Rattle.clap.specs.Walk.{texts}
 use Rattle.clap.specs.Words.{app_of}
 use Rattle.au_words.proofs.SampleLaws.{app, sample_read, no_sample}
-use Rattle.au_words.proofs.TwoLaws.{none_found, some_found}
+use Rattle.au_words.proofs.OptionLaws.{none_found, some_found}
 use Rattle.au_words.proofs.sample.sample_of.Goals as goal
 
 pub returns-in-Some : goal.returns-in-Some
