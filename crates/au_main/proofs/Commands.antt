@@ -1,23 +1,19 @@
 -- What the words say of the command.
-use Rattle.std.proofs.Common.{◌≡◌, inl, inr, ℕ, List, arith, subst}
+use Rattle.std.proofs.Common.{◌≡◌, ℕ, List, Option, Some, None, arith, subst}
 use Rattle.au_journal.specs.Frames.{IsLimit}
 use Rattle.au_words.specs.declared.command.Command.TheVariants as word
-use Rattle.au_words.specs.Words.{AreOptions, IsInit, LimitAt}
+use Rattle.au_words.specs.Words.{IsInit, IsLimitOf}
 use Rattle.au_main.specs.declared.export.Export.{Export}
 use Rattle.au_main.specs.declared.export.Export.TheVariants as export
 use Rattle.au_main.specs.Exports.{as_command}
 
-limit_at : (words : List (List ℕ)) (limit : ℕ) → LimitAt words limit → IsLimit limit
-limit_at words limit (inl (none, is)) = (omega (arith, is), omega (arith, is))
-limit_at words limit (inr (text, option, is)) = (is.1, is.2)
-
-limit_of : (words : List (List ℕ)) (password : List ℕ) (limit : ℕ) → AreOptions words password limit → IsLimit limit
-limit_of words password limit (inl options) = limit_at options.rest limit options.limited
-limit_of words password limit (inr options) = (options.limit_is.1, options.limit_is.2)
+limit_of : (text : Option (List ℕ)) (limit : ℕ) → IsLimitOf text limit → IsLimit limit
+limit_of None limit is = (omega (arith, is), omega (arith, is))
+limit_of (Some text) limit is = (is.1, is.2)
 
 -- a journal may have the limit that the words name
 pub named_limit : (words : List (List ℕ)) (password : List ℕ) (limit : ℕ) → IsInit words password limit → IsLimit limit
-named_limit words password limit is = limit_of is.options password limit is.reads
+named_limit words password limit is = limit_of is.limit_text limit is.limit_is
 
 -- the one export that is the command
 pub trail_alone : (P : Export → Type 0) → P export.Trail → (what : Export) → word.Trail ≡ as_command what → P what
