@@ -30,7 +30,7 @@ is_replied _ = false
 
 -- the entries by which a client's session ends where its connection ends
 pub data IsEnding (client : ClientNo) : List Entry → Type 0 where
-  -- the client had no session
+  -- nothing was done, since the client had no session
   none : IsEnding client []
   -- its LOGOFF was replied to
   replied : (reading : ℕ) (reply : Reply) → IsEnding client (Stepped client Logoff reading reply ∷ [])

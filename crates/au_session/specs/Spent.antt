@@ -2,9 +2,15 @@
 use Rattle.std.specs.Prelude.{◌≡◌, ◌⊎◌, ◌==◌, ◌^◌, ◌-◌, ℕ, Bool, true, false, [], Option, None, Some, IfSome}
 use Rattle.au_io.specs.Visits.{Visits}
 
+-- the bound is reached
 abbrev pub is_zero : Option ℕ → Bool
 is_zero None = false
 is_zero (Some left) = left == 0
+
+-- the bound once one more was handed out
+abbrev pub one_less : Option ℕ → Option ℕ
+one_less None = None
+one_less (Some left) = Some (left - 1)
 
 -- no connection is left, where the lobby tells it
 abbrev pub NoneLeft : Option Visits → Type 0
@@ -13,7 +19,3 @@ NoneLeft visits = IfSome visits (λ v. v.left ≡ [])
 -- the bound or the last number is reached, the lobby has failed, or it has no connection left
 abbrev pub IsSpent : Option Visits → Option ℕ → ℕ → Bool → Type 0
 IsSpent visits left drawn failed = (is_zero left ≡ true) ⊎ ((drawn ≡ 2 ^ 32 - 1) ⊎ ((failed ≡ true) ⊎ NoneLeft visits))
-
--- none is left, or as many were handed out as a number can count, or as were asked for
-abbrev pub IsEmptied : Option Visits → ℕ → Option ℕ → Type 0
-IsEmptied visits drawn asked = NoneLeft visits ⊎ ((drawn ≡ 2 ^ 32 - 1) ⊎ (asked ≡ Some drawn))

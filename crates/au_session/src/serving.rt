@@ -23,7 +23,9 @@ use std::alloc::Global;
 use std::sync::Wait;
 
 /// Answers the requests of the connection in order, each by one step of the client in a turn of its
-/// own. Then it closes the connection, and ends the client's session.
+/// own. Then it shuts the link and ends the client's session. It returns why it ended, and waits for
+/// the peer and for its turns. `Memory` comes where a request or a response found none. A request is
+/// read again from its start at each piece of it that comes.
 pub fn serve_session<R: Wait, K: Link, D: Disk, C: Clock>(
     rt: &R,
     alloc: Global,
