@@ -2,7 +2,7 @@
 use Rattle.std.proofs.Common.{◌≡◌, ℕ, List, [], ◌++◌, take, drop, sym, ◌∙◌, ap, refl, subst}
 use Rattle.std.specs.Prelude.{Option}
 use Rattle.au_io.specs.Stream.{Grows}
-use Rattle.au_io.proofs.Streams.{grows_none, grows_on}
+use Rattle.au_io.specs.StreamLaws.{grows_none, grows_on}
 use Rattle.std.proofs.lemmas.List.{take-append-drop, append_assoc, append-nil}
 
 -- all but the rest was given

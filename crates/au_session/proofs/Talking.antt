@@ -5,10 +5,10 @@ use Rattle.std.specs.Io.KnownBytes.{Consumes}
 use Rattle.std.proofs.KnownBytes.{Consumes-trans, Consumes-nil}
 use Rattle.au_io.specs.Stream.{Grows}
 use Rattle.au_io.specs.Visits.{Told}
-use Rattle.au_io.proofs.Streams.{grows_none, grows_on}
+use Rattle.au_io.specs.StreamLaws.{grows_none, grows_on}
 use Rattle.au_turn.specs.declared.pass.Pass.{Pass}
 use Rattle.au_turn.specs.Pass.{WentOnBy}
-use Rattle.au_turn.proofs.PassLaws.{by_none, by_on}
+use Rattle.au_turn.specs.PassLaws.{by_none, by_on}
 use Rattle.au_http.specs.declared.requests.Need.TheVariants.{Got}
 use Rattle.au_http.specs.Pipelines.{KeepRequests}
 use Rattle.au_http.specs.Requests.{Needs}

@@ -1,4 +1,4 @@
--- Laws of lists of entries: which begin which, and which stand in which. Callers of a turn cite them too.
+-- Lists of entries: which begin which, and which stand in which.
 use Rattle.std.proofs.Common.{◌≡◌, ℕ, zero, suc, ◌≤◌, ◌<◌, ◌≢◌, Bool, true, false, cond, List, [], ◌∷◌, ◌++◌, length, set, drop, refl, ap, sym, ◌∙◌, subst, ⊎_elim, arith, append_assoc}
 use Rattle.std.specs.Prelude.{nat_le, All}
 use Rattle.std.proofs.lemmas.List.Elements.{All-cons}
@@ -9,6 +9,7 @@ use mathlib.Core.Option.{some, some-ne-none}
 use lib.ListN.{get_elem?}
 use Rattle.atomic_table.proofs.Lists.{at_set}
 use Rattle.au_turn.specs.Entries.{StandsIn, AllBegin, longer}
+use Rattle.au_turn.specs.EntryLaws.{stands_nothing, stands_all, stands_both, append_nothing}
 use Rattle.au_turn.specs.Entries.StandsIn.{stands_none, stands_later, stands_here}
 
 module _ {A : Type 0} where
@@ -34,27 +35,6 @@ module _ {A : Type 0} where
       let heads : x ≡ y = cc (p.1, q.1) in
       let rest = prefix_shorter xs ys zs (p.0, cc (p.1)) (q.0, cc (q.1)) (omega arith) in
       (rest.0, cc (heads, rest.1))
-
-  -- no entries stand in any list
-  pub stands_nothing : (ys : List A) → StandsIn [] ys
-  stands_nothing [] = stands_none
-  stands_nothing (y ∷ ys) = stands_later y [] ys (stands_nothing ys)
-
-  -- a list stands in itself
-  pub stands_all : (ys : List A) → StandsIn ys ys
-  stands_all [] = stands_none
-  stands_all (y ∷ ys) = stands_here y ys ys (stands_all ys)
-
-  -- what stands in two parts stands in both together
-  pub stands_both : {xs ys : List A} (zs ws : List A) → StandsIn xs ys → StandsIn zs ws → StandsIn (xs ++ zs) (ys ++ ws)
-  stands_both zs ws stands_none t = t
-  stands_both zs ws (stands_later x xs ys s) t = stands_later x (xs ++ zs) (ys ++ ws) (stands_both zs ws s t)
-  stands_both zs ws (stands_here x xs ys s) t = stands_here x (xs ++ zs) (ys ++ ws) (stands_both zs ws s t)
-
-  -- nothing is added
-  pub append_nothing : (xs : List A) → xs ++ [] ≡ xs
-  append_nothing [] = refl
-  append_nothing (x ∷ xs) = ap (λ ys. x ∷ ys) (append_nothing xs)
 
   -- what stands in a list stands in each list that it begins
   pub stands_longer : (xs ys zs : List A) → StandsIn xs ys → IsPrefix ys zs → StandsIn xs zs

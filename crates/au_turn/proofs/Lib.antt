@@ -1,4 +1,3 @@
 pub mod EntriesLemmas
 pub mod RuleLemmas
 pub mod PassLemmas
-pub mod PassLaws

@@ -10,7 +10,8 @@ use Rattle.au_turn.specs.declared.view.View.{View}
 use Rattle.au_turn.specs.Entries.{StandsIn, longer, AllBegin}
 use Rattle.au_turn.specs.View.{newcomer, holding, announcing, after, joined, meeting}
 use Rattle.au_turn.specs.Pass.{IsPass, slots_of}
-use Rattle.au_turn.proofs.EntriesLemmas.{stands_nothing, stands_all, stands_both, stands_longer}
+use Rattle.au_turn.proofs.EntriesLemmas.{stands_longer}
+use Rattle.au_turn.specs.EntryLaws.{stands_nothing, stands_all, stands_both}
 
 -- a view, and the slots that are out with it
 abbrev pub Mind : Type 0 → Type 0 → Type 0

@@ -16,7 +16,8 @@ use Rattle.au_turn.specs.declared.view.View.{View}
 use Rattle.au_turn.specs.Entries.{StandsIn}
 use Rattle.au_turn.specs.View.{turns_of, newcomer, gone, holding, announcing, after, joined, meeting, emptying}
 use Rattle.au_turn.specs.Rule.{free_after, held_after, IsHeldWord, BecomesHeld, BecomesFree, IsLegal, Fits, OneHistory, Counted, Kept, Taken, Announced, Released, Met, Emptied}
-use Rattle.au_turn.proofs.EntriesLemmas.{prefix_self, prefix_more, prefix_trans, stands_nothing, stands_all, stands_both, stands_longer, all_begin, rest_of, longer_fits, in_range, all_set}
+use Rattle.au_turn.proofs.EntriesLemmas.{prefix_self, prefix_more, prefix_trans, stands_longer, all_begin, rest_of, longer_fits, in_range, all_set}
+use Rattle.au_turn.specs.EntryLaws.{stands_nothing, stands_all, stands_both}
 
 -- no test is both true and false
 not_both : {P : Type 0} → (b : Bool) → b ≡ true → b ≡ false → P

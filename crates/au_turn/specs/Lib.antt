@@ -2,3 +2,5 @@ pub mod Entries
 pub mod View
 pub mod Rule
 pub mod Pass
+pub mod EntryLaws
+pub mod PassLaws

@@ -1,6 +1,6 @@
 use Rattle.std.proofs.Common.{[], ◌∷◌, ◌++◌, refl, List, subst, sym}
 use Rattle.au_turn.specs.Pass.{WentOnBy, seen}
-use Rattle.au_turn.proofs.PassLaws.{by_once}
+use Rattle.au_turn.specs.PassLaws.{by_once}
 use Rattle.au_step.specs.State.{State}
 use Rattle.au_step.specs.Sessions.{IsOff}
 use Rattle.au_store.specs.declared.entry.Entry.{Entry}

@@ -1,6 +1,6 @@
 use Rattle.std.proofs.Common.{ℕ, ◌++◌, subst, sym}
 use Rattle.au_turn.specs.Pass.{seen}
-use Rattle.au_turn.proofs.PassLaws.{by_once}
+use Rattle.au_turn.specs.PassLaws.{by_once}
 use Rattle.au_store.specs.History.{Tells}
 use Rattle.au_session.proofs.turns.ask_once.Goals as goal
 

@@ -1,5 +1,5 @@
 use Rattle.std.proofs.Common.{[], ◌∷◌, ◌++◌}
-use Rattle.au_turn.proofs.PassLaws.{by_on}
+use Rattle.au_turn.specs.PassLaws.{by_on}
 use Rattle.au_store.specs.declared.entry.Entry.TheVariants.{Abandoned}
 use Rattle.au_session.specs.Entries.IsEnding.{abandoned}
 use Rattle.au_session.proofs.turns.end_session.Goals as goal

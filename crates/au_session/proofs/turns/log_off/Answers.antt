@@ -1,7 +1,7 @@
 use Rattle.std.proofs.Common.{◌∙◌, ℕ, [], ◌++◌, List, refl, sym, subst, append-nil}
 use Rattle.au_base.specs.declared.ask.Ask.TheVariants.{Logoff}
 use Rattle.au_turn.specs.Pass.{seen}
-use Rattle.au_turn.proofs.PassLaws.{by_once}
+use Rattle.au_turn.specs.PassLaws.{by_once}
 use Rattle.au_store.specs.declared.entry.Entry.{Entry}
 use Rattle.au_store.specs.History.{StandsFor, Tells}
 use Rattle.au_session.specs.Entries.{IsEnding}

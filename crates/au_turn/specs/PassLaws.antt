@@ -6,7 +6,7 @@ use Rattle.au_turn.specs.declared.pass.Pass.{Pass}
 use Rattle.au_turn.specs.Entries.{StandsIn}
 use Rattle.au_turn.specs.Entries.StandsIn.{stands_none}
 use Rattle.au_turn.specs.Pass.{IsPassOf, seen, mine, GrewBy, WentOnBy, WentOn}
-use Rattle.au_turn.proofs.EntriesLemmas.{stands_nothing, stands_all, stands_both, append_nothing}
+use Rattle.au_turn.specs.EntryLaws.{stands_nothing, stands_all, stands_both, append_nothing}
 
 module _ {T E : Type 0} where
   -- what a pass made stands in what it has seen

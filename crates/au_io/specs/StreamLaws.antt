@@ -1,16 +1,13 @@
--- Bytes that grow call by call, for the proofs of the crates above.
+-- Laws of bytes that grow call by call, for callers of links.
 use Rattle.std.proofs.Common.{◌≡◌, ℕ, List, [], ◌++◌, Some, None, refl, sym, ap, ◌∙◌, append_assoc, append-nil}
 use Rattle.std.specs.Prelude.{Option}
-use Rattle.std.specs.Io.KnownBytes.{Appends, append_known}
+use Rattle.std.specs.Io.KnownBytes.{append_known}
 use Rattle.au_io.specs.Stream.{Grows}
 
 -- no bytes more
 pub grows_none : (old : Option (List ℕ)) → Grows old old []
 grows_none None = refl
 grows_none (Some bytes) = ap (λ (l : List ℕ). Some l) (sym (append-nil bytes))
-
-pub grows_same : (old new : Option (List ℕ)) → new ≡ old → Grows old new []
-grows_same old new same = same ∙ grows_none old
 
 -- some bytes, and then some
 append_twice : (old : Option (List ℕ)) (first second : List ℕ) → append_known (append_known old first) second ≡ append_known old (first ++ second)
@@ -19,9 +16,3 @@ append_twice (Some bytes) first second = ap (λ (l : List ℕ). Some l) (append_
 
 pub grows_on : (old mid new : Option (List ℕ)) (first second : List ℕ) → Grows old mid first → Grows mid new second → Grows old new (first ++ second)
 grows_on old mid new first second before after = after ∙ ap (λ (o : Option (List ℕ)). append_known o second) before ∙ append_twice old first second
-
--- in std's words, which say nothing of what isn't told
-pub appends_grown : (old new : Option (List ℕ)) (bytes : List ℕ) → Grows old new bytes → Appends old new bytes
-appends_grown None new bytes grown = tt
-appends_grown (Some known) None bytes grown = absurd (cc grown)
-appends_grown (Some known) (Some now) bytes grown = let is : now ≡ known ++ bytes = cc grown in is
