@@ -11,7 +11,8 @@ use Rattle.au_base.specs.declared.reply.Reply.{Reply}
 use Rattle.au_base.specs.declared.reply.Said.TheVariants.{Replied, Disk, Full, Memory}
 use Rattle.au_io.specs.Moments.{CountsNow, OnlyNow}
 use Rattle.au_io.specs.Time.{Ticking, Reads, after_reading}
-use Rattle.au_journal.specs.declared.doubt.Doubt.TheVariants.{Settled}
+use Rattle.au_journal.specs.declared.doubt.Doubt.{Doubt}
+use Rattle.au_journal.specs.declared.doubt.Doubt.TheVariants.{Settled, Body, Gate, Edge, Other, Head}
 use Rattle.au_step.specs.State.{State}
 use Rattle.au_script.specs.declared.lines.ScriptLine.{ScriptLine}
 use Rattle.au_script.specs.declared.lines.ScriptLine.TheVariants as line
@@ -19,8 +20,8 @@ use Rattle.au_script.specs.Labels.{Label, number_of, used_with}
 use Rattle.au_script.specs.Lines.{Says}
 use Rattle.au_journal.specs.declared.seat.Seat.{Seat}
 use Rattle.au_store.specs.declared.entry.Entry.{Entry}
-use Rattle.au_store.specs.declared.entry.Entry.TheVariants.{Stepped, Faulted, Filled}
-use Rattle.au_store.specs.History.{GoesOver, IsFaulted, IsStepped, IsUnchanged, Reached, StandsFor, first_of, reached_of}
+use Rattle.au_store.specs.declared.entry.Entry.TheVariants.{Opened, Stepped, Faulted, Filled}
+use Rattle.au_store.specs.History.{GoesOver, IsFaulted, IsStepped, IsUnchanged, MendsDoubts, Reached, StandsFor, first_of, is_doubtful, reached_of}
 use Rattle.au_store.specs.Steps.{event_at}
 use Rattle.au_store.specs.Stored.{Stored, IsKeptOn}
 use Rattle.au_main.specs.Answers.{AllTell, Answer, AnswerTells, IsLegalBy, LeavesDoubt, Made, Unmended, ReadAll, UnmendedInDoubt, asks_after, asks_of, labels_after, line_of, readings_of, said_of, steps_of, texts}
@@ -87,8 +88,12 @@ module _ (faults : ℕ) (p q : Reached) where
         refl,
       )
 
-  one_fault : (client : ClientNo) (count : ℕ) → GoesOver p (Faulted client count ∷ []) q → counted faults q ≡ counted faults p
-  one_fault client count over =
+  one_fault : (client : ClientNo) (ask : Ask) (reading count : ℕ) → GoesOver p (Faulted client ask (Some reading) count ∷ []) q → counted faults q ≡ counted faults p
+  one_fault client ask reading count over =
+      let fault = subst (λ (x : Reached). IsFaulted p count x) (sym over.2) over.1.1 in same_place faults p q fault.state fault.used fault.limit
+
+  one_unmended : (client : ClientNo) (ask : Ask) (count : ℕ) → GoesOver p (Faulted client ask None count ∷ []) q → counted faults q ≡ counted faults p
+  one_unmended client ask count over =
       let fault = subst (λ (x : Reached). IsFaulted p count x) (sym over.2) over.1 in same_place faults p q fault.state fault.used fault.limit
 
   one_filled : (client : ClientNo) (ask : Ask) (reading needed : ℕ) → GoesOver p (Filled client ask reading needed ∷ []) q → counted faults q ≡ counted faults p
@@ -98,14 +103,32 @@ module _ (faults : ℕ) (p q : Reached) where
   -- what an answer tells: a reply is one more step, and anything else is none
   steps_go : (a : Answer) (made : List Entry) → AnswerTells a made → GoesOver p made q → GoesOver (counted faults p) (steps_of a) (counted faults q)
   steps_go (Made client ask reading (Replied reply)) made tells over = one_step client ask reading reply (subst (λ (l : List Entry). GoesOver p l q) tells over)
-  steps_go (Made client ask reading Disk) made tells over = one_fault client tells.0 (subst (λ (l : List Entry). GoesOver p l q) tells.1 over)
+  steps_go (Made client ask reading Disk) made tells over = one_fault client ask reading tells.0 (subst (λ (l : List Entry). GoesOver p l q) tells.1 over)
   steps_go (Made client ask reading (Full needed limit)) made tells over = one_filled client ask reading needed (subst (λ (l : List Entry). GoesOver p l q) tells over)
   steps_go (Made client ask reading Memory) made tells over = ap (counted faults) (subst (λ (l : List Entry). GoesOver p l q) tells over)
-  steps_go (Unmended client ask) made tells over = one_fault client tells.0 (subst (λ (l : List Entry). GoesOver p l q) tells.1 over)
+  steps_go (Unmended client ask) made tells over = one_unmended client ask tells.0 (subst (λ (l : List Entry). GoesOver p l q) tells.1 over)
+
+-- a store in doubt says so in its first entry, which is no mend that failed
+doubtful_so : (doubt : Doubt) → doubt ≢ Settled → is_doubtful doubt ≡ true
+doubtful_so Settled unsettled = absurd (unsettled refl)
+doubtful_so Body unsettled = refl
+doubtful_so Gate unsettled = refl
+doubtful_so Edge unsettled = refl
+doubtful_so Other unsettled = refl
+doubtful_so Head unsettled = refl
+
+first_mends : (first : Entry) → ((client : ClientNo) (ask : Ask) (count : ℕ) → Faulted client ask None count ≢ first) → MendsDoubts (first ∷ [])
+first_mends first other [] rest client ask count split = absurd (other client ask count (let same : Faulted client ask None count ≡ first = cc in same))
+first_mends first other (b ∷ before) rest client ask count split = absurd (let sizes = ap length split in omega (arith, sizes, length-append before (Faulted client ask None count ∷ rest)))
 
 -- any store stands for its first entry, so what it goes on by leads from where it was
 first_stands : {D C : Type 0} (means : Means D C) (s : Stored D C) → StandsFor means.told means.meaning means.faults s (first_of means.faults s)
-first_stands means s = record { leads = refl; in_doubt = λ _. inr tt }
+first_stands means s = record {
+  leads = refl;
+  mends = first_mends (Opened s.state s.seat.used s.seat.limit (means.faults s.disk) (is_doubtful s.seat.doubt))
+      (λ client ask count is. let no : Faulted client ask None count ≡ Opened s.state s.seat.used s.seat.limit (means.faults s.disk) (is_doubtful s.seat.doubt) = is in cc);
+  in_doubt = λ unsettled. inr (doubtful_so s.seat.doubt unsettled, tt);
+}
 
 answer_goes : {D C : Type 0} (means : Means D C) (faults : ℕ) (s t : Stored D C) (a : Answer)
     → ((entries : List Entry) → StandsFor means.told means.meaning means.faults s entries → (made : List Entry) × AnswerTells a made × StandsFor means.told means.meaning means.faults t (entries ++ made))

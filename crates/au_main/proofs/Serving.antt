@@ -1,5 +1,5 @@
 -- One line of a script, and one step.
-use Rattle.std.proofs.Common.{◌≡◌, ◌≢◌, ◌⊎◌, inl, inr, ℕ, List, [], ◌∷◌, refl, subst}
+use Rattle.std.proofs.Common.{◌≡◌, ◌≢◌, inl, inr, ℕ, List, [], ◌∷◌, refl, subst}
 use Rattle.std.specs.Prelude.{Option, Some, None, Result, Ok, Err, OnOk}
 use Rattle.std.proofs.KnownBytes.{Appends-nil}
 use Rattle.au_base.specs.declared.ask.Ask.{Ask}
@@ -16,12 +16,11 @@ use Rattle.au_step.specs.Step.{Event}
 use Rattle.au_script.specs.declared.lines.ScriptLine.TheVariants as line
 use Rattle.au_script.specs.Labels.{Label, number_of, used_with}
 use Rattle.au_script.specs.Lines.{Says}
-use Rattle.au_store.specs.declared.entry.Entry.{Entry}
-use Rattle.au_store.specs.History.{HistoryGoesOn, Tells}
-use Rattle.au_store.specs.Steps.{IsTried, IsUnmended, StepLeaves, StepsBy, event_at}
+use Rattle.au_store.specs.History.{HistoryGoesOn}
+use Rattle.au_store.specs.Steps.{StepLeaves, StepsBy, event_at}
 use Rattle.au_store.specs.Doubts.{IsStoodOn}
 use Rattle.au_store.specs.Stored.{Stored, IsKeptOn}
-use Rattle.au_main.specs.Answers.{AnswerTells, Made, Unmended, ReadAll, line_of, said_of}
+use Rattle.au_main.specs.Answers.{Made, Unmended, ReadAll, line_of, said_of}
 use Rattle.au_main.specs.Means.{Means}
 use Rattle.au_main.specs.descent.Serving.{Answers, AnswersBy, Served, ServedInPart, Told, ToldInPart}
 
@@ -33,49 +32,44 @@ read_none : (t : Option Ticking) → ReadAll t t []
 read_none None = tt
 read_none (Some t) = refl
 
--- an entry of a fault, where that was said
-entries_faulted : (client : ClientNo) (ask : Ask) (reading : ℕ) (said : Said) (made : List Entry) → said ≡ Disk → Tells client ask reading said made → AnswerTells (Unmended client ask) made
-entries_faulted client ask reading said made is tells = subst (λ (a : Said). Tells client ask reading a made) is tells
-
 state_stays : (m n : State) (event : Event) (said : Said) → said ≡ Disk → StepsBy m event said n → n ≡ m
 state_stays m n event said is step = subst (λ (a : Said). StepsBy m event a n) is step
 
 -- what a step of the store did is an answer to the ask
 pub answers_by : {D C : Type 0} (means : Means D C) (s t : Stored D C) (client : ClientNo) (ask : Ask) (said : Said)
     → StepsBy s.state (event_at client ask t.reading) said t.state
-    → HistoryGoesOn means.told means.meaning means.faults client ask s t said
-    → IsTried means.told means.meaning means.ticking (event_at client ask t.reading) s t said ⊎ IsUnmended means.told means.meaning s t said
+    → HistoryGoesOn means.told means.meaning means.faults means.ticking client ask s t said
     → (said ≢ Disk → t.seat.doubt ≡ Settled)
     → (means.told → said ≢ Disk → IsKeptOn t.state.kept (means.meaning t.disk) t.seat)
     → (means.told → (doubted : Kept) → IsStoodOn s.state.kept doubted (means.meaning s.disk) s.seat
     → LeavesSince (StepLeaves s.state (event_at client ask t.reading) doubted) (means.meaning s.disk) (means.meaning t.disk))
     → Passes (means.meaning s.disk) (means.meaning t.disk)
     → AnswersBy means s t client.0 ask said
-answers_by means s t client ask said step history (inl tried) settled kept leaves time = (
+answers_by means s t client ask said step (inl tries) settled kept leaves time = (
   Made client ask t.reading said,
   record {
     asks = refl;
-    read = read_one (means.ticking s.clock) (means.ticking t.clock) t.reading tried.read;
+    read = read_one (means.ticking s.clock) (means.ticking t.clock) t.reading tries.0.read;
     state = step;
-    history = history;
+    history = tries.1;
     doubt = settled;
-    on_disk = λ told. record { settled = settled; kept = kept told; wrote = λ is. let some = tried.wrote is in (some.0, some.1, some.2); doubts = tried.doubts told; any_moment = leaves told };
+    on_disk = λ told. record { settled = settled; kept = kept told; wrote = λ is. let some = tries.0.wrote is in (some.0, some.1, some.2); doubts = tries.0.doubts told; any_moment = leaves told };
     time = time;
   },
   refl,
 )
-answers_by means s t client ask said step history (inr unmended) settled kept leaves time = (
+answers_by means s t client ask said step (inr tries) settled kept leaves time = (
   Unmended client ask,
   record {
     asks = refl;
-    read = rw unmended.clock (read_none (means.ticking s.clock));
-    state = state_stays s.state t.state (event_at client ask t.reading) said unmended.failed step;
-    history = λ entries stands. let on = history entries stands in (on.0, entries_faulted client ask t.reading said on.0 unmended.failed on.1, on.2);
-    doubt = (unmended.stood, unmended.seat);
-    on_disk = λ told. record { doubted = unmended.doubted told; any_moment = unmended.any_moment told };
+    read = rw tries.0.clock (read_none (means.ticking s.clock));
+    state = state_stays s.state t.state (event_at client ask t.reading) said tries.0.failed step;
+    history = tries.1;
+    doubt = (tries.0.stood, tries.0.seat);
+    on_disk = λ told. record { doubted = tries.0.doubted told; any_moment = tries.0.any_moment told };
     time = time;
   },
-  unmended.failed,
+  tries.0.failed,
 )
 
 pub Served-skip : {D C : Type 0} (means : Means D C) (used : List Label) (s : Stored D C) (bytes : List ℕ) (g : Option (List ℕ)) → Says bytes line.Skip → Served means used used s s bytes g g

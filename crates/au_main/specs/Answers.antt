@@ -10,8 +10,8 @@ use Rattle.au_script.specs.declared.lines.ScriptLine.{ScriptLine}
 use Rattle.au_script.specs.declared.lines.ScriptLine.TheVariants as line
 use Rattle.au_script.specs.Labels.{Label, number_of, used_with}
 use Rattle.au_store.specs.declared.entry.Entry.{Entry}
-use Rattle.au_store.specs.declared.entry.Entry.TheVariants.{Stepped, Faulted}
-use Rattle.au_store.specs.History.{Leads, StandsFor, Tells, first_of}
+use Rattle.au_store.specs.declared.entry.Entry.TheVariants.{Stepped}
+use Rattle.au_store.specs.History.{Fails, Leads, StandsFor, TriedTells, first_of}
 use Rattle.au_store.specs.Stored.{Stored}
 use Rattle.au_main.specs.Lines.{with_end}
 use Rattle.au_main.specs.Means.{Means}
@@ -78,8 +78,8 @@ ReadAll (Some t) new (reading ∷ readings) = (reading ≡ t.next) × ReadAll (S
 
 -- the entries that the answer leaves in the store's history
 abbrev pub AnswerTells : Answer → List Entry → Type 0
-AnswerTells (Made client ask reading said) made = Tells client ask reading said made
-AnswerTells (Unmended client ask) made = (count : ℕ) × (made ≡ Faulted client count ∷ [])
+AnswerTells (Made client ask reading said) made = TriedTells client ask reading said made
+AnswerTells (Unmended client ask) made = Fails client ask None made
 
 -- the answers, one after another, leave these entries
 abbrev pub AllTell : List Answer → List Entry → Type 0

@@ -1,5 +1,5 @@
 -- That a list of entries leads to one place.
-use Rattle.std.proofs.Common.{◌≡◌, ℕ, List, [], ◌∷◌, Option, sym, ◌∙◌, ap, subst}
+use Rattle.std.proofs.Common.{◌≡◌, ℕ, List, [], ◌∷◌, Option, Some, None, sym, ◌∙◌, ap, subst}
 use Rattle.au_base.specs.declared.ask.Ask.{Ask}
 use Rattle.au_base.specs.declared.numbers.ClientNo.{ClientNo}
 use Rattle.au_base.specs.declared.reply.Reply.{Reply}
@@ -48,10 +48,12 @@ module _ (logged : OneLogged) (step : OneStep) where
       (a.limit ∙ sym b.limit) (a.faults ∙ sym b.faults)
 
   pub one_entry : (p q r : Reached) (entry : Entry) → GoesBy p entry q → GoesBy p entry r → q ≡ r
-  one_entry p q r (Opened m used limit faults) a b = absurd a
+  one_entry p q r (Opened m used limit faults doubtful) a b = absurd a
   one_entry p q r (Stepped client ask reading reply) a b = one_step p q r (event_at client ask reading) reply a b
   one_entry p q r (Abandoned client) a b = one_place q r (a.state ∙ sym b.state) (a.used ∙ sym b.used) (a.limit ∙ sym b.limit) (a.faults ∙ sym b.faults)
-  one_entry p q r (Faulted client count) a b = one_place q r (a.state ∙ sym b.state) (a.used ∙ sym b.used) (a.limit ∙ sym b.limit) (a.faults ∙ sym b.faults)
+  one_entry p q r (Faulted client ask (Some reading) count) a b =
+      one_place q r (a.1.state ∙ sym b.1.state) (a.1.used ∙ sym b.1.used) (a.1.limit ∙ sym b.1.limit) (a.1.faults ∙ sym b.1.faults)
+  one_entry p q r (Faulted client ask None count) a b = one_place q r (a.state ∙ sym b.state) (a.used ∙ sym b.used) (a.limit ∙ sym b.limit) (a.faults ∙ sym b.faults)
   one_entry p q r (Filled client ask reading needed) a b =
       one_place q r (a.1.state ∙ sym b.1.state) (a.1.used ∙ sym b.1.used) (a.1.limit ∙ sym b.1.limit) (a.1.faults ∙ sym b.1.faults)
 
@@ -62,8 +64,8 @@ module _ (logged : OneLogged) (step : OneStep) where
 
   pub one_end_of : (entries : List Entry) (p q : Reached) → Leads entries p → Leads entries q → p ≡ q
   one_end_of [] p q a b = absurd a
-  one_end_of (Opened m used limit faults ∷ entries) p q a b = one_over entries (at m used limit faults) p q a b
+  one_end_of (Opened m used limit faults doubtful ∷ entries) p q a b = one_over entries (at m used limit faults) p q a b
   one_end_of (Stepped client ask reading reply ∷ entries) p q a b = absurd a
   one_end_of (Abandoned client ∷ entries) p q a b = absurd a
-  one_end_of (Faulted client count ∷ entries) p q a b = absurd a
+  one_end_of (Faulted client ask reading count ∷ entries) p q a b = absurd a
   one_end_of (Filled client ask reading needed ∷ entries) p q a b = absurd a

@@ -1,4 +1,5 @@
 pub mod Begun
+pub mod Doubted
 pub mod EventFrames
 pub mod Exclusive
 pub mod Frames

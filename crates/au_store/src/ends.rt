@@ -1,5 +1,6 @@
 //! What is asked of a store between two steps, and its end.
 ghost use Rattle.std.specs.Prelude.{◌≡◌, ◌++◌, ◌∷◌, [], List, is_some};
+ghost use Rattle.au_io.specs.Moments.{Leaves};
 ghost use Rattle.au_step.specs.Abandoning.{abandoned};
 ghost use Rattle.au_step.specs.Step.{session_of};
 
@@ -11,7 +12,7 @@ impl<D: Disk, C: Clock> Store<D, C> {
     ghost use Rattle.au_store.specs.declared.entry.Entry.{Entry};
     ghost use Rattle.au_store.specs.declared.entry.Entry.TheVariants.{Abandoned};
     ghost use Rattle.au_store.specs.Doubts.{IsAtRest};
-    ghost use Rattle.au_store.specs.History.{StandsFor};
+    ghost use Rattle.au_store.specs.History.{BeginsInDoubt, ListLeaves, StandsFor};
 
     /// The last reading that the clock gave.
     pub fn reading(&self) -> u64
@@ -38,9 +39,12 @@ impl<D: Disk, C: Clock> Store<D, C> {
     }
 
     /// What a crash may leave between two calls: what is kept, or, where a step is in doubt, what is
-    /// kept after the event of that step, in the state it came from. It does nothing.
+    /// kept after the event of that step, in the state it came from. A list for which the store stands
+    /// names that step, unless it begins in doubt. It does nothing.
     pub fn at_rest(&self)
-        ensures { D.told → IsAtRest self.now.state (D.meaning self.now.disk) self.now.seat }
+        ensures rests { D.told → IsAtRest self.now.state (D.meaning self.now.disk) self.now.seat }
+        ensures list { D.told → (entries : List Entry) → StandsFor D.told D.meaning D.faults self.now entries → (BeginsInDoubt entries → ⊥)
+            → Leaves (ListLeaves entries self.now.state.kept) (D.meaning self.now.disk) }
     {
         let _ = &self.reading;
     }

@@ -25,12 +25,13 @@ impl Model for Whole {
 #[derive(Drop)]
 pub enum Entry {
     /// A store was opened in this state, with this used length and limit of its journal, on a disk
-    /// that had failed so often.
+    /// that had failed so often. Whether a step was in doubt then.
     Opened {
         state: Whole,
         used: u64,
         limit: u32,
         faults: u64,
+        doubtful: bool,
     },
     /// A client's ask was given a reply at this reading of the clock.
     Stepped {
@@ -41,9 +42,12 @@ pub enum Entry {
     },
     /// A client's session was ended.
     Abandoned(ClientNo),
-    /// The disk failed at a client's ask, and has failed so often then.
+    /// The disk failed at a client's ask, and has failed so often then. The step is in doubt since, where
+    /// it read the clock; where it couldn't mend an earlier step's doubt there is no reading.
     Faulted {
         client: ClientNo,
+        ask: Ask,
+        reading: Option<u64>,
         count: u64,
     },
     /// A client's ask at this reading needed so many bytes, over the limit.

@@ -11,7 +11,7 @@ ghost use Rattle.au_store.specs.declared.entry.Entry.{Entry};
 ghost use Rattle.au_store.specs.declared.open_fault.OpenFault.{OpenFault};
 ghost use Rattle.au_store.specs.declared.open_fault.OpenFault.TheVariants as fault;
 ghost use Rattle.au_store.specs.Doubts.{EventWrites};
-ghost use Rattle.au_store.specs.History.{GoesBy, Leads, Reached};
+ghost use Rattle.au_store.specs.History.{BeginsInDoubt, GoesBy, HasToWrite, Leads, LeavesInDoubt, Reached};
 ghost use Rattle.au_store.specs.Opened.{IsBare};
 ghost use Rattle.au_store.specs.Recovery.{ReadsAs, RecoversTo};
 ghost use Rattle.au_store.specs.Starting.{IsOfBytes, IsOpened, OpenSays};
@@ -69,6 +69,16 @@ pub fn one_end()
     ensures entry { (p q r : Reached) (entry : Entry) → GoesBy p entry q → GoesBy p entry r → q ≡ r }
     ensures list { (entries : List Entry) (p q : Reached) → Leads entries p → Leads entries q → p ≡ q }
     ensures frame { (m n k : State) (event : Event) (one other : Option Frame) → EventWrites m event n one → EventWrites m event k other → one ≡ other }
+{
+    one_result();
+}
+
+/// A list leaves one step in doubt at most: one of its own, which had a frame to write, or the one with
+/// which it begins.
+pub fn one_doubt()
+    ensures one { (entries : List Entry) (p q : Reached) (one other : Event) → LeavesInDoubt entries p one → LeavesInDoubt entries q other → (p ≡ q) × (one ≡ other) }
+    ensures begun { (entries : List Entry) (place : Reached) (event : Event) → LeavesInDoubt entries place event → BeginsInDoubt entries → ⊥ }
+    ensures wrote { (entries : List Entry) (p q : Reached) (event : Event) → Leads entries q → LeavesInDoubt entries p event → HasToWrite p event }
 {
     one_result();
 }

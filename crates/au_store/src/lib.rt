@@ -22,7 +22,7 @@ mod writing;
 pub use created::Created;
 pub use deed::Deed;
 pub use entry::{Entry, Whole};
-pub use laws::{never_damaged, one_cause, one_end, one_recovery, reopened};
+pub use laws::{never_damaged, one_cause, one_doubt, one_end, one_recovery, reopened};
 pub use look_fault::LookFault;
 pub use open_fault::OpenFault;
 pub use store::Store;

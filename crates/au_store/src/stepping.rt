@@ -27,7 +27,7 @@ use std::sync::ledger::Ledger;
 impl<D: Disk, C: Clock> Store<D, C> {
     ghost use Rattle.au_store.specs.History.{HistoryGoesOn};
     ghost use Rattle.au_store.specs.Recovery.{RecoversToEither};
-    ghost use Rattle.au_store.specs.Steps.{Exceeds, IsLeftOut, IsTried, IsUnmended, StepCause, StepCosts, StepLeaves, StepMoves, StepsBy, event_at};
+    ghost use Rattle.au_store.specs.Steps.{Exceeds, IsLeftOut, StepCause, StepCosts, StepLeaves, StepMoves, StepsBy, event_at};
     ghost use Rattle.au_store.specs.descent.Making.{IsFullFor, IsMoved, IsReady, IsRoomFor, MakesBy, WritesSome, WritesTo, cost_of_written, written_in};
     ghost use Rattle.au_store.specs.Doubts.{IsLeftBy, IsStoodOn};
     ghost use Rattle.au_store.specs.Stored.{IsKeptOn, reserved_of};
@@ -52,8 +52,7 @@ impl<D: Disk, C: Clock> Store<D, C> {
         ensures step { StepsBy self.old.state (event_at client ask.now self.new.reading) result self.new.state }
         ensures moves { StepMoves self.old.state (event_at client ask.now self.new.reading) self.new.state result self.old.seat self.new.seat }
         ensures full { (needed limit : ℕ) → result ≡ Said.Full needed limit → Exceeds self.old.state (event_at client ask.now self.new.reading) self.old.seat needed limit }
-        ensures history { HistoryGoesOn D.told D.meaning D.faults client ask.now self.old self.new result }
-        ensures tries { IsTried D.told D.meaning C.ticking (event_at client ask.now self.new.reading) self.old self.new result ⊎ IsUnmended D.told D.meaning self.old self.new result }
+        ensures tries { HistoryGoesOn D.told D.meaning D.faults C.ticking client ask.now self.old self.new result }
         ensures settled { result ≢ Said.Disk → self.new.seat.doubt ≡ Doubt.Settled }
         ensures in_doubt { result ≡ Said.Disk → self.new.seat.doubt ≢ Doubt.Settled }
         ensures kept { D.told → result ≢ Said.Disk → IsKeptOn self.new.state.kept (D.meaning self.new.disk) self.new.seat }

@@ -7,4 +7,4 @@ returns g c =
     let means = means_of g.D.Disk.told g.D.Disk.meaning g.D.Disk.faults g.C.Clock.ticking in
     let done = c.step.ensures in
     answers_by means c.args.store.now c.step.new.self c.args.client c.args.ask.now c.step.result
-    done.step done.history done.tries done.settled done.kept done.any_moment done.time
+    done.step done.tries done.settled done.kept done.any_moment done.time

@@ -1,4 +1,4 @@
-use Rattle.std.proofs.Common.{◌≡◌, ◌≢◌, [], inl, inr, ℕ, refl, sym, ◌∙◌, ap, subst, arith}
+use Rattle.std.proofs.Common.{◌≡◌, ◌≢◌, [], inl, ℕ, refl, sym, ◌∙◌, ap, subst, arith}
 use Rattle.au_io.specs.Moments.{LeavesSince, both_pass}
 use Rattle.au_journal.specs.declared.seat.Seat.{Seat}
 use Rattle.au_journal.specs.declared.doubt.Doubt.TheVariants.{Settled}
@@ -8,7 +8,7 @@ use Rattle.au_engine.specs.Prepared.{after}
 use Rattle.au_step.specs.State.{State}
 use Rattle.au_store.specs.Recovery.{RecoversToEither}
 use Rattle.au_store.specs.Steps.{Exceeds, HasFrameWithin, StepCause, StepCosts, StepDoubts, StepLeaves, StepMoves, StepsBy, event_at}
-use Rattle.au_store.proofs.Going.{goes_on, mended_moved, same_moved, still_on}
+use Rattle.au_store.proofs.Going.{mended_moved, same_moved, still_on, tried_goes_on, unmended_goes_on}
 use Rattle.au_store.proofs.Stepped.{exceeds_by, exceeds_from, frame_there, frame_within, kept_from, left_full, made_after, mend_leaves, moves_from, reads_from, since_from, since_to, step_costs, step_leaves, step_moves, steps_by, time_from, tried_read, written_from}
 use Rattle.au_store.proofs.store.Store.step.Goals as goal
 
@@ -174,24 +174,35 @@ pub returns-in-Err-clause-settled : goal.returns-in-Err-clause-settled
 returns-in-Err-clause-settled g c = λ no_fault. ap (λ (s : Seat). s.doubt) (c.prepare.ensures.same.1 ∙ c.mend.ensures.mended c.in-Done.is)
 
 pub returns-in-Disk-clause-tries : goal.returns-in-Disk-clause-tries
-returns-in-Disk-clause-tries g c = inr (record {
-  failed = refl;
-  stood = c.mend.ensures.stood c.in-Disk.is;
-  seat = c.mend.ensures.rests c.in-Disk.is;
-  clock = c.mend.ensures.same.2;
-  reading = c.mend.ensures.same.3;
-  cost = c.mend.ensures.cost;
-  doubted = λ told doubted stood. c.mend.ensures.doubted told doubted stood c.in-Disk.is;
-  any_moment = λ told doubted stood. c.mend.ensures.any_moment told doubted stood;
-})
+returns-in-Disk-clause-tries g c =
+    let s0 = c.args.self.now in
+    let s1 = c.mend.new.self in
+    unmended_goes_on g.D.Disk.told g.D.Disk.meaning g.D.Disk.faults s0 s1 c.args.client c.args.ask.now g.C.Clock.ticking c.mend.ensures.same.0
+    (same_moved s0.seat s1.seat (c.mend.ensures.rests c.in-Disk.is)) c.in-Disk.ensures.cause.1 (record {
+      failed = refl;
+      stood = c.mend.ensures.stood c.in-Disk.is;
+      seat = c.mend.ensures.rests c.in-Disk.is;
+      clock = c.mend.ensures.same.2;
+      reading = c.mend.ensures.same.3;
+      cost = c.mend.ensures.cost;
+      doubted = λ told doubted stood. c.mend.ensures.doubted told doubted stood c.in-Disk.is;
+      any_moment = λ told doubted stood. c.mend.ensures.any_moment told doubted stood;
+    })
 
 pub returns-in-Err-clause-tries : goal.returns-in-Err-clause-tries
-returns-in-Err-clause-tries g c = inl (record {
-  read = tried_read g.C.Clock.ticking c.args.self.now.clock c.mend.new.self.clock c.prepare.new.self.clock c.prepare.new.self.clock c.prepare.new.self.reading c.prepare.new.self.reading
-      c.mend.ensures.same.2 refl refl c.prepare.ensures.reading;
-  wrote = λ is. absurd (let no : said.Memory ≡ said.Disk = is in cc);
-  doubts = λ told is. absurd (let no : said.Memory ≡ said.Disk = is in cc);
-})
+returns-in-Err-clause-tries g c =
+    let s0 = c.args.self.now in
+    let s2 = c.prepare.new.self in
+    inl (
+      record {
+        read = tried_read g.C.Clock.ticking s0.clock c.mend.new.self.clock s2.clock s2.clock s2.reading s2.reading c.mend.ensures.same.2 refl refl c.prepare.ensures.reading;
+        wrote = λ is. absurd (let no : said.Memory ≡ said.Disk = is in cc);
+        doubts = λ told is. absurd (let no : said.Memory ≡ said.Disk = is in cc);
+      },
+      still_on g.D.Disk.told g.D.Disk.meaning g.D.Disk.faults s0 s2 c.args.client c.args.ask.now (c.prepare.ensures.state ∙ c.mend.ensures.same.0)
+          (mended_moved s0.seat s2.seat (c.prepare.ensures.same.1 ∙ c.mend.ensures.mended c.in-Done.is)) (ap g.D.Disk.faults c.prepare.ensures.same.0 ∙ c.in-Done.ensures.cause)
+          (ap (λ (s : Seat). s.doubt) (c.prepare.ensures.same.1 ∙ c.mend.ensures.mended c.in-Done.is)),
+    )
 
 pub returns-in-Ok-clause-tries : goal.returns-in-Ok-clause-tries
 returns-in-Ok-clause-tries g c =
@@ -205,7 +216,8 @@ returns-in-Ok-clause-tries g c =
     let prepared = ready.prepared in
     let at = event_at c.args.client c.args.ask.now in
     let next = (after prepared s2.state).kept in
-    inl (record {
+    tried_goes_on g.D.Disk.told meaning g.D.Disk.faults s0 s3 c.args.client c.args.ask.now g.C.Clock.ticking c.make.result
+    (returns-in-Ok-clause-step g c) (returns-in-Ok-clause-moves g c) (returns-in-Ok-clause-full g c) (returns-in-Ok-clause-cause g c) c.make.ensures.settled (record {
       read = tried_read g.C.Clock.ticking s0.clock s1.clock s2.clock s3.clock s2.reading s3.reading c.mend.ensures.same.2 c.make.ensures.same.0 c.make.ensures.same.1 c.prepare.ensures.reading;
       wrote = λ is. subst (λ (r : ℕ). HasFrameWithin s0.state s0.seat (at r)) (sym c.make.ensures.same.1)
           (subst (λ (s : State). HasFrameWithin s s0.seat (at s2.reading)) same
@@ -234,26 +246,6 @@ returns-in-Disk-clause-in_doubt g c = λ is. subst (λ (s : Seat). s.doubt ≢ S
 
 pub returns-in-Ok-clause-in_doubt : goal.returns-in-Ok-clause-in_doubt
 returns-in-Ok-clause-in_doubt g c = λ is. c.make.ensures.in_doubt is
-
-pub returns-in-Disk-clause-history : goal.returns-in-Disk-clause-history
-returns-in-Disk-clause-history g c =
-    let s0 = c.args.self.now in
-    let s1 = c.mend.new.self in
-    goes_on g.D.Disk.told g.D.Disk.meaning g.D.Disk.faults s0 s1 c.args.client c.args.ask.now g.C.Clock.ticking said.Disk c.mend.ensures.same.0 (same_moved s0.seat s1.seat (c.mend.ensures.rests c.in-Disk.is))
-    (λ needed limit is. absurd (let no : said.Disk ≡ said.Full needed limit = is in cc)) c.in-Disk.ensures.cause (λ well. absurd (well refl)) (returns-in-Disk-clause-tries g c)
-
-pub returns-in-Err-clause-history : goal.returns-in-Err-clause-history
-returns-in-Err-clause-history g c =
-    let s0 = c.args.self.now in
-    let s2 = c.prepare.new.self in
-    still_on g.D.Disk.told g.D.Disk.meaning g.D.Disk.faults s0 s2 c.args.client c.args.ask.now (c.prepare.ensures.state ∙ c.mend.ensures.same.0)
-    (mended_moved s0.seat s2.seat (c.prepare.ensures.same.1 ∙ c.mend.ensures.mended c.in-Done.is)) (ap g.D.Disk.faults c.prepare.ensures.same.0 ∙ c.in-Done.ensures.cause)
-    (ap (λ (s : Seat). s.doubt) (c.prepare.ensures.same.1 ∙ c.mend.ensures.mended c.in-Done.is))
-
-pub returns-in-Ok-clause-history : goal.returns-in-Ok-clause-history
-returns-in-Ok-clause-history g c =
-    goes_on g.D.Disk.told g.D.Disk.meaning g.D.Disk.faults c.args.self.now c.make.new.self c.args.client c.args.ask.now g.C.Clock.ticking c.make.result
-    (returns-in-Ok-clause-step g c) (returns-in-Ok-clause-moves g c) (returns-in-Ok-clause-full g c) (returns-in-Ok-clause-cause g c) c.make.ensures.settled (returns-in-Ok-clause-tries g c)
 
 pub returns-in-Err-clause-untouched : goal.returns-in-Err-clause-untouched
 returns-in-Err-clause-untouched g c = λ left settled. c.prepare.ensures.same.0 ∙ c.mend.ensures.still settled
