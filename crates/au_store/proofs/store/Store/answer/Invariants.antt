@@ -1,0 +1,4 @@
+use Rattle.au_store.proofs.store.Store.answer.Given as goal
+
+abbrev pub ghosts-answer_counted : goal.ghosts-answer_counted
+ghosts-answer_counted g a = record { name = a.blank.name; parts = a.blank.parts }
