@@ -27,7 +27,7 @@ use Rattle.au_store.specs.Stored.{Stored, IsKeptOn}
 use Rattle.au_main.specs.Answers.{AllTell, Answer, AnswerTells, IsLegalBy, LeavesDoubt, Made, Unmended, ReadAll, UnmendedInDoubt, asks_after, asks_of, labels_after, line_of, readings_of, said_of, steps_of, texts}
 use Rattle.au_main.specs.Means.{Means}
 use Rattle.au_main.specs.Ran.{Ran}
-use Rattle.au_main.specs.descent.Serving.{Answers, Does, DoubtBy, Serves, StateBy}
+use Rattle.au_main.specs.descent.Answering.{Answers, AnswersLine, Does, DoubtBy, StateBy}
 use Rattle.au_main.proofs.OnDisk.{AreUnmended-push, IsOnDisk-none, IsOnDisk-more}
 
 -- ---- lists
@@ -348,5 +348,5 @@ Ran-does means used lines bytes (line.Ask label ask) o s t answers text more spe
 }
 
 pub Ran-more : {D C : Type 0} (means : Means D C) (used : List Label) (lines : List (List ℕ)) (bytes : List ℕ) (o s t : Stored D C) (answers : List Answer) (text more : List ℕ)
-    → RanWith means used lines o s answers text → (serves : Serves means used s t bytes more) → OneMore means (labels_after used (serves.said ∷ [])) lines bytes o t answers text more
-Ran-more means used lines bytes o s t answers text more done serves = Ran-does means used lines bytes serves.said o s t answers text more serves.spelled done serves.does
+    → RanWith means used lines o s answers text → (of_line : AnswersLine means used s t bytes more) → OneMore means (labels_after used (of_line.said ∷ [])) lines bytes o t answers text more
+Ran-more means used lines bytes o s t answers text more done of_line = Ran-does means used lines bytes of_line.said o s t answers text more of_line.spelled done of_line.does

@@ -1,3 +1,4 @@
+pub mod AnsweredLines
 pub mod Commands
 pub mod Counts
 pub mod Ends
@@ -11,4 +12,3 @@ pub mod Pieces
 pub mod Running
 pub mod Runs
 pub mod Sampled
-pub mod Serving

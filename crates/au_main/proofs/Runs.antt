@@ -22,7 +22,7 @@ use Rattle.au_script.specs.Lines.{IsContent, SaysNothing, carriage_return, line_
 use Rattle.au_main.specs.declared.status.Status.{Status}
 use Rattle.au_main.specs.declared.status.Status.TheVariants.{Done, Usage, ReadFault, WriteFault, DiskFault, Unformatted, Formatted, Damaged, BadLine, TooLong, LobbyFault, Memory, Worn}
 use Rattle.au_main.specs.Ran.{IsReadCause, RanTo, RanToBadLine, RanToFront}
-use Rattle.au_main.specs.descent.Serving.{DidNothing, EndsLast, FoundNoMemory, Served, ServedInPart}
+use Rattle.au_main.specs.descent.Answering.{Answered, AnsweredInPart, DidNothing, EndsLast, FoundNoMemory}
 use Rattle.au_main.specs.descent.Stretch.{Stretch}
 use Rattle.au_main.specs.declared.line.Line.TheVariants.{Ended, Last, End, Overlong, Failed, Beyond}
 use Rattle.au_main.proofs.Histories.{AllByRecursion-append, Ran-none, Ran-more, RanWith, labels_after-below}
@@ -298,14 +298,14 @@ module _ {D C : Type 0} (means : Means D C) where
 
       -- behind another line
       module _ (n : Stored D C) (i : Option (List ℕ)) (line more : List ℕ) (whole : HasNoEnd line) (then : Consumes b c more) where
-        in_part : TakenLines (so_far.lines ++ line ∷ []) (so_far.got ++ more) c → ServedInPart means used m n line h i → (answers : List Answer) × RanToFront means a c o n answers g i
-        in_part begins served =
-            let ran = Ran-more means used so_far.lines line o m n so_far.answers so_far.text served.text so_far.done served.serves in (
+        in_part : TakenLines (so_far.lines ++ line ∷ []) (so_far.got ++ more) c → AnsweredInPart means used m n line h i → (answers : List Answer) × RanToFront means a c o n answers g i
+        in_part begins answered =
+            let ran = Ran-more means used so_far.lines line o m n so_far.answers so_far.text answered.text so_far.done answered.of_line in (
               so_far.answers ++ ran.last,
               record {
                 lines = so_far.lines ++ line ∷ [];
                 got = so_far.got ++ more;
-                text = so_far.text ++ served.text;
+                text = so_far.text ++ answered.text;
                 told = so_far.answers;
                 last = ran.last;
                 whole = AreLines-push so_far.lines line so_far.whole whole;
@@ -314,7 +314,7 @@ module _ {D C : Type 0} (means : Means D C) where
                 ran = ran.done.ran;
                 split = refl;
                 one = ran.one;
-                given_front = behind g h i so_far.text (texts so_far.answers) served.text (texts ran.last) so_far.done.ran.text_is ran.more_is so_far.given_all served.given_front;
+                given_front = behind g h i so_far.text (texts so_far.answers) answered.text (texts ran.last) so_far.done.ran.text_is ran.more_is so_far.given_all answered.given_front;
               },
             )
 
@@ -324,7 +324,7 @@ module _ {D C : Type 0} (means : Means D C) where
 
         no_memory : TakenLines (so_far.lines ++ line ∷ []) (so_far.got ++ more) c → FoundNoMemory means used m n line h i → Ended-so Memory a c o n g i
         no_memory begins (inl stays) = stayed stays
-        no_memory begins (inr served) = in_part begins served
+        no_memory begins (inr answered) = in_part begins answered
 
         bad_line : (number : ℕ) (got : List ℕ) → number ≡ count + 1 → IfSome a (BeginsWithLines (so_far.lines ++ line ∷ [])) → Consumes a c (ended so_far.lines ++ got) → TakenOf line got c
             → SaysNothing line → DidNothing m n h i → Ended-so (BadLine number) a c o n g i
@@ -339,26 +339,26 @@ module _ {D C : Type 0} (means : Means D C) where
         joined_ended : so_far.got ++ line.got ≡ ended (so_far.lines ++ v.items ∷ []) ++ q.bytes
         joined_ended = ap (λ l. l ++ line.got) so_far.joined ∙ append_assoc (ended so_far.lines) p.bytes line.got ∙ ap (λ l. ended so_far.lines ++ l) line.next.1 ∙ ended-next so_far.lines v.items q.bytes
 
-        pub RanSoFar-more : (next : ℕ) → next ≡ count + 1 → (using : List Label) → Served means used using m n v.items h i → RanSoFar means next using o n q a c g i
-        RanSoFar-more next counted using served =
-            let ran = Ran-more means used so_far.lines v.items o m n so_far.answers so_far.text served.text so_far.done served.serves in
+        pub RanSoFar-more : (next : ℕ) → next ≡ count + 1 → (using : List Label) → Answered means used using m n v.items h i → RanSoFar means next using o n q a c g i
+        RanSoFar-more next counted using answered =
+            let ran = Ran-more means used so_far.lines v.items o m n so_far.answers so_far.text answered.text so_far.done answered.of_line in
             record {
               lines = so_far.lines ++ v.items ∷ [];
               got = so_far.got ++ line.got;
-              text = so_far.text ++ served.text;
+              text = so_far.text ++ answered.text;
               whole = AreLines-push so_far.lines v.items so_far.whole line.next.0;
               number = length_push so_far.lines v.items ∙ ap (λ k. k + 1) so_far.number ∙ sym counted;
               taken = Consumes-trans a b c so_far.got line.got so_far.taken line.taken;
               joined = joined_ended;
               size = omega (arith, line.next.2, so_far.size, length-append so_far.got line.got);
               answers = so_far.answers ++ ran.last;
-              done = rw served.labels ran.done;
-              few = rw served.labels (omega (arith, counted, so_far.few, labels_after-below used served.serves.said));
-              given_all = Appends-trans g h i so_far.text served.text so_far.given_all served.given_all;
+              done = rw answered.labels ran.done;
+              few = rw answered.labels (omega (arith, counted, so_far.few, labels_after-below used answered.of_line.said));
+              given_all = Appends-trans g h i so_far.text answered.text so_far.given_all answered.given_all;
             }
 
-        pub RanToFront-ended : ServedInPart means used m n v.items h i → Ended-so WriteFault a c o n g i
-        RanToFront-ended served = in_part n i v.items line.got line.next.0 line.taken (inl (q.bytes, joined_ended)) served
+        pub RanToFront-ended : AnsweredInPart means used m n v.items h i → Ended-so WriteFault a c o n g i
+        RanToFront-ended answered = in_part n i v.items line.got line.next.0 line.taken (inl (q.bytes, joined_ended)) answered
 
         pub RanToFront-no_memory : FoundNoMemory means used m n v.items h i → Ended-so Memory a c o n g i
         RanToFront-no_memory found = no_memory n i v.items line.got line.next.0 line.taken (inl (q.bytes, joined_ended)) found
@@ -382,28 +382,28 @@ module _ {D C : Type 0} (means : Means D C) where
           line.next.2,
         )
 
-        RanToEnd-last : (using : List Label) → Served means used using m n v.items h i → Ended-so Done a c o n g i
-        RanToEnd-last using served =
-            let ran = Ran-more means used so_far.lines v.items o m n so_far.answers so_far.text served.text so_far.done served.serves in (
+        RanToEnd-last : (using : List Label) → Answered means used using m n v.items h i → Ended-so Done a c o n g i
+        RanToEnd-last using answered =
+            let ran = Ran-more means used so_far.lines v.items o m n so_far.answers so_far.text answered.text so_far.done answered.of_line in (
               so_far.answers ++ ran.last,
               record {
                 lines = so_far.lines;
                 rest = v.items;
-                text = so_far.text ++ served.text;
+                text = so_far.text ++ answered.text;
                 whole = AreLines-push so_far.lines v.items so_far.whole line.next.0;
                 taken = taken_last;
                 at_end = line.next.2;
                 ran = rw (last_line-some v.items line.next.3) ran.done.ran;
-                given_all = Appends-trans g h i so_far.text served.text so_far.given_all served.given_all;
+                given_all = Appends-trans g h i so_far.text answered.text so_far.given_all answered.given_all;
               },
             )
 
         -- the end of the last line is that of the run
         pub RanTo-last : (using : List Label) (number : ℕ) → number ≡ count + 1 → (status : Status) → EndsLast means used using number status m n v.items h i → Ended-so status a c o n g i
-        RanTo-last using number counted Done served = RanToEnd-last using served
+        RanTo-last using number counted Done answered = RanToEnd-last using answered
         RanTo-last using number counted (BadLine k) bad =
             rw bad.0 (bad_line n i v.items line.got line.next.0 line.taken number v.items counted stands_last taken_last (inr (inl (refl, line.next.2))) bad.1 bad.2)
-        RanTo-last using number counted WriteFault served = in_part n i v.items line.got line.next.0 line.taken begins_last served
+        RanTo-last using number counted WriteFault answered = in_part n i v.items line.got line.next.0 line.taken begins_last answered
         RanTo-last using number counted Memory found = no_memory n i v.items line.got line.next.0 line.taken begins_last found
         RanTo-last using number counted ReadFault h = absurd h
         RanTo-last using number counted TooLong h = absurd h

@@ -24,6 +24,7 @@ use Rattle.au_step.specs.Runs.{Happening, Run, asks, ends}
 use Rattle.au_step.specs.State.{State, start}
 use Rattle.au_step.specs.Step.{Event, Step}
 use Rattle.au_store.specs.Creating.{IsMade}
+use Rattle.au_store.specs.History.{HistoryGoesOn}
 use Rattle.au_store.specs.Looking.{ReadsUpTo}
 use Rattle.au_store.specs.Recovery.{ReadsAs, RecoversTo}
 use Rattle.au_store.specs.Starting.{IsOpened}
@@ -31,37 +32,27 @@ use Rattle.au_store.specs.Steps.{StepsBy, event_at}
 use Rattle.au_store.specs.Stored.{Stored, IsKeptOn}
 use Rattle.au_main.specs.declared.status.Status.{Status}
 use Rattle.au_main.specs.declared.status.Status.TheVariants.{Done, Usage, ReadFault, WriteFault, DiskFault, Unformatted, Formatted, Damaged, BadLine, TooLong, LobbyFault, Memory, Worn}
-use Rattle.au_main.specs.Answers.{Made, Unmended, ReadAll}
 use Rattle.au_main.specs.Complete.{IsDoneOrShort, NoneRose}
 use Rattle.au_main.specs.Given.{GivesText}
 use Rattle.au_main.specs.Means.{Means}
 use Rattle.au_main.specs.Ran.{IsWriteCause}
 use Rattle.au_main.specs.Samples.{AskedThrough, IsSummary, SampleTo, asked_from, asker, first_reading, last_number, number_in, sample_password, sample_start, summary_of}
 use Rattle.au_main.specs.descent.Sampling.{AreAllAsked, IsAsked, IsReplied}
-use Rattle.au_main.specs.descent.Serving.{Answers, AnswersBy}
 
 -- ---- one step
 
-reads_one : (t u : Option Ticking) (reading : ℕ) → ReadAll t u (reading ∷ []) → Reads t u reading
-reads_one None u reading read = tt
-reads_one (Some t) u reading read = read
-
-module _ {D C : Type 0} (means : Means D C) (s t : Stored D C) (ask : Ask) (reply : Reply) where
-  of_made : (client : ClientNo) (other : Ask) (reading : ℕ) (said : Said) → said ≡ Replied reply → Answers means s t 1 ask (Made client other reading said) → IsReplied means s t ask reply
-  of_made client other reading said is answers =
-      let stepped : Step s.state (event_at client other reading) reply t.state = subst (λ (x : Said). StepsBy s.state (event_at client other reading) x t.state) is answers.state in
-      let replied : said ≢ Disk = λ no. (let e : Replied reply ≡ Disk = sym is ∙ no in cc) in
-      record {
-        reading = reading;
-        read = reads_one (means.ticking s.clock) (means.ticking t.clock) reading answers.read;
-        step = subst (λ (p : ℕ × Ask). Step s.state (event_at (record { 0 = p.0 }) p.1 reading) reply t.state) answers.asks stepped;
-        kept = λ told. (answers.on_disk told).kept replied;
-      }
-
-  -- what was replied to is a step
-  pub is_replied : (said : Said) → said ≡ Replied reply → AnswersBy means s t 1 ask said → IsReplied means s t ask reply
-  is_replied said is (Made client other reading told, answers, same) = of_made client other reading told (sym same ∙ is) answers
-  is_replied said is (Unmended client other, answers, same) = absurd (let e : Replied reply ≡ Disk = sym is ∙ same in cc)
+-- what was replied to is a step
+pub is_replied : {D C : Type 0} (means : Means D C) (s t : Stored D C) (ask : Ask) (reply : Reply) (said : Said) → said ≡ Replied reply → StepsBy s.state (event_at asker ask t.reading) said t.state
+    → HistoryGoesOn means.told means.meaning means.faults means.ticking asker ask s t said
+    → (means.told → said ≢ Disk → IsKeptOn t.state.kept (means.meaning t.disk) t.seat)
+    → IsReplied means s t ask reply
+is_replied means s t ask reply said is step (inl tries) kept = record {
+  reading = t.reading;
+  read = tries.0.read;
+  step = subst (λ (x : Said). StepsBy s.state (event_at asker ask t.reading) x t.state) is step;
+  kept = λ told. kept told (λ no. let e : Replied reply ≡ Disk = sym is ∙ no in cc);
+}
+is_replied means s t ask reply said is step (inr tries) kept = absurd (let e : Replied reply ≡ Disk = sym is ∙ tries.0.failed in cc)
 
 -- ---- asks, one after another
 

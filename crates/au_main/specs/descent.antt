@@ -1,4 +1,4 @@
+pub mod Answering
 pub mod NextLine
 pub mod Sampling
-pub mod Serving
 pub mod Stretch

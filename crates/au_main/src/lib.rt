@@ -1,6 +1,7 @@
 //! The top call: all that the program does, on the outside that it is handed.
 #![tactic(auto)]
 
+mod answering;
 mod asked;
 mod command;
 mod export;
@@ -12,7 +13,6 @@ mod next_line;
 mod refill;
 mod run;
 mod sampling;
-mod serve;
 mod status;
 mod stop;
 mod stretch;

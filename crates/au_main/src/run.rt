@@ -4,11 +4,11 @@ ghost use Rattle.au_store.specs.Stored.{IsKeptOn};
 ghost use Rattle.au_main.specs.Answers.{Answer};
 ghost use Rattle.au_main.specs.Means.{means_of};
 ghost use Rattle.au_main.specs.Ran.{HasRun, IsReadCause, IsUnopened, IsWriteCause, RanTo, status_of};
-ghost use Rattle.au_main.specs.descent.Serving.{EndsLast};
+ghost use Rattle.au_main.specs.descent.Answering.{EndsLast};
 
+use crate::answering::answer_line;
 use crate::line::Line;
 use crate::next_line::next_line;
-use crate::serve::serve_line;
 use crate::status::Status;
 use crate::stop::Stop;
 use crate::stretch::Pending;
@@ -98,14 +98,14 @@ fn do_each<S: Source, W: Sink, D: Disk, C: Clock>(
     let mut number = 1;
     loop {
         match next_line(alloc, source, pending) {
-            Ok(Line::Ended(line)) => match serve_line(alloc, store, labels, sink, &line) {
+            Ok(Line::Ended(line)) => match answer_line(alloc, store, labels, sink, &line) {
                 Ok(()) => number += 1,
                 Err(Stop::BadLine) => return Status::BadLine(number),
                 Err(Stop::WriteFault) => return Status::WriteFault,
                 Err(Stop::Memory) => return Status::Memory,
             },
             Ok(Line::Last(line)) => {
-                return serve_last(alloc, store, labels, sink, &line, number);
+                return answer_last(alloc, store, labels, sink, &line, number);
             }
             Ok(Line::End) => return Status::Done,
             Ok(Line::Overlong) => return Status::BadLine(number),
@@ -117,7 +117,7 @@ fn do_each<S: Source, W: Sink, D: Disk, C: Clock>(
 }
 
 // The line that no LF ends, at the end of the source.
-fn serve_last<W: Sink, D: Disk, C: Clock>(
+fn answer_last<W: Sink, D: Disk, C: Clock>(
     alloc: Global,
     store: &mut Store<D, C>,
     labels: &mut Labels,
@@ -129,7 +129,7 @@ fn serve_last<W: Sink, D: Disk, C: Clock>(
     ensures ends { EndsLast (means_of D.told D.meaning D.faults C.ticking) labels.old labels.new number result store.old store.new line.now (W.given sink.old) (W.given sink.new) }
     ensures cause { IsWriteCause result (W.faults sink.old) (W.faults sink.new) }
 {
-    match serve_line(alloc, store, labels, sink, line) {
+    match answer_line(alloc, store, labels, sink, line) {
         Ok(()) => Status::Done,
         Err(Stop::BadLine) => Status::BadLine(number),
         Err(Stop::WriteFault) => Status::WriteFault,

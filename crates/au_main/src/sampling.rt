@@ -13,7 +13,6 @@ ghost use Rattle.au_main.specs.descent.Sampling.{AreAllAsked, IsReplied};
 
 use crate::asked::Asked;
 use crate::give::give;
-use crate::serve::step;
 use crate::status::Status;
 use au_base::built_in::SYS;
 use au_base::limits::JOURNAL_LIMIT_DEFAULT;
@@ -155,7 +154,7 @@ fn reply_to<D: Disk, C: Clock>(
 ) -> Result<Reply, Memory>
     ensures { IfOk result (λ reply. IsReplied (means_of D.told D.meaning D.faults C.ticking) store.old store.new ask.now reply) }
 {
-    match step(alloc, store, ClientNo(1), ask) {
+    match store.answer(alloc, ClientNo(1), ask) {
         Said::Replied(reply) => Ok(reply),
         Said::Disk | Said::Full { .. } | Said::Memory => Err(Memory),
     }

@@ -22,14 +22,14 @@ overflow_add-number g c =
     let below : c.loop-line.number - 1 ≤ c.loop-line.pending.taken = count-below means _ _ _ _ _ _ _ _ _ c.loop-line.invariant.ran in
     fits_next c.loop-line.number c.loop-line.pending.taken below c.loop-line.invariant.within
 
-pub serve_line-requires-clause-room : goal.serve_line-requires-clause-room
-serve_line-requires-clause-room g c = λ _ _.
+pub answer_line-requires-clause-room : goal.answer_line-requires-clause-room
+answer_line-requires-clause-room g c = λ _ _.
     let means = means_of g.D.Disk.told g.D.Disk.meaning g.D.Disk.faults g.C.Clock.ticking in
     let line = rw c.in-Ok-Ended.field-0-is at c.in-Ok-Ended.ensures.line in
     room_ended means _ _ _ _ _ _ _ _ _ c.loop-line.invariant.ran _ _ _ line c.in-Ok-Ended.ensures.within
 
-pub serve_last-requires-clause-room : goal.serve_last-requires-clause-room
-serve_last-requires-clause-room g c = λ _ _.
+pub answer_last-requires-clause-room : goal.answer_last-requires-clause-room
+answer_last-requires-clause-room g c = λ _ _.
     let means = means_of g.D.Disk.told g.D.Disk.meaning g.D.Disk.faults g.C.Clock.ticking in
     let line = rw c.in-Ok-Last.field-0-is at c.in-Ok-Last.ensures.line in
     room_last means _ _ _ _ _ _ _ _ _ c.loop-line.invariant.ran _ _ _ line c.in-Ok-Last.ensures.within
@@ -38,20 +38,20 @@ pub loop-line-smaller : goal.loop-line-smaller
 loop-line-smaller g c =
     let means = means_of g.D.Disk.told g.D.Disk.meaning g.D.Disk.faults g.C.Clock.ticking in
     let line = rw c.in-Ok-Ended.field-0-is at c.in-Ok-Ended.ensures.line in
-    let served = rw c.deref.ensures.value at c.in-Ok.ensures.ok in
+    let answered = rw c.deref.ensures.value at c.in-Ok.ensures.ok in
     let number = counted_next c.loop-line.number c.loop-line.invariant.counts in
-    let below : (c.loop-line.number + 1) - 1 ≤ c.next_line.new.pending.taken = count-below means _ _ _ _ _ _ _ _ _ (RanSoFar-more means _ _ _ _ _ _ _ _ _ c.loop-line.invariant.ran _ _ _ _ _ line _ number _ served) in
+    let below : (c.loop-line.number + 1) - 1 ≤ c.next_line.new.pending.taken = count-below means _ _ _ _ _ _ _ _ _ (RanSoFar-more means _ _ _ _ _ _ _ _ _ c.loop-line.invariant.ran _ _ _ _ _ line _ number _ answered) in
     falls c.loop-line.number c.next_line.new.pending.taken below c.in-Ok-Ended.ensures.within
 
 pub loop-line-preserved : goal.loop-line-preserved
 loop-line-preserved g c =
     let means = means_of g.D.Disk.told g.D.Disk.meaning g.D.Disk.faults g.C.Clock.ticking in
     let line = rw c.in-Ok-Ended.field-0-is at c.in-Ok-Ended.ensures.line in
-    let served = rw c.deref.ensures.value at c.in-Ok.ensures.ok in
+    let answered = rw c.deref.ensures.value at c.in-Ok.ensures.ok in
     let number = counted_next c.loop-line.number c.loop-line.invariant.counts in
     let cause = rw c.in-Ok-Ended.field-0-is at c.in-Ok-Ended.ensures.cause in
     record {
-      ran = RanSoFar-more means _ _ _ _ _ _ _ _ _ c.loop-line.invariant.ran _ _ _ _ _ line _ number _ served;
+      ran = RanSoFar-more means _ _ _ _ _ _ _ _ _ c.loop-line.invariant.ran _ _ _ _ _ line _ number _ answered;
       counts = some_next c.loop-line.number;
       within = c.in-Ok-Ended.ensures.within;
       read = cause ∙ c.loop-line.invariant.read;
@@ -80,8 +80,8 @@ pub returns-in-Err-WriteFault-clause-ran : goal.returns-in-Err-WriteFault-clause
 returns-in-Err-WriteFault-clause-ran g c =
     let means = means_of g.D.Disk.told g.D.Disk.meaning g.D.Disk.faults g.C.Clock.ticking in
     let line = rw c.in-Ok-Ended.field-0-is at c.in-Ok-Ended.ensures.line in
-    let served = rw c.deref.ensures.value at (c.in-Err-WriteFault.ensures.write_fault (stopped _ _ c.in-Err-WriteFault.field-0-is)) in
-    RanToFront-ended means _ _ _ _ _ _ _ _ _ c.loop-line.invariant.ran _ _ _ _ _ line served
+    let answered = rw c.deref.ensures.value at (c.in-Err-WriteFault.ensures.write_fault (stopped _ _ c.in-Err-WriteFault.field-0-is)) in
+    RanToFront-ended means _ _ _ _ _ _ _ _ _ c.loop-line.invariant.ran _ _ _ _ _ line answered
 
 pub returns-in-Err-WriteFault-clause-read : goal.returns-in-Err-WriteFault-clause-read
 returns-in-Err-WriteFault-clause-read g c =
@@ -95,8 +95,8 @@ pub returns-in-Err-Memory-clause-ran : goal.returns-in-Err-Memory-clause-ran
 returns-in-Err-Memory-clause-ran g c =
     let means = means_of g.D.Disk.told g.D.Disk.meaning g.D.Disk.faults g.C.Clock.ticking in
     let line = rw c.in-Ok-Ended.field-0-is at c.in-Ok-Ended.ensures.line in
-    let served = rw c.deref.ensures.value at (c.in-Err-Memory.ensures.memory (stopped _ _ c.in-Err-Memory.field-0-is)) in
-    RanToFront-no_memory means _ _ _ _ _ _ _ _ _ c.loop-line.invariant.ran _ _ _ _ _ line served
+    let answered = rw c.deref.ensures.value at (c.in-Err-Memory.ensures.memory (stopped _ _ c.in-Err-Memory.field-0-is)) in
+    RanToFront-no_memory means _ _ _ _ _ _ _ _ _ c.loop-line.invariant.ran _ _ _ _ _ line answered
 
 pub returns-in-Err-Memory-clause-read : goal.returns-in-Err-Memory-clause-read
 returns-in-Err-Memory-clause-read g c =
@@ -113,17 +113,17 @@ returns-in-Ok-Last-clause-ran g c =
     let means = means_of g.D.Disk.told g.D.Disk.meaning g.D.Disk.faults g.C.Clock.ticking in
     let line = rw c.in-Ok-Last.field-0-is at c.in-Ok-Last.ensures.line in
     let number = counted c.loop-line.number c.loop-line.invariant.counts in
-    let ends = rw c.deref-in-Ok-Last.ensures.value at c.serve_last.ensures.ends in
-    RanTo-last means _ _ _ _ _ _ _ _ _ c.loop-line.invariant.ran _ _ _ _ _ line _ _ number c.serve_last.result ends
+    let ends = rw c.deref-in-Ok-Last.ensures.value at c.answer_last.ensures.ends in
+    RanTo-last means _ _ _ _ _ _ _ _ _ c.loop-line.invariant.ran _ _ _ _ _ line _ _ number c.answer_last.result ends
 
 pub returns-in-Ok-Last-clause-read : goal.returns-in-Ok-Last-clause-read
 returns-in-Ok-Last-clause-read g c =
     let means = means_of g.D.Disk.told g.D.Disk.meaning g.D.Disk.faults g.C.Clock.ticking in
     let cause = rw c.in-Ok-Last.field-0-is at c.in-Ok-Last.ensures.cause in
-    IsReadCause-last means c.serve_last.result _ _ _ _ _ _ _ _ _ _ c.serve_last.ensures.ends (cause ∙ c.loop-line.invariant.read)
+    IsReadCause-last means c.answer_last.result _ _ _ _ _ _ _ _ _ _ c.answer_last.ensures.ends (cause ∙ c.loop-line.invariant.read)
 
 pub returns-in-Ok-Last-clause-write : goal.returns-in-Ok-Last-clause-write
-returns-in-Ok-Last-clause-write g c = rw c.loop-line.invariant.wrote at c.serve_last.ensures.cause
+returns-in-Ok-Last-clause-write g c = rw c.loop-line.invariant.wrote at c.answer_last.ensures.cause
 
 pub returns-in-Ok-End-clause-ran : goal.returns-in-Ok-End-clause-ran
 returns-in-Ok-End-clause-ran g c =

@@ -1,6 +1,7 @@
 -- One line of a script, and one step.
-use Rattle.std.proofs.Common.{◌≡◌, ◌≢◌, inl, inr, ℕ, List, [], ◌∷◌, refl, subst}
+use Rattle.std.proofs.Common.{◌≡◌, ◌≢◌, inl, inr, ℕ, List, [], ◌∷◌, refl, ap, ◌∙◌, subst}
 use Rattle.std.specs.Prelude.{Option, Some, None, Result, Ok, Err, OnOk}
+use Rattle.std.specs.Io.KnownBytes.{Appends}
 use Rattle.std.proofs.KnownBytes.{Appends-nil}
 use Rattle.au_base.specs.declared.ask.Ask.{Ask}
 use Rattle.au_base.specs.declared.numbers.ClientNo.{ClientNo}
@@ -20,9 +21,10 @@ use Rattle.au_store.specs.History.{HistoryGoesOn}
 use Rattle.au_store.specs.Steps.{StepLeaves, StepsBy, event_at}
 use Rattle.au_store.specs.Doubts.{IsStoodOn}
 use Rattle.au_store.specs.Stored.{Stored, IsKeptOn}
-use Rattle.au_main.specs.Answers.{Made, Unmended, ReadAll, line_of, said_of}
+use Rattle.au_main.specs.Answers.{Answer, Made, Unmended, ReadAll, line_of, said_of}
+use Rattle.au_main.specs.Given.{AppendsFront}
 use Rattle.au_main.specs.Means.{Means}
-use Rattle.au_main.specs.descent.Serving.{Answers, AnswersBy, Served, ServedInPart, Told, ToldInPart}
+use Rattle.au_main.specs.descent.Answering.{Answered, AnsweredInPart, Answers, Told, ToldInPart}
 
 read_one : (t u : Option Ticking) (reading : ℕ) → Reads t u reading → ReadAll t u (reading ∷ [])
 read_one None u reading h = tt
@@ -34,6 +36,10 @@ read_none (Some t) = refl
 
 state_stays : (m n : State) (event : Event) (said : Said) → said ≡ Disk → StepsBy m event said n → n ≡ m
 state_stays m n event said is step = subst (λ (a : Said). StepsBy m event a n) is step
+
+-- this is said to the ask of the client with this number
+abbrev pub AnswersBy : {D C : Type 0} → Means D C → (s t : Stored D C) → ℕ → Ask → Said → Type 0
+AnswersBy means s t client ask said = (answer : Answer) × Answers means s t client ask answer × (said ≡ said_of answer)
 
 -- what a step of the store did is an answer to the ask
 pub answers_by : {D C : Type 0} (means : Means D C) (s t : Stored D C) (client : ClientNo) (ask : Ask) (said : Said)
@@ -72,10 +78,26 @@ answers_by means s t client ask said step (inr tries) settled kept leaves time =
   tries.0.failed,
 )
 
-pub Served-skip : {D C : Type 0} (means : Means D C) (used : List Label) (s : Stored D C) (bytes : List ℕ) (g : Option (List ℕ)) → Says bytes line.Skip → Served means used used s s bytes g g
-Served-skip means used s bytes g spelled = record {
+-- and its text was given, or a front of it
+module _ {D C : Type 0} (means : Means D C) (s t : Stored D C) (client : ℕ) (ask : Ask) (said : Said) (text : List ℕ) (g h : Option (List ℕ)) where
+  pub told_all : AnswersBy means s t client ask said → text ≡ line_of said → Appends g h text → Told means s t client ask g h
+  told_all by is gives = record {
+    answer = by.0;
+    answers = by.1;
+    given_all = subst (λ (b : List ℕ). Appends g h b) (is ∙ ap line_of by.2) gives;
+  }
+
+  pub told_in_part : AnswersBy means s t client ask said → text ≡ line_of said → AppendsFront g h text → ToldInPart means s t client ask g h
+  told_in_part by is gives = record {
+    answer = by.0;
+    answers = by.1;
+    given_front = subst (λ (b : List ℕ). AppendsFront g h b) (is ∙ ap line_of by.2) gives;
+  }
+
+pub Answered-skip : {D C : Type 0} (means : Means D C) (used : List Label) (s : Stored D C) (bytes : List ℕ) (g : Option (List ℕ)) → Says bytes line.Skip → Answered means used used s s bytes g g
+Answered-skip means used s bytes g spelled = record {
   text = [];
-  serves = record { said = line.Skip; spelled = spelled; does = (refl, refl) };
+  of_line = record { said = line.Skip; spelled = spelled; does = (refl, refl) };
   labels = refl;
   given_all = Appends-nil g;
 }
@@ -85,11 +107,11 @@ pub on_ok : {X E : Type 0} (r : Result X E) (P Q : Type 0) → (P → Q) → OnO
 on_ok (Ok x) P Q f p = f p
 on_ok (Err e) P Q f p = tt
 
-pub Served-told : {D C : Type 0} (means : Means D C) (used using : List Label) (s t : Stored D C) (bytes label : List ℕ) (client : ℕ) (ask : Ask) (g h : Option (List ℕ))
-    → Says bytes (line.Ask label ask) → client ≡ number_of used label → using ≡ used_with used label → Told means s t client ask g h → Served means used using s t bytes g h
-Served-told means used using s t bytes label client ask g h spelled number labels told = record {
+pub Answered-told : {D C : Type 0} (means : Means D C) (used using : List Label) (s t : Stored D C) (bytes label : List ℕ) (client : ℕ) (ask : Ask) (g h : Option (List ℕ))
+    → Says bytes (line.Ask label ask) → client ≡ number_of used label → using ≡ used_with used label → Told means s t client ask g h → Answered means used using s t bytes g h
+Answered-told means used using s t bytes label client ask g h spelled number labels told = record {
   text = line_of (said_of told.answer);
-  serves = record {
+  of_line = record {
     said = line.Ask label ask;
     spelled = spelled;
     does = (told.answer, subst (λ (n : ℕ). Answers means s t n ask told.answer) number told.answers, refl);
@@ -98,11 +120,11 @@ Served-told means used using s t bytes label client ask g h spelled number label
   given_all = told.given_all;
 }
 
-pub Served-told_in_part : {D C : Type 0} (means : Means D C) (used : List Label) (s t : Stored D C) (bytes label : List ℕ) (client : ℕ) (ask : Ask) (g h : Option (List ℕ))
-    → Says bytes (line.Ask label ask) → client ≡ number_of used label → ToldInPart means s t client ask g h → ServedInPart means used s t bytes g h
-Served-told_in_part means used s t bytes label client ask g h spelled number told = record {
+pub Answered-told_in_part : {D C : Type 0} (means : Means D C) (used : List Label) (s t : Stored D C) (bytes label : List ℕ) (client : ℕ) (ask : Ask) (g h : Option (List ℕ))
+    → Says bytes (line.Ask label ask) → client ≡ number_of used label → ToldInPart means s t client ask g h → AnsweredInPart means used s t bytes g h
+Answered-told_in_part means used s t bytes label client ask g h spelled number told = record {
   text = line_of (said_of told.answer);
-  serves = record {
+  of_line = record {
     said = line.Ask label ask;
     spelled = spelled;
     does = (told.answer, subst (λ (n : ℕ). Answers means s t n ask told.answer) number told.answers, refl);

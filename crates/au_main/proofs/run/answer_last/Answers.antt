@@ -1,6 +1,6 @@
 use Rattle.std.proofs.Common.{refl}
 use Rattle.au_main.proofs.Counts.{stopped}
-use Rattle.au_main.proofs.run.serve_last.Goals as goal
+use Rattle.au_main.proofs.run.answer_last.Goals as goal
 
 pub returns-in-Err-BadLine-clause-ends : goal.returns-in-Err-BadLine-clause-ends
 returns-in-Err-BadLine-clause-ends g c =

@@ -4,21 +4,19 @@ ghost use Rattle.au_io.specs.Faults.{HasRisen};
 ghost use Rattle.au_script.specs.Lines.{SaysNothing};
 ghost use Rattle.au_main.specs.Answers.{line_of};
 ghost use Rattle.au_main.specs.Means.{means_of};
-ghost use Rattle.au_main.specs.descent.Serving.{AnswersBy, DidNothing, FoundNoMemory, Served, ServedInPart, Told, ToldInPart};
+ghost use Rattle.au_main.specs.descent.Answering.{Answered, AnsweredInPart, DidNothing, FoundNoMemory, Told, ToldInPart};
 
 use crate::give::give_all;
 use crate::stop::Stop;
-use au_base::{Ask, ClientNo, Memory, Said, Steps};
+use au_base::{Ask, ClientNo, Memory, Said};
 use au_io::{Clock, Disk, Sink};
 use au_script::{Labels, ScriptLine, line, said_text};
 use au_store::Store;
 use std::alloc::Global;
-use std::marker::Brand;
-use std::sync::ledger::{Blank, Ledger};
 
 /// Does what a line says, and gives the text of what was said. The labels are those of the lines
 /// before it, and then its own too.
-pub(crate) fn serve_line<D: Disk, C: Clock, W: Sink>(
+pub(crate) fn answer_line<D: Disk, C: Clock, W: Sink>(
     alloc: Global,
     store: &mut Store<D, C>,
     labels: &mut Labels,
@@ -26,8 +24,8 @@ pub(crate) fn serve_line<D: Disk, C: Clock, W: Sink>(
     bytes: &[u8],
 ) -> Result<(), Stop>
     requires room { length labels.old < u32.MAX }
-    ensures ok { OnOk result (Served (means_of D.told D.meaning D.faults C.ticking) labels.old labels.new store.old store.new bytes.now (W.given sink.old) (W.given sink.new)) }
-    ensures write_fault { IsErrOf result Stop.WriteFault → ServedInPart (means_of D.told D.meaning D.faults C.ticking) labels.old store.old store.new bytes.now (W.given sink.old) (W.given sink.new) }
+    ensures ok { OnOk result (Answered (means_of D.told D.meaning D.faults C.ticking) labels.old labels.new store.old store.new bytes.now (W.given sink.old) (W.given sink.new)) }
+    ensures write_fault { IsErrOf result Stop.WriteFault → AnsweredInPart (means_of D.told D.meaning D.faults C.ticking) labels.old store.old store.new bytes.now (W.given sink.old) (W.given sink.new) }
     ensures memory { IsErrOf result Stop.Memory → FoundNoMemory (means_of D.told D.meaning D.faults C.ticking) labels.old store.old store.new bytes.now (W.given sink.old) (W.given sink.new) }
     ensures bad { IsErrOf result Stop.BadLine → SaysNothing bytes.now }
     ensures bad_stays { IsErrOf result Stop.BadLine → DidNothing store.old store.new (W.given sink.old) (W.given sink.new) }
@@ -60,40 +58,10 @@ fn answer<D: Disk, C: Clock, W: Sink>(
     ensures cause { IsErrOf result Stop.WriteFault → HasRisen (W.faults sink.old) (W.faults sink.new) }
     ensures well { (IsErrOf result Stop.WriteFault → ⊥) → W.faults sink.new ≡ W.faults sink.old }
 {
-    let said = step(alloc, store, client, ask);
+    let said = store.answer(alloc, client, ask);
     let text = text_line(alloc, &said)?;
     give_all(sink, &text)?;
     Ok(())
-}
-
-/// One step of the client, whose count of steps nobody asks.
-pub(crate) fn step<D: Disk, C: Clock>(
-    alloc: Global,
-    store: &mut Store<D, C>,
-    client: ClientNo,
-    ask: &Ask,
-) -> Said
-    requires client { client.0 ≢ 0 }
-    ensures { AnswersBy (means_of D.told D.meaning D.faults C.ticking) store.old store.new client.0 ask.now result }
-{
-    counted_step::<D, C, Brand>(alloc, store, client, ask, Blank::new(1))
-}
-
-fn counted_step<D: Disk, C: Clock, L: Ledger>(
-    alloc: Global,
-    store: &mut Store<D, C>,
-    client: ClientNo,
-    ask: &Ask,
-    blank: Blank,
-) -> Said
-    requires client { client.0 ≢ 0 }
-    requires name { blank.name ≡ L.name }
-    requires parts { blank.parts ≡ L.parts }
-    requires some { 0 < L.parts }
-    ensures { AnswersBy (means_of D.told D.meaning D.faults C.ticking) store.old store.new client.0 ask.now result }
-{
-    let mut steps = Steps::<L>::new(blank);
-    store.step(alloc, client, ask, &mut steps)
 }
 
 // The text of what was said, with the LF that ends it.

@@ -1,8 +1,7 @@
--- What serving a line comes to, over a store.
+-- What a line of a script comes to, over a store.
 use Rattle.std.specs.Prelude.{◌≡◌, ◌≢◌, ◌⊎◌, ℕ, List, [], ◌∷◌, ◌++◌, Option}
 use Rattle.std.specs.Io.KnownBytes.{Appends}
 use Rattle.au_base.specs.declared.ask.Ask.{Ask}
-use Rattle.au_base.specs.declared.reply.Said.{Said}
 use Rattle.au_base.specs.declared.reply.Said.TheVariants.{Disk}
 use Rattle.au_io.specs.Disk.{Passes}
 use Rattle.au_journal.specs.declared.doubt.Doubt.TheVariants.{Settled}
@@ -43,17 +42,13 @@ pub record Answers {D C : Type 0} (means : Means D C) (s t : Stored D C) (client
   pub on_disk : means.told → StepsOnDisk s.state t.state answer (means.meaning s.disk) (means.meaning t.disk) s.seat t.seat
   pub time : Passes (means.meaning s.disk) (means.meaning t.disk)
 
--- this is said to the ask of the client with this number
-abbrev pub AnswersBy : {D C : Type 0} → Means D C → (s t : Stored D C) → ℕ → Ask → Said → Type 0
-AnswersBy means s t client ask said = (answer : Answer) × Answers means s t client ask answer × (said ≡ said_of answer)
-
 -- what a line comes to, where these labels were used before: nothing where it is skipped, else an answer and its text
 abbrev pub Does : {D C : Type 0} → Means D C → List Label → (s t : Stored D C) → ScriptLine → List ℕ → Type 0
 Does means used s t line.Skip text = (t ≡ s) × (text ≡ [])
 Does means used s t (line.Ask label ask) text = (answer : Answer) × Answers means s t (number_of used label) ask answer × (text ≡ line_of (said_of answer))
 
--- a script line was served, where these labels were used before, and this is the text that it is owed
-pub record Serves {D C : Type 0} (means : Means D C) (used : List Label) (s t : Stored D C) (bytes : List ℕ) (text : List ℕ) : Type 0 where
+-- a script line was answered, where these labels were used before, and this is the text that it is owed
+pub record AnswersLine {D C : Type 0} (means : Means D C) (used : List Label) (s t : Stored D C) (bytes : List ℕ) (text : List ℕ) : Type 0 where
   pub said : ScriptLine
   pub spelled : Says bytes said
   pub does : Does means used s t said text
@@ -62,22 +57,22 @@ pub record Serves {D C : Type 0} (means : Means D C) (used : List Label) (s t : 
 abbrev pub DidNothing : {D C : Type 0} → Stored D C → Stored D C → Option (List ℕ) → Option (List ℕ) → Type 0
 DidNothing s t given gave = (t ≡ s) × (gave ≡ given)
 
--- a line was served, and the text that it is owed was given; from now on the line's label is among those used
-pub record Served {D C : Type 0} (means : Means D C) (used using : List Label) (s t : Stored D C) (bytes : List ℕ) (given gave : Option (List ℕ)) : Type 0 where
+-- a line was answered, and the text that it is owed was given; from now on the line's label is among those used
+pub record Answered {D C : Type 0} (means : Means D C) (used using : List Label) (s t : Stored D C) (bytes : List ℕ) (given gave : Option (List ℕ)) : Type 0 where
   pub text : List ℕ
-  pub serves : Serves means used s t bytes text
-  pub labels : using ≡ labels_after used (serves.said ∷ [])
+  pub of_line : AnswersLine means used s t bytes text
+  pub labels : using ≡ labels_after used (of_line.said ∷ [])
   pub given_all : Appends given gave text
 
--- a line was served, and a front of the text that it is owed was given
-pub record ServedInPart {D C : Type 0} (means : Means D C) (used : List Label) (s t : Stored D C) (bytes : List ℕ) (given gave : Option (List ℕ)) : Type 0 where
+-- a line was answered, and a front of the text that it is owed was given
+pub record AnsweredInPart {D C : Type 0} (means : Means D C) (used : List Label) (s t : Stored D C) (bytes : List ℕ) (given gave : Option (List ℕ)) : Type 0 where
   pub text : List ℕ
-  pub serves : Serves means used s t bytes text
+  pub of_line : AnswersLine means used s t bytes text
   pub given_front : AppendsFront given gave text
 
 -- a line found no memory: it did nothing, or its text was not given
 abbrev pub FoundNoMemory : {D C : Type 0} → Means D C → List Label → (s t : Stored D C) → List ℕ → Option (List ℕ) → Option (List ℕ) → Type 0
-FoundNoMemory means used s t bytes given gave = DidNothing s t given gave ⊎ ServedInPart means used s t bytes given gave
+FoundNoMemory means used s t bytes given gave = DidNothing s t given gave ⊎ AnsweredInPart means used s t bytes given gave
 
 -- an ask was answered, and the text was given
 pub record Told {D C : Type 0} (means : Means D C) (s t : Stored D C) (client : ℕ) (ask : Ask) (given gave : Option (List ℕ)) : Type 0 where
@@ -93,9 +88,9 @@ pub record ToldInPart {D C : Type 0} (means : Means D C) (s t : Stored D C) (cli
 
 -- what becomes of a last line, which has this number
 abbrev pub EndsLast : {D C : Type 0} → Means D C → (used using : List Label) → ℕ → Status → (s t : Stored D C) (bytes : List ℕ) (given gave : Option (List ℕ)) → Type 0
-EndsLast means used using number Done s t bytes given gave = Served means used using s t bytes given gave
+EndsLast means used using number Done s t bytes given gave = Answered means used using s t bytes given gave
 EndsLast means used using number (BadLine k) s t bytes given gave = (k ≡ number) × SaysNothing bytes × DidNothing s t given gave
-EndsLast means used using number WriteFault s t bytes given gave = ServedInPart means used s t bytes given gave
+EndsLast means used using number WriteFault s t bytes given gave = AnsweredInPart means used s t bytes given gave
 EndsLast means used using number Memory s t bytes given gave = FoundNoMemory means used s t bytes given gave
 EndsLast means used using number ReadFault s t bytes given gave = ⊥
 EndsLast means used using number TooLong s t bytes given gave = ⊥
