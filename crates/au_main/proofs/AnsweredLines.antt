@@ -78,7 +78,7 @@ answers_by means s t client ask said step (inr tries) settled kept leaves time =
   tries.0.failed,
 )
 
--- and its text was given, or a front of it
+-- an ask was answered, and its text was given, or a front of it
 module _ {D C : Type 0} (means : Means D C) (s t : Stored D C) (client : ℕ) (ask : Ask) (said : Said) (text : List ℕ) (g h : Option (List ℕ)) where
   pub told_all : AnswersBy means s t client ask said → text ≡ line_of said → Appends g h text → Told means s t client ask g h
   told_all by is gives = record {
