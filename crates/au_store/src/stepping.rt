@@ -22,7 +22,8 @@ use au_engine::Engine;
 use au_io::{Clock, Disk};
 use au_journal::{Appended, Doubt, Mended};
 use std::alloc::Global;
-use std::sync::ledger::Ledger;
+use std::marker::Brand;
+use std::sync::ledger::{Blank, Ledger};
 
 impl<D: Disk, C: Clock> Store<D, C> {
     ghost use Rattle.au_store.specs.History.{HistoryGoesOn};
@@ -72,6 +73,58 @@ impl<D: Disk, C: Clock> Store<D, C> {
                 Err(_) => Said::Memory,
             },
         }
+    }
+
+    /// What `step` does, for a caller that asks for no count of tested policies.
+    pub fn answer(&mut self, alloc: Global, client: ClientNo, ask: &Ask) -> Said
+        requires client { client.0 ≢ 0 }
+        ensures step { StepsBy self.old.state (event_at client ask.now self.new.reading) result self.new.state }
+        ensures moves { StepMoves self.old.state (event_at client ask.now self.new.reading) self.new.state result self.old.seat self.new.seat }
+        ensures full { (needed limit : ℕ) → result ≡ Said.Full needed limit → Exceeds self.old.state (event_at client ask.now self.new.reading) self.old.seat needed limit }
+        ensures tries { HistoryGoesOn D.told D.meaning D.faults C.ticking client ask.now self.old self.new result }
+        ensures settled { result ≢ Said.Disk → self.new.seat.doubt ≡ Doubt.Settled }
+        ensures in_doubt { result ≡ Said.Disk → self.new.seat.doubt ≢ Doubt.Settled }
+        ensures kept { D.told → result ≢ Said.Disk → IsKeptOn self.new.state.kept (D.meaning self.new.disk) self.new.seat }
+        ensures untouched { IsLeftOut result → self.old.seat.doubt ≡ Doubt.Settled → self.new.disk ≡ self.old.disk }
+        ensures mended { D.told → IsLeftOut result → (D.meaning self.new.disk).reads ≡ mended_reads self.old.seat.doubt self.old.seat (D.meaning self.old.disk).reads }
+        ensures any_moment { D.told → (doubted : Kept) → IsStoodOn self.old.state.kept doubted (D.meaning self.old.disk) self.old.seat
+            → LeavesSince (StepLeaves self.old.state (event_at client ask.now self.new.reading) doubted) (D.meaning self.old.disk) (D.meaning self.new.disk) }
+        ensures time { Passes (D.meaning self.old.disk) (D.meaning self.new.disk) }
+        ensures cost { StepCosts self.old.state (event_at client ask.now self.new.reading) (mend_bytes self.old.seat.doubt) result (D.meaning self.old.disk).written (D.meaning self.new.disk).written }
+        ensures cause { StepCause result (D.faults self.old.disk) (D.faults self.new.disk) }
+    {
+        self.answer_counted::<Brand>(alloc, client, ask, Blank::new(1))
+    }
+
+    // The step of `answer`, which counts on the blank.
+    fn answer_counted<L: Ledger>(
+        &mut self,
+        alloc: Global,
+        client: ClientNo,
+        ask: &Ask,
+        blank: Blank,
+    ) -> Said
+        requires client { client.0 ≢ 0 }
+        requires name { blank.name ≡ L.name }
+        requires parts { blank.parts ≡ L.parts }
+        requires some { 0 < L.parts }
+        ensures step { StepsBy self.old.state (event_at client ask.now self.new.reading) result self.new.state }
+        ensures moves { StepMoves self.old.state (event_at client ask.now self.new.reading) self.new.state result self.old.seat self.new.seat }
+        ensures full { (needed limit : ℕ) → result ≡ Said.Full needed limit → Exceeds self.old.state (event_at client ask.now self.new.reading) self.old.seat needed limit }
+        ensures tries { HistoryGoesOn D.told D.meaning D.faults C.ticking client ask.now self.old self.new result }
+        ensures settled { result ≢ Said.Disk → self.new.seat.doubt ≡ Doubt.Settled }
+        ensures in_doubt { result ≡ Said.Disk → self.new.seat.doubt ≢ Doubt.Settled }
+        ensures kept { D.told → result ≢ Said.Disk → IsKeptOn self.new.state.kept (D.meaning self.new.disk) self.new.seat }
+        ensures untouched { IsLeftOut result → self.old.seat.doubt ≡ Doubt.Settled → self.new.disk ≡ self.old.disk }
+        ensures mended { D.told → IsLeftOut result → (D.meaning self.new.disk).reads ≡ mended_reads self.old.seat.doubt self.old.seat (D.meaning self.old.disk).reads }
+        ensures any_moment { D.told → (doubted : Kept) → IsStoodOn self.old.state.kept doubted (D.meaning self.old.disk) self.old.seat
+            → LeavesSince (StepLeaves self.old.state (event_at client ask.now self.new.reading) doubted) (D.meaning self.old.disk) (D.meaning self.new.disk) }
+        ensures time { Passes (D.meaning self.old.disk) (D.meaning self.new.disk) }
+        ensures cost { StepCosts self.old.state (event_at client ask.now self.new.reading) (mend_bytes self.old.seat.doubt) result (D.meaning self.old.disk).written (D.meaning self.new.disk).written }
+        ensures cause { StepCause result (D.faults self.old.disk) (D.faults self.new.disk) }
+    {
+        let mut steps = Steps::<L>::new(blank);
+        self.step(alloc, client, ask, &mut steps)
     }
 
     // Ends the doubt of a step that couldn't be written.
