@@ -18,7 +18,7 @@ HadBefore None drawn back handed finished = (handed ≡ 0) × (finished ≡ 0)
 HadBefore (Some v) drawn back handed finished = (v.handed ≡ handed + drawn) × (length v.finished ≡ finished + back)
 
 -- The door stands for these entries: its opening to a lobby with these counts, and one draw for each connection that it drew.
--- The lobby's count of faults is the one of then, or rose where the door has failed.
+-- The lobby's count of faults is still that one, or rose where the door has failed.
 pub record DoorStands (visits : Option Visits) (faults drawn back : ℕ) (failed : Bool) (entries : List DoorEntry) : Type 0 where
   pub handed : ℕ
   pub finished : ℕ
