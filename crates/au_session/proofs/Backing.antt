@@ -10,7 +10,7 @@ use Rattle.au_session.specs.declared.drawn.DoorEntry.{DoorEntry}
 use Rattle.au_session.specs.declared.drawn.DoorEntry.TheVariants.{Opened, Drew}
 use Rattle.au_session.specs.Answered.{Answered, AllAnswered}
 use Rattle.au_session.specs.Backed.{Backed}
-use Rattle.au_session.specs.Stands.{drew, Differ, DoorStands}
+use Rattle.au_session.specs.Stands.{drew, DoorStands, HadBefore}
 
 pub backed_start : (o : Option Visits) → IfSome o (λ v. length v.finished ≤ v.handed) → Backed o 0 0
 backed_start None h = tt
@@ -66,9 +66,9 @@ backed_back (Some v) n t d b h a k = subst (λ (x : Option Visits). Backed x d (
 drew_next : (n : ℕ) → drew (n + 1) ≡ drew n ++ Drew (record { 0 = n + 1 }) ∷ []
 drew_next n = ap (λ (k : ℕ). drew k) (add-one n) ∙ ap (λ (k : ℕ). drew n ++ Drew (record { 0 = k }) ∷ []) (sym (add-one n))
 
-differ_drawn : {L : Type 0} (o n : Option Visits) (told : L → Told) (link : L) (d b handed finished : ℕ) → Hands told o n (next.Link link) → Differ o d b handed finished → Differ n (d + 1) b handed finished
-differ_drawn None n told link d b handed finished h k = subst (λ (x : Option Visits). Differ x (d + 1) b handed finished) (sym h) k
-differ_drawn (Some v) n told link d b handed finished h k = subst (λ (x : Option Visits). Differ x (d + 1) b handed finished) (sym h.after) (omega (arith, k.0), k.1)
+before_drawn : {L : Type 0} (o n : Option Visits) (told : L → Told) (link : L) (d b handed finished : ℕ) → Hands told o n (next.Link link) → HadBefore o d b handed finished → HadBefore n (d + 1) b handed finished
+before_drawn None n told link d b handed finished h k = subst (λ (x : Option Visits). HadBefore x (d + 1) b handed finished) (sym h) k
+before_drawn (Some v) n told link d b handed finished h k = subst (λ (x : Option Visits). HadBefore x (d + 1) b handed finished) (sym h.after) (omega (arith, k.0), k.1)
 
 -- one more was drawn
 pub stands_drawn : {L : Type 0} (o n : Option Visits) (told : L → Told) (link : L) (faults now d b : ℕ) (failed : Bool) (history : List DoorEntry) → Hands told o n (next.Link link) → now ≡ faults
@@ -78,7 +78,7 @@ stands_drawn o n told link faults now d b failed history h well s = record {
   finished = s.finished;
   count = s.count;
   list = ap (λ (l : List DoorEntry). l ++ Drew (record { 0 = d + 1 }) ∷ []) s.list ∙ ap (λ (l : List DoorEntry). Opened s.handed s.finished s.count ∷ l) (sym (drew_next d));
-  differ = differ_drawn o n told link d b s.handed s.finished h s.differ;
+  before = before_drawn o n told link d b s.handed s.finished h s.before;
   sound = λ other. s.sound other ∙ sym well;
   rose = λ set. subst (λ (k : ℕ). HasRisen s.count k) (sym well) (s.rose set);
 }

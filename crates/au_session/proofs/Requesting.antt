@@ -1,8 +1,6 @@
 -- How the service of a connection goes on and ends.
-use Rattle.std.proofs.Common.{◌≡◌, ◌≢◌, inl, inr, ℕ, Bool, true, false, List, [], ◌∷◌, ◌++◌, length, drop, arith, refl, sym, ap, ◌∙◌, subst, append-nil}
-use Rattle.std.proofs.lemmas.Bool.Decides.{nat_tests}
-use Rattle.std.proofs.lemmas.List.{nil_from_length}
-use Rattle.std.specs.Prelude.{◌==◌, Option}
+use Rattle.std.proofs.Common.{◌≡◌, inl, inr, ℕ, true, false, List, [], ◌∷◌, ◌++◌, drop, refl, sym, ap, ◌∙◌, subst, append-nil}
+use Rattle.std.specs.Prelude.{Option}
 use Rattle.au_base.specs.declared.numbers.ClientNo.{ClientNo}
 use Rattle.au_http.specs.declared.requests.Need.{Need}
 use Rattle.au_http.specs.declared.requests.Need.TheVariants.{Bad, Got, More}
@@ -16,12 +14,10 @@ use Rattle.au_turn.specs.declared.pass.Pass.{Pass}
 use Rattle.au_turn.specs.Pass.{WentOnBy}
 use Rattle.au_session.specs.declared.ended.Ended.{Ended}
 use Rattle.au_session.specs.declared.ended.Ended.TheVariants as ended
-use Rattle.au_session.specs.declared.refill.Refill.{Refill}
-use Rattle.au_session.specs.declared.refill.Refill.TheVariants as refill
 use Rattle.au_session.specs.Entries.{AllLeave, Leaves}
 use Rattle.au_session.specs.Exchanges.{AreGiven, EndsWith, Exchange, response_of, responses_of}
-use Rattle.au_session.specs.Session.{Served, Talk}
-use Rattle.au_session.specs.descent.Calls.{IsGiven, IsRefilled, IsRefusedBy, IsUngiven}
+use Rattle.au_session.specs.Session.{EndsBy, Served, Talk}
+use Rattle.au_session.specs.descent.Calls.{IsGiven, IsRefusedBy, IsTaken, IsUngiven, IsUntaken}
 use Rattle.au_session.specs.descent.Serving.{Serving}
 use Rattle.au_session.proofs.Exchanging.{leave_next, open_next, responses_next}
 use Rattle.au_session.proofs.Talking.{no_ending, talk_asked, talk_given, talk_start, talk_taken, talk_went}
@@ -29,21 +25,6 @@ use Rattle.au_session.proofs.Talking.{no_ending, talk_asked, talk_given, talk_st
 -- what is needed of bytes that are those of the buffer
 pub needs_at : (bytes buffer : List ℕ) (need n : Need) → Needs bytes need → bytes ≡ buffer → need ≡ n → Needs buffer n
 needs_at bytes buffer need n needs same is = subst (λ (m : Need). Needs buffer m) is (subst (λ (l : List ℕ). Needs l need) same needs)
-
-same_number : (m n : ℕ) → (m == n) ≡ true → m ≡ n
-same_number m n is = grind (arith, nat_tests)
-
--- a test that a list is empty, by its length
-pub empty_of : (items : List ℕ) (len : ℕ) (test : Bool) → len ≡ length items → test ≡ (len == 0) → test ≡ true → items ≡ []
-empty_of items len test full is holds =
-    let zero : len ≡ 0 = same_number len 0 (sym is ∙ holds) in
-    nil_from_length items (sym full ∙ zero)
-
-pub some_of : (items : List ℕ) (len : ℕ) (test : Bool) → len ≡ length items → test ≡ (len == 0) → test ≡ false → items ≢ []
-some_of items len test full is fails = λ (none : items ≡ []).
-    let zero : len ≡ 0 = full ∙ ap (λ (l : List ℕ). length l) none in
-    let both : true ≡ false = sym (ap (λ (n : ℕ). n == 0) zero) ∙ sym is ∙ fails in
-    absurd (cc both)
 
 abbrev told : Option (List ℕ) → Option (List ℕ) → Option (List ℕ) → ℕ → Told
 told left taken given faults = record { left = left; taken = taken; given = given; faults = faults }
@@ -90,72 +71,50 @@ module _ {T : Type 0} (client : ClientNo) (f : Told) (p : Pass T Entry) where
       ends = (s.well, inl all_given);
     }
 
-    module _ (stay : (bytes : List ℕ) → KeepRequests bytes) (h : Told) (now : List ℕ) where
+    module _ (stay : (bytes : List ℕ) → KeepRequests bytes) (h : Told) where
       -- more bytes came
-      pub serving_taken : IsRefilled buffer now g h refill.More → Serving client f h p q now
-      serving_taken r = record {
+      pub serving_taken : (now : List ℕ) → IsTaken buffer now g h → Serving client f h p q now
+      serving_taken now r = record {
         exchanges = s.exchanges;
         made = s.made;
         left = s.left;
-        talk = subst (λ (l : List ℕ). Talk f h p q s.exchanges l (responses_of s.exchanges) s.made) (sym r.by.0)
+        talk = subst (λ (l : List ℕ). Talk f h p q s.exchanges l (responses_of s.exchanges) s.made) (sym r.buffer)
             (talk_taken f p g q s.exchanges buffer (responses_of s.exchanges) s.made s.talk stay h r.bytes r.left r.taken r.given);
         unclosed = s.unclosed;
-        well = r.by.1 ∙ s.well;
+        well = r.well ∙ s.well;
       }
 
-      -- more bytes came, and there was no memory to keep them
-      pub taken_memory : IsRefilled buffer now g h refill.Memory → Served client f h p q ended.Memory []
-      taken_memory r = record {
+      -- the bytes behind the requests, once these were taken
+      taken_talk : (end : Ended) (r : IsUntaken buffer g h end) → Talk f h p q s.exchanges (buffer ++ r.bytes) (responses_of s.exchanges) (s.made ++ [])
+      taken_talk end r = no_ending f p h q s.exchanges (buffer ++ r.bytes) (responses_of s.exchanges) s.made
+          (talk_taken f p g q s.exchanges buffer (responses_of s.exchanges) s.made s.talk stay h r.bytes r.left r.taken r.given)
+
+      -- nothing more was taken
+      served_taking : (end : Ended) (r : IsUntaken buffer g h end) → r.bytes ≡ [] → EndsBy f h s.exchanges buffer (responses_of s.exchanges) end → Served client f h p q end []
+      served_taking end r none ends = record {
+        exchanges = s.exchanges;
+        rest = buffer;
+        gave = responses_of s.exchanges;
+        made = s.made;
+        left = s.left;
+        talk = subst (λ (l : List ℕ). Talk f h p q s.exchanges l (responses_of s.exchanges) (s.made ++ [])) (ap (λ (l : List ℕ). buffer ++ l) none ∙ append-nil buffer) (taken_talk end r);
+        ends = ends;
+      }
+
+      -- the connection ends where more of a request is asked for
+      pub untaken : (end : Ended) → Needs buffer More → IsUntaken buffer g h end → Served client f h p q end []
+      untaken ended.Closed need r = served_taking ended.Closed r r.why.0 (r.why.3 ∙ s.well, inl (record { given = all_given; unwhole = need; ended = r.why.2 }, r.why.1))
+      untaken ended.Cut need r = served_taking ended.Cut r r.why.0 (r.why.3 ∙ s.well, record { given = all_given; unwhole = need; ended = r.why.2 }, r.why.1)
+      untaken ended.LinkFault need r = served_taking ended.LinkFault r r.why.0 (subst (λ (n : ℕ). HasRisen n h.faults) s.well r.why.1, inl (all_given, need))
+      untaken (ended.Refused status) need r = absurd r.why
+      untaken ended.Memory need r = record {
         exchanges = s.exchanges;
         rest = buffer ++ r.bytes;
         gave = responses_of s.exchanges;
         made = s.made;
         left = s.left;
-        talk = no_ending f p h q s.exchanges (buffer ++ r.bytes) (responses_of s.exchanges) s.made
-            (talk_taken f p g q s.exchanges buffer (responses_of s.exchanges) s.made s.talk stay h r.bytes r.left r.taken r.given);
-        ends = (r.by ∙ s.well, inl all_given);
-      }
-
-      -- no byte came
-      none_taken : (refilled : Refill) (r : IsRefilled buffer now g h refilled) → r.bytes ≡ [] → Talk f h p q s.exchanges buffer (responses_of s.exchanges) (s.made ++ [])
-      none_taken refilled r none = no_ending f p h q s.exchanges buffer (responses_of s.exchanges) s.made
-          (subst (λ (l : List ℕ). Talk f h p q s.exchanges l (responses_of s.exchanges) s.made) (ap (λ (l : List ℕ). buffer ++ l) none ∙ append-nil buffer)
-          (talk_taken f p g q s.exchanges buffer (responses_of s.exchanges) s.made s.talk stay h r.bytes r.left r.taken r.given))
-
-      -- the connection ended between two requests
-      pub taken_closed : Needs buffer More → IsRefilled buffer now g h refill.End → now ≡ [] → Served client f h p q ended.Closed []
-      taken_closed need r empty = record {
-        exchanges = s.exchanges;
-        rest = buffer;
-        gave = responses_of s.exchanges;
-        made = s.made;
-        left = s.left;
-        talk = none_taken refill.End r r.by.1;
-        ends = (r.by.3 ∙ s.well, inl (record { given = all_given; unwhole = need; ended = r.by.2 }, sym r.by.0 ∙ empty));
-      }
-
-      -- it ended inside a request
-      pub taken_cut : Needs buffer More → IsRefilled buffer now g h refill.End → now ≢ [] → Served client f h p q ended.Cut []
-      taken_cut need r some = record {
-        exchanges = s.exchanges;
-        rest = buffer;
-        gave = responses_of s.exchanges;
-        made = s.made;
-        left = s.left;
-        talk = none_taken refill.End r r.by.1;
-        ends = (r.by.3 ∙ s.well, record { given = all_given; unwhole = need; ended = r.by.2 }, λ (e : buffer ≡ []). some (r.by.0 ∙ e));
-      }
-
-      -- it failed
-      pub taken_fault : Needs buffer More → IsRefilled buffer now g h refill.Failed → Served client f h p q ended.LinkFault []
-      taken_fault need r = record {
-        exchanges = s.exchanges;
-        rest = buffer;
-        gave = responses_of s.exchanges;
-        made = s.made;
-        left = s.left;
-        talk = none_taken refill.Failed r r.by.1;
-        ends = (subst (λ (n : ℕ). HasRisen n h.faults) s.well r.by.2, inl (all_given, need));
+        talk = taken_talk ended.Memory r;
+        ends = (r.why ∙ s.well, inl all_given);
       }
 
     -- the next request is refused

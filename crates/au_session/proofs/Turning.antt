@@ -1,19 +1,52 @@
--- Sessions that are over.
-use Rattle.std.proofs.Common.{◌≡◌, ℕ, true, false, List, Some, None, refl, sym, subst}
+-- Steps in a turn, and sessions that are over.
+use Rattle.std.proofs.Common.{◌≡◌, inl, inr, ⊎_elim, ℕ, false, List, ◌++◌, Some, None, refl, sym, subst}
 use Rattle.std.specs.Prelude.{Option, is_some}
+use Rattle.au_base.specs.declared.ask.Ask.{Ask}
 use Rattle.au_base.specs.declared.ask.Ask.TheVariants.{Logoff}
 use Rattle.au_base.specs.declared.numbers.ClientNo.{ClientNo}
 use Rattle.au_base.specs.declared.reply.Reply.{Reply}
 use Rattle.au_base.specs.declared.reply.Said.{Said}
 use Rattle.au_base.specs.declared.reply.Said.TheVariants.{Replied, Disk, Full, Memory}
+use Rattle.au_io.specs.Disk.{Meaning}
+use Rattle.au_io.specs.Time.{Ticking}
 use Rattle.au_step.specs.Sessions.{IsOff}
 use Rattle.au_step.specs.State.{State, stamp_of}
 use Rattle.au_step.specs.Step.{Logged, LoggedStep}
 use Rattle.au_store.specs.declared.entry.Entry.{Entry}
-use Rattle.au_store.specs.History.{Tells}
+use Rattle.au_store.specs.History.{Fails, HistoryGoesOn, StandsFor, Tells, TriedTells}
 use Rattle.au_store.specs.Steps.{StepsBy, event_at}
-use Rattle.au_session.specs.Entries.{IsEnding, is_replied}
+use Rattle.au_store.specs.Stored.{Stored}
+use Rattle.au_session.specs.Entries.{IsEnding, IsReply, Leaves}
 use Rattle.au_session.specs.Entries.IsEnding.{replied}
+
+-- the entries of a step that was tried are those of a step
+tells_tried : (client : ClientNo) (ask : Ask) (reading : ℕ) (answer : Said) (made : List Entry) → TriedTells client ask reading answer made → Tells client ask reading answer made
+tells_tried client ask reading (Replied reply) made tells = tells
+tells_tried client ask reading Disk made tells = inl tells
+tells_tried client ask reading (Full needed limit) made tells = tells
+tells_tried client ask reading Memory made tells = tells
+
+-- and so is the one of a step that couldn't mend
+tells_unmended : (client : ClientNo) (ask : Ask) (reading : ℕ) (answer : Said) (made : List Entry) → answer ≡ Disk → Fails client ask None made → Tells client ask reading answer made
+tells_unmended client ask reading answer made failed fails = subst (λ (a : Said). Tells client ask reading a made) (sym failed) (inr fails)
+
+-- a list goes on by what a deed tells of the step
+pub deed_goes_on : {D C : Type 0} (told : Type 0) (meaning : D → Meaning) (faults : D → ℕ) (ticking : C → Option Ticking) (client : ClientNo) (ask : Ask) (old new : Stored D C) (answer : Said) (reading : ℕ) (entries : List Entry)
+    → HistoryGoesOn told meaning faults ticking client ask old new answer → reading ≡ new.reading → StandsFor told meaning faults old entries
+    → (made : List Entry) × Tells client ask reading answer made × StandsFor told meaning faults new (entries ++ made)
+deed_goes_on told meaning faults ticking client ask old new answer reading entries (inl tries) is stands =
+    let on = tries.1 entries stands in
+    (on.0, subst (λ (n : ℕ). Tells client ask n answer on.0) (sym is) (tells_tried client ask new.reading answer on.0 on.1), on.2)
+deed_goes_on told meaning faults ticking client ask old new answer reading entries (inr tries) is stands =
+    let on = tries.1 entries stands in
+    (on.0, tells_unmended client ask reading answer on.0 tries.0.failed on.1, on.2)
+
+-- a step leaves the entries that it tells
+pub leaves_told : (client : ClientNo) (ask : Ask) (reading : ℕ) (answer : Said) (made : List Entry) → Tells client ask reading answer made → Leaves client ask answer made
+leaves_told client ask reading (Replied reply) made tells = (reading, tells)
+leaves_told client ask reading Disk made tells = ⊎_elim (λ tried. (Some reading, tried)) (λ unmended. (None, unmended)) tells
+leaves_told client ask reading (Full needed limit) made tells = (reading, tells)
+leaves_told client ask reading Memory made tells = tells
 
 pub none_of : {X : Type 0} (o : Option X) → is_some o ≡ false → o ≡ None
 none_of None e = refl
@@ -24,15 +57,13 @@ abbrev pub EndsSessions : Type 0
 EndsSessions = (m n : State) (client : ClientNo) (stamp : ℕ) (reply : Reply) (logged : Logged) → LoggedStep m client Logoff stamp reply logged n → IsOff n.sessions client
 
 -- a client whose LOGOFF was replied to has no session
-pub off_replied : EndsSessions → (m n : State) (client : ClientNo) (reading : ℕ) (answer : Said) → StepsBy m (event_at client Logoff reading) answer n → is_replied answer ≡ true → IsOff n.sessions client
-off_replied law m n client reading (Replied reply) step is = law m n client (stamp_of m reading) reply step.0 step.1
-off_replied law m n client reading Disk step is = absurd (cc is)
-off_replied law m n client reading (Full needed limit) step is = absurd (cc is)
-off_replied law m n client reading Memory step is = absurd (cc is)
+pub off_replied : EndsSessions → (m n : State) (client : ClientNo) (reading : ℕ) (answer : Said) → StepsBy m (event_at client Logoff reading) answer n → IsReply answer → IsOff n.sessions client
+off_replied law m n client reading answer step is =
+    let logged = subst (λ (a : Said). StepsBy m (event_at client Logoff reading) a n) is.1 step in
+    law m n client (stamp_of m reading) is.0 logged.0 logged.1
 
 -- what such a LOGOFF left ends the session
-pub ending_replied : (client : ClientNo) (reading : ℕ) (answer : Said) (made : List Entry) → Tells client Logoff reading answer made → is_replied answer ≡ true → IsEnding client made
-ending_replied client reading (Replied reply) made tells is = subst (λ (m : List Entry). IsEnding client m) (sym tells) (replied reading reply)
-ending_replied client reading Disk made tells is = absurd (cc is)
-ending_replied client reading (Full needed limit) made tells is = absurd (cc is)
-ending_replied client reading Memory made tells is = absurd (cc is)
+pub ending_replied : (client : ClientNo) (answer : Said) (made : List Entry) → Leaves client Logoff answer made → IsReply answer → IsEnding client made
+ending_replied client answer made leaves is =
+    let stepped = subst (λ (a : Said). Leaves client Logoff a made) is.1 leaves in
+    subst (λ (m : List Entry). IsEnding client m) (sym stepped.1) (replied stepped.0 is.0)

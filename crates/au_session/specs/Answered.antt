@@ -1,5 +1,5 @@
 -- Connections that were answered.
-use Rattle.std.specs.Prelude.{◌≡◌, ◌⊎◌, ℕ, Bool, true, false, List, [], ◌∷◌, Option, Some, ⊤}
+use Rattle.std.specs.Prelude.{◌≡◌, ◌≢◌, ◌⊎◌, ℕ, List, [], ◌∷◌, Option, Some, ⊤}
 use Rattle.au_http.specs.Pipelines.{AreRequests}
 use Rattle.au_http.specs.Responses.{refusal_text}
 use Rattle.au_io.specs.Visits.{Told}
@@ -7,8 +7,8 @@ use Rattle.au_session.specs.declared.ended.Ended.{Ended}
 use Rattle.au_session.specs.declared.ended.Ended.TheVariants as ended
 use Rattle.au_session.specs.Exchanges.{AreGivenAnd, Exchange, IsOver, LastCloses, requests_of, responses_of}
 
--- One response was given to each whole request that was taken, in order. Behind them the refusal was given of what is
--- refused, and nothing else. Nothing is left to be taken, unless the last response closes the connection.
+-- One response was given to each whole request that was taken, in order. Behind them stands the refusal, where what follows is
+-- refused, and nothing else. Nothing is left to be taken, unless the last response closes the connection or is a refusal.
 pub record AnsweredBy (bytes out : List ℕ) (left : Option (List ℕ)) : Type 0 where
   pub exchanges : List Exchange
   pub rest : List ℕ
@@ -20,14 +20,11 @@ pub record AnsweredBy (bytes out : List ℕ) (left : Option (List ℕ)) : Type 0
 abbrev pub Answered : Told → Type 0
 Answered t = t.faults ≡ 0 → (bytes out : List ℕ) → t.taken ≡ Some bytes → t.given ≡ Some out → AnsweredBy bytes out t.left
 
+-- each of the connections was answered
 abbrev pub AllAnswered : List Told → Type 0
 AllAnswered [] = ⊤
 AllAnswered (t ∷ ts) = Answered t × AllAnswered ts
 
-abbrev pub is_memory : Ended → Bool
-is_memory ended.Memory = true
-is_memory _ = false
-
--- a connection that was served was answered, unless there was no memory
-abbrev pub IsBack : Ended → Told → Type 0
-IsBack end t = is_memory end ≡ false → Answered t
+-- a connection that ended in this way may come back to its door: it was answered, unless there was no memory
+abbrev pub MayComeBack : Ended → Told → Type 0
+MayComeBack end t = end ≢ ended.Memory → Answered t

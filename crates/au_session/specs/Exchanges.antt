@@ -16,13 +16,15 @@ pub record Exchange : Type 0 where
   pub close : Bool
   pub said : Said
 
+-- the request of an exchange
 abbrev pub request_of : Exchange → Request
 request_of x = (x.ask, x.close)
 
+-- the requests, in order
 abbrev pub requests_of : List Exchange → List Request
 requests_of xs = map request_of xs
 
--- the response to one request
+-- the response of an exchange
 abbrev pub response_of : Exchange → List ℕ
 response_of x = response_text (status_of x.ask x.said) x.close (said_text x.said)
 

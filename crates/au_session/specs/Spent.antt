@@ -1,11 +1,6 @@
 -- Why a door hands out nothing.
-use Rattle.std.specs.Prelude.{◌≡◌, ◌⊎◌, ◌==◌, ◌^◌, ◌-◌, ℕ, Bool, true, false, [], Option, None, Some, IfSome}
+use Rattle.std.specs.Prelude.{◌≡◌, ◌⊎◌, ◌^◌, ◌-◌, ℕ, Bool, true, [], Option, None, Some, IfSome}
 use Rattle.au_io.specs.Visits.{Visits}
-
--- the bound is reached
-abbrev pub is_zero : Option ℕ → Bool
-is_zero None = false
-is_zero (Some left) = left == 0
 
 -- the bound once one more was handed out
 abbrev pub one_less : Option ℕ → Option ℕ
@@ -18,4 +13,4 @@ NoneLeft visits = IfSome visits (λ v. v.left ≡ [])
 
 -- the bound or the last number is reached, the lobby has failed, or it has no connection left
 abbrev pub IsSpent : Option Visits → Option ℕ → ℕ → Bool → Type 0
-IsSpent visits left drawn failed = (is_zero left ≡ true) ⊎ ((drawn ≡ 2 ^ 32 - 1) ⊎ ((failed ≡ true) ⊎ NoneLeft visits))
+IsSpent visits left drawn failed = (left ≡ Some 0) ⊎ ((drawn ≡ 2 ^ 32 - 1) ⊎ ((failed ≡ true) ⊎ NoneLeft visits))

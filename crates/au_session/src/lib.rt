@@ -4,7 +4,6 @@
 mod door;
 mod drawn;
 mod ended;
-mod refill;
 mod serving;
 mod streams;
 mod turns;

@@ -5,13 +5,12 @@ ghost use Rattle.au_http.specs.Replies.{said_text};
 ghost use Rattle.au_http.specs.Responses.{IsRefusal, refusal_text, response_text, status_of};
 ghost use Rattle.au_store.specs.declared.entry.Entry.{Entry};
 ghost use Rattle.au_turn.specs.Pass.{IsIdle, IsPassOf, seen};
-ghost use Rattle.au_session.specs.Answered.{IsBack};
+ghost use Rattle.au_session.specs.Answered.{MayComeBack};
 ghost use Rattle.au_session.specs.Entries.{IsEnding, IsGone};
 ghost use Rattle.au_session.specs.Session.{Served, told_of};
 ghost use Rattle.au_session.specs.descent.Calls.{IsGiven, IsRefusedBy, IsUngiven};
 
 use crate::ended::Ended;
-use crate::refill::Refill;
 use crate::streams::{LinkFault, give_all, take_more};
 use crate::turns::{ask_once, end_session};
 use au_base::{Ask, ClientNo, Said};
@@ -42,7 +41,7 @@ pub fn serve_session<R: Wait, K: Link, D: Disk, C: Clock>(
     ensures served { (ending : List Entry) × IsEnding client ending
         × Served client (told_of K.left K.taken K.given K.faults link.old) (told_of K.left K.taken K.given K.faults link.new) pass.old pass.new result ending }
     ensures gone { IsGone client (seen pass.new) }
-    ensures back { IsFresh (told_of K.left K.taken K.given K.faults link.old) → IsBack result (told_of K.left K.taken K.given K.faults link.new) }
+    ensures back { IsFresh (told_of K.left K.taken K.given K.faults link.old) → MayComeBack result (told_of K.left K.taken K.given K.faults link.new) }
 {
     let ended = serve_requests(rt, alloc, link, turn, pass, client);
     // The peer needn't wait for the end of the session.
@@ -73,16 +72,14 @@ fn serve_requests<R: Wait, K: Link, D: Disk, C: Clock>(
             return Ended::Memory;
         };
         match need {
-            Need::More => match take_more(link, &mut buffer) {
-                Refill::More => {}
-                Refill::End if buffer.is_empty() => return Ended::Closed,
-                Refill::End => return Ended::Cut,
-                Refill::Failed => return Ended::LinkFault,
-                Refill::Memory => return Ended::Memory,
-            },
+            Need::More => {
+                if let Err(ended) = take_more(link, &mut buffer) {
+                    return ended;
+                }
+            }
             Need::Got { used, ask, close } => {
                 let said = ask_once(rt, alloc, turn, pass, client, &ask);
-                if let Err(ended) = respond(alloc, link, &ask, &said, close) {
+                if let Err(ended) = respond(alloc, link, ask, said, close) {
                     return ended;
                 }
                 if close {
@@ -96,18 +93,22 @@ fn serve_requests<R: Wait, K: Link, D: Disk, C: Clock>(
     unreachable!()
 }
 
-// Gives the response to a request.
+// Gives the response to a request. What was asked and what was said is dropped before, since a peer
+// may take its time.
 fn respond<K: Link>(
     alloc: Global,
     link: &mut K,
-    ask: &Ask,
-    said: &Said,
+    ask: Ask,
+    said: Said,
     close: bool,
 ) -> Result<(), Ended>
-    ensures ok { OnOk result (IsGiven (response_text (status_of ask.now said.now) close (said_text said.now)) (told_of K.left K.taken K.given K.faults link.old) (told_of K.left K.taken K.given K.faults link.new)) }
-    ensures err { IfErr result (IsUngiven (response_text (status_of ask.now said.now) close (said_text said.now)) (told_of K.left K.taken K.given K.faults link.old) (told_of K.left K.taken K.given K.faults link.new)) }
+    ensures ok { OnOk result (IsGiven (response_text (status_of ask said) close (said_text said)) (told_of K.left K.taken K.given K.faults link.old) (told_of K.left K.taken K.given K.faults link.new)) }
+    ensures err { IfErr result (IsUngiven (response_text (status_of ask said) close (said_text said)) (told_of K.left K.taken K.given K.faults link.old) (told_of K.left K.taken K.given K.faults link.new)) }
 {
-    let Ok(text) = response(alloc, ask, said, close) else {
+    let text = response(alloc, &ask, &said, close);
+    drop(ask);
+    drop(said);
+    let Ok(text) = text else {
         return Err(Ended::Memory);
     };
     match give_all(link, &text) {
@@ -127,7 +128,7 @@ fn refuse<K: Link>(link: &mut K, status: u16) -> Ended
     }
 }
 
-// Takes away the first so many bytes.
+// Takes away the first `used` bytes.
 fn drop_front(buffer: &mut Vec<u8>, used: usize)
     requires { used ≤ length buffer.old.items }
     ensures { buffer.new.items ≡ drop used buffer.old.items }

@@ -1,9 +1,9 @@
 //! Bytes from and to a connection.
-ghost use Rattle.std.specs.Prelude.{OnOk, OnErr};
+ghost use Rattle.std.specs.Prelude.{OnOk, OnErr, IfErr};
 ghost use Rattle.au_session.specs.Session.{told_of};
-ghost use Rattle.au_session.specs.descent.Calls.{IsGiven, IsGivenInPart, IsRefilled};
+ghost use Rattle.au_session.specs.descent.Calls.{IsGiven, IsGivenInPart, IsTaken, IsUntaken};
 
-use crate::refill::Refill;
+use crate::ended::Ended;
 use au_io::{Gave, Link, Took};
 
 /// The connection failed.
@@ -13,18 +13,20 @@ pub(crate) struct LinkFault;
 // How many bytes are asked for at once.
 const ROOM: usize = 4_096;
 
-/// Takes the next bytes of the connection to the end of the buffer.
-pub(crate) fn take_more<K: Link>(link: &mut K, buffer: &mut Vec<u8>) -> Refill
-    ensures { IsRefilled buffer.old.items buffer.new.items (told_of K.left K.taken K.given K.faults link.old) (told_of K.left K.taken K.given K.faults link.new) result }
+/// Takes the next bytes of the connection to the end of the buffer, or says why it ends.
+pub(crate) fn take_more<K: Link>(link: &mut K, buffer: &mut Vec<u8>) -> Result<(), Ended>
+    ensures ok { OnOk result (IsTaken buffer.old.items buffer.new.items (told_of K.left K.taken K.given K.faults link.old) (told_of K.left K.taken K.given K.faults link.new)) }
+    ensures err { IfErr result (IsUntaken buffer.old.items (told_of K.left K.taken K.given K.faults link.old) (told_of K.left K.taken K.given K.faults link.new)) }
 {
     let mut room = [0u8; ROOM];
     match link.take(&mut room) {
         Took::Bytes(count) => match buffer.extend_from_slice(&room[..count]) {
-            Ok(()) => Refill::More,
-            Err(_) => Refill::Memory,
+            Ok(()) => Ok(()),
+            Err(_) => Err(Ended::Memory),
         },
-        Took::End => Refill::End,
-        Took::Failed => Refill::Failed,
+        Took::End if buffer.is_empty() => Err(Ended::Closed),
+        Took::End => Err(Ended::Cut),
+        Took::Failed => Err(Ended::LinkFault),
     }
 }
 

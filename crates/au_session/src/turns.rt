@@ -1,22 +1,19 @@
 //! Turns of a client at the store.
-ghost use Rattle.std.specs.Prelude.{◌≡◌, ◌≢◌, ◌<◌, ◌∷◌, [], List, true, false};
+ghost use Rattle.std.specs.Prelude.{◌≡◌, ◌≢◌, ◌∷◌, [], List, IsTrue, ◌↔◌, true, false};
 ghost use Rattle.au_store.specs.declared.entry.Entry.{Entry};
 ghost use Rattle.au_store.specs.declared.entry.Entry.TheVariants as entry;
-ghost use Rattle.au_store.specs.History.{HistoryGoesOn};
-ghost use Rattle.au_store.specs.Steps.{StepsBy, event_at};
-ghost use Rattle.au_turn.specs.Pass.{IsIdle, IsPassOf, WentOnBy, seen};
-ghost use Rattle.au_session.specs.Entries.{IsEnding, IsGone, Leaves, is_replied};
-ghost use Rattle.au_session.specs.descent.Endings.{IsLoggedOff, IsStillOn};
+ghost use Rattle.au_store.specs.History.{StandsFor};
+ghost use Rattle.au_turn.specs.Pass.{IsHeld, IsIdle, IsPassOf, WentOnBy, seen};
+ghost use Rattle.au_session.specs.Entries.{IsEnding, IsGone, IsReply, Leaves};
+ghost use Rattle.au_session.specs.descent.Turns.{IsLoggedOff, IsStillOn, StepsHeld};
 
-use au_base::{Ask, ClientNo, Said, Steps};
+use au_base::{Ask, ClientNo, Said};
 use au_io::{Clock, Disk};
 use au_step::{clients_have_one_session, ends_stay_lawful};
 use au_store::{Deed, Store};
 use au_turn::{Pass, Turn};
 use std::alloc::Global;
-use std::marker::Brand;
 use std::sync::Wait;
-use std::sync::ledger::{Blank, Ledger};
 
 /// Does what the client asks, in a turn of its own.
 pub(crate) fn ask_once<R: Wait, D: Disk, C: Clock>(
@@ -34,8 +31,29 @@ pub(crate) fn ask_once<R: Wait, D: Disk, C: Clock>(
     ensures idle { IsIdle pass.new }
     ensures went { (came : List Entry) × (made : List Entry) × Leaves client ask.now result made × WentOnBy came made pass.old pass.new }
 {
-    let mut store = turn.take(rt, pass);
-    let said = step(alloc, &mut store, client, ask);
+    let store = turn.take(rt, pass);
+    answer_held(alloc, turn, pass, store, client, ask)
+}
+
+// Answers the client by one step of the store that the pass holds, and gives the store back.
+fn answer_held<D: Disk, C: Clock>(
+    alloc: Global,
+    turn: &Turn<Store<D, C>>,
+    pass: &mut Pass<Store<D, C>>,
+    store: Store<D, C>,
+    client: ClientNo,
+    ask: &Ask,
+) -> Said
+    requires client { client.0 ≢ 0 }
+    requires own { IsPassOf turn.now pass.old }
+    requires held { IsHeld pass.old }
+    requires value { StandsFor D.told D.meaning D.faults store (seen pass.old) }
+    ensures own { IsPassOf turn.now pass.new }
+    ensures idle { IsIdle pass.new }
+    ensures step { StepsHeld client ask.now result store.state pass.old pass.new }
+{
+    let mut store = store;
+    let said = store.answer(alloc, client, ask);
     let deed = Deed::Stepped {
         client,
         ask,
@@ -86,25 +104,17 @@ fn log_off<R: Wait, D: Disk, C: Clock>(
     ensures on { result ≡ false → IsStillOn client pass.old pass.new }
 {
     clients_have_one_session();
-    let mut store = turn.take(rt, pass);
+    let store = turn.take(rt, pass);
     if !store.stands(client) {
         turn.give_back(pass, store, &Deed::Nothing);
         return true;
     }
-    let ask = Ask::Logoff;
-    let said = step(alloc, &mut store, client, &ask);
-    let deed = Deed::Stepped {
-        client,
-        ask: &ask,
-        said: &said,
-        reading: store.reading(),
-    };
-    turn.give_back(pass, store, &deed);
-    is_replied(&said)
+    let said = answer_held(alloc, turn, pass, store, client, &Ask::Logoff);
+    is_reply(&said)
 }
 
-fn is_replied(said: &Said) -> bool
-    ensures { result ≡ is_replied said.now }
+fn is_reply(said: &Said) -> bool
+    ensures { IsTrue result ↔ IsReply said.now }
 {
     match said {
         Said::Replied(_) => true,
@@ -131,36 +141,4 @@ fn abandon<R: Wait, D: Disk, C: Clock>(
     store.abandon(client);
     let deed = Deed::Abandoned(client);
     turn.give_back(pass, store, &deed);
-}
-
-// One step of the store, whose count of audit policies nobody asks for.
-fn step<D: Disk, C: Clock>(
-    alloc: Global,
-    store: &mut Store<D, C>,
-    client: ClientNo,
-    ask: &Ask,
-) -> Said
-    requires client { client.0 ≢ 0 }
-    ensures step { StepsBy store.old.state (event_at client ask.now store.new.reading) result store.new.state }
-    ensures history { HistoryGoesOn D.told D.meaning D.faults client ask.now store.old store.new result }
-{
-    counted_step::<D, C, Brand>(alloc, store, client, ask, Blank::new(1))
-}
-
-fn counted_step<D: Disk, C: Clock, L: Ledger>(
-    alloc: Global,
-    store: &mut Store<D, C>,
-    client: ClientNo,
-    ask: &Ask,
-    blank: Blank,
-) -> Said
-    requires client { client.0 ≢ 0 }
-    requires name { blank.name ≡ L.name }
-    requires parts { blank.parts ≡ L.parts }
-    requires some { 0 < L.parts }
-    ensures step { StepsBy store.old.state (event_at client ask.now store.new.reading) result store.new.state }
-    ensures history { HistoryGoesOn D.told D.meaning D.faults client ask.now store.old store.new result }
-{
-    let mut steps = Steps::<L>::new(blank);
-    store.step(alloc, client, ask, &mut steps)
 }

@@ -1,5 +1,5 @@
 -- What came of a call on a connection.
-use Rattle.std.specs.Prelude.{◌≡◌, ℕ, List, [], ◌++◌}
+use Rattle.std.specs.Prelude.{◌≡◌, ◌≢◌, ℕ, List, [], ◌++◌}
 use Rattle.std.specs.Io.KnownBytes.{Consumes, IsAtEnd}
 use mathlib.Core.List.{IsPrefix}
 use Rattle.au_io.specs.Faults.{HasRisen}
@@ -7,32 +7,41 @@ use Rattle.au_io.specs.Stream.{Grows}
 use Rattle.au_io.specs.Visits.{Told}
 use Rattle.au_session.specs.declared.ended.Ended.{Ended}
 use Rattle.au_session.specs.declared.ended.Ended.TheVariants as ended
-use Rattle.au_session.specs.declared.refill.Refill.{Refill}
-use Rattle.au_session.specs.declared.refill.Refill.TheVariants.{More, End, Failed, Memory}
 
--- more bytes were asked for, to be put behind those of the buffer
-abbrev pub IsRefilledBy : List ℕ → (old new : List ℕ) → (f g : Told) → Refill → Type 0
-IsRefilledBy bytes old new f g More = (new ≡ old ++ bytes) × (g.faults ≡ f.faults)
-IsRefilledBy bytes old new f g End = (new ≡ old) × (bytes ≡ []) × IsAtEnd g.left × (g.faults ≡ f.faults)
-IsRefilledBy bytes old new f g Failed = (new ≡ old) × (bytes ≡ []) × HasRisen f.faults g.faults
-IsRefilledBy bytes old new f g Memory = g.faults ≡ f.faults
+-- bytes were taken, and put behind those of the buffer
+pub record IsTaken (old new : List ℕ) (f g : Told) : Type 0 where
+  pub bytes : List ℕ
+  pub buffer : new ≡ old ++ bytes
+  pub left : Consumes f.left g.left bytes
+  pub taken : Grows f.taken g.taken bytes
+  pub given : g.given ≡ f.given
+  pub well : g.faults ≡ f.faults
 
--- bytes were taken, and nothing was given
-pub record IsRefilled (old new : List ℕ) (f g : Told) (refill : Refill) : Type 0 where
+-- why no bytes were put behind those of the buffer: the connection ended, with an empty buffer or with another; it failed; or
+-- there was no memory for what was taken
+abbrev pub EndsTaking : (bytes buffer : List ℕ) → (f g : Told) → Ended → Type 0
+EndsTaking bytes buffer f g ended.Closed = (bytes ≡ []) × (buffer ≡ []) × IsAtEnd g.left × (g.faults ≡ f.faults)
+EndsTaking bytes buffer f g ended.Cut = (bytes ≡ []) × (buffer ≢ []) × IsAtEnd g.left × (g.faults ≡ f.faults)
+EndsTaking bytes buffer f g ended.LinkFault = (bytes ≡ []) × HasRisen f.faults g.faults
+EndsTaking bytes buffer f g ended.Memory = g.faults ≡ f.faults
+EndsTaking bytes buffer f g (ended.Refused status) = ⊥
+
+-- bytes were taken, or none, and not put behind those of the buffer
+pub record IsUntaken (buffer : List ℕ) (f g : Told) (end : Ended) : Type 0 where
   pub bytes : List ℕ
   pub left : Consumes f.left g.left bytes
   pub taken : Grows f.taken g.taken bytes
   pub given : g.given ≡ f.given
-  pub by : IsRefilledBy bytes old new f g refill
+  pub why : EndsTaking bytes buffer f g end
 
--- so much was given, nothing was taken, and there was no fault
+-- this text was given, nothing was taken, and there was no fault
 pub record IsGiven (text : List ℕ) (f g : Told) : Type 0 where
   pub given : Grows f.given g.given text
   pub left : g.left ≡ f.left
   pub taken : g.taken ≡ f.taken
   pub well : g.faults ≡ f.faults
 
--- a front of it was given, nothing was taken, and there was a fault
+-- a front of this text was given, nothing was taken, and there was a fault
 pub record IsGivenInPart (text : List ℕ) (f g : Told) : Type 0 where
   pub front : List ℕ
   pub begins : IsPrefix front text
@@ -47,7 +56,7 @@ IsUngiven text f g ended.LinkFault = IsGivenInPart text f g
 IsUngiven text f g ended.Memory = g ≡ f
 IsUngiven text f g _ = ⊥
 
--- a refusal with this status was given, or the connection failed
+-- the refusal with this status was given, or the connection failed
 abbrev pub IsRefusedBy : ℕ → List ℕ → (f g : Told) → Ended → Type 0
 IsRefusedBy status text f g (ended.Refused given) = (given ≡ status) × IsGiven text f g
 IsRefusedBy status text f g ended.LinkFault = IsGivenInPart text f g

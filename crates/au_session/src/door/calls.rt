@@ -1,10 +1,10 @@
 //! The calls of a door.
-ghost use Rattle.std.specs.Prelude.{◌≡◌, ◌⊎◌, ◌<◌, ◌≤◌, ◌+◌, ◌++◌, true, false, List, IfSome, IsNone};
+ghost use Rattle.std.specs.Prelude.{◌≡◌, ◌≢◌, ◌⊎◌, ◌↔◌, ◌<◌, ◌≤◌, ◌+◌, ◌++◌, true, false, List, IfSome, IsNone, IsTrue, Some};
 ghost use Rattle.au_io.specs.Visits.{Finishes, IsFresh};
-ghost use Rattle.au_session.specs.Answered.{IsBack, is_memory};
+ghost use Rattle.au_session.specs.Answered.{MayComeBack};
 ghost use Rattle.au_session.specs.declared.drawn.DoorEntry.{DoorEntry as AnyEntry};
 ghost use Rattle.au_session.specs.Session.{told_of};
-ghost use Rattle.au_session.specs.Spent.{IsSpent, is_zero, one_less};
+ghost use Rattle.au_session.specs.Spent.{IsSpent, one_less};
 ghost use Rattle.au_session.specs.Stands.{DoorStands, drawn_entries, drawn_number, first_of};
 
 use super::Door;
@@ -29,7 +29,7 @@ impl<L: Lobby> Made<Door<L>> for Drawn {
 }
 
 impl<L: Lobby> Door<L> {
-    /// A door at which at most so many connections are drawn, or all that come.
+    /// A door at which at most `left` connections are drawn, or all that come.
     pub fn new(lobby: L, left: Option<u32>) -> Door<L>
         ensures first { first_of (L.visits result.lobby) (L.faults result.lobby) result.drawn result.back result.failed ≡ first_of (L.visits lobby) (L.faults lobby) 0 0 false }
         ensures lobby { result.lobby ≡ lobby }
@@ -55,7 +55,7 @@ impl<L: Lobby> Door<L> {
         ensures fresh { IfSome result (λ drew. IsFresh (told_of L.Link.left L.Link.taken L.Link.given L.Link.faults drew.1)) }
         ensures history { (history : List AnyEntry) → DoorStands (L.visits self.old.lobby) (L.faults self.old.lobby) self.old.drawn self.old.back self.old.failed history
             → DoorStands (L.visits self.new.lobby) (L.faults self.new.lobby) self.new.drawn self.new.back self.new.failed (history ++ drawn_entries (drawn_number result)) }
-        ensures open { IfSome result (λ _. (is_zero self.old.left ≡ false) × (self.old.failed ≡ false)) }
+        ensures open { IfSome result (λ _. (self.old.left ≢ Some 0) × (self.old.failed ≡ false)) }
         ensures lowers { IfSome result (λ _. self.new.left ≡ one_less self.old.left) }
         ensures stays { IsNone result → self.new.left ≡ self.old.left }
         ensures same { (self.new.back ≡ self.old.back) × (self.new.short ≡ self.old.short) }
@@ -81,12 +81,12 @@ impl<L: Lobby> Door<L> {
     /// Takes back a connection that was served. Where that ended for want of memory, or as many are back
     /// as were drawn, it is dropped, and the lobby doesn't get it back as finished.
     pub fn take_back(&mut self, link: L::Link, ended: &Ended)
-        requires { IsBack ended.now (told_of L.Link.left L.Link.taken L.Link.given L.Link.faults link) }
+        requires { MayComeBack ended.now (told_of L.Link.left L.Link.taken L.Link.given L.Link.faults link) }
         ensures history { (history : List AnyEntry) → DoorStands (L.visits self.old.lobby) (L.faults self.old.lobby) self.old.drawn self.old.back self.old.failed history
             → DoorStands (L.visits self.new.lobby) (L.faults self.new.lobby) self.new.drawn self.new.back self.new.failed history }
-        ensures finished { is_memory ended.now ≡ false → self.old.back < self.old.drawn → (self.new.back ≡ self.old.back + 1) × ((self.new.short ≡ self.old.short)
+        ensures finished { ended.now ≢ Ended.Memory → self.old.back < self.old.drawn → (self.new.back ≡ self.old.back + 1) × ((self.new.short ≡ self.old.short)
             × Finishes (L.visits self.old.lobby) (L.visits self.new.lobby) (told_of L.Link.left L.Link.taken L.Link.given L.Link.faults link)) }
-        ensures dropped { (is_memory ended.now ≡ true) ⊎ (self.old.drawn ≤ self.old.back) → (self.new.back ≡ self.old.back) × ((self.new.short ≡ true) × (L.visits self.new.lobby ≡ L.visits self.old.lobby)) }
+        ensures dropped { (ended.now ≡ Ended.Memory) ⊎ (self.old.drawn ≤ self.old.back) → (self.new.back ≡ self.old.back) × ((self.new.short ≡ true) × (L.visits self.new.lobby ≡ L.visits self.old.lobby)) }
         ensures same { (self.new.left ≡ self.old.left) × ((self.new.drawn ≡ self.old.drawn) × (self.new.failed ≡ self.old.failed)) }
     {
         if !is_memory(ended) && self.back < self.drawn {
@@ -114,7 +114,7 @@ impl<L: Lobby> Door<L> {
 }
 
 fn is_zero(left: Option<u32>) -> bool
-    ensures { result ≡ is_zero left }
+    ensures { IsTrue result ↔ (left ≡ Some 0) }
 {
     match left {
         Some(left) => left == 0,
@@ -123,7 +123,7 @@ fn is_zero(left: Option<u32>) -> bool
 }
 
 fn is_memory(ended: &Ended) -> bool
-    ensures { result ≡ is_memory ended.now }
+    ensures { IsTrue result ↔ (ended.now ≡ Ended.Memory) }
 {
     match ended {
         Ended::Memory => true,

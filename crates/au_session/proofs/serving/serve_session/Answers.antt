@@ -1,6 +1,6 @@
 use Rattle.std.proofs.Common.{sym, subst}
 use Rattle.au_io.specs.Visits.{Told}
-use Rattle.au_session.specs.Answered.{IsBack}
+use Rattle.au_session.specs.Answered.{MayComeBack}
 use Rattle.au_session.specs.Session.{Served, told_of}
 use Rattle.au_session.proofs.Closing.{served_back}
 use Rattle.au_session.proofs.Requesting.{same_told, served_ended}
@@ -26,5 +26,5 @@ returns-clause-back g c = λ fresh.
     let told = told_of s.left s.taken s.given s.faults in
     let shut = c.shut.ensures in
     let same = same_told (told c.serve_requests-ended.new.link) (told c.shut.new.self) shut.left shut.taken shut.given shut.faults in
-    subst (λ (t : Told). IsBack c.serve_requests-ended.result t) (sym same)
+    subst (λ (t : Told). MayComeBack c.serve_requests-ended.result t) (sym same)
     (served_back c.args.client (told c.args.link.now) (told c.serve_requests-ended.new.link) c.args.pass.now c.serve_requests-ended.new.pass c.serve_requests-ended.result _ fresh c.serve_requests-ended.ensures.served)
