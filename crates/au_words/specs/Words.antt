@@ -1,7 +1,7 @@
 -- The words after the program's name.
 use Rattle.std.specs.Prelude.{◌≡◌, ◌≢◌, ◌⊎◌, ◌<◌, ◌≤◌, ℕ, ◌^◌, List, [], ◌∷◌, ◌++◌, length, codes, Option, Some, None, IsPermutation}
 use Rattle.std.specs.Str.Parse.{IsNumeral, digits_value, without_leading_plus}
-use Rattle.au_base.specs.Limits.{JOURNAL_LIMIT_DEFAULT, JOURNAL_LIMIT_MAX, JOURNAL_LIMIT_MIN, PASSWORD_BYTES, SAMPLE_ROWS, WORKERS}
+use Rattle.au_base.specs.Limits.{JOURNAL_LIMIT_DEFAULT, JOURNAL_LIMIT_MAX, JOURNAL_LIMIT_MIN, PASSWORD_BYTES, SAMPLE_ROWS}
 use Rattle.au_words.specs.declared.command.Command.{Command}
 use Rattle.au_words.specs.declared.command.Command.TheVariants as command
 
@@ -109,42 +109,6 @@ pub record IsSample (words : List (List ℕ)) (seed rows : ℕ) : Type 0 where
   pub seed_is : IsNumber seed_text seed
   pub rows_is : IsRowsText rows_text rows
 
--- ---- `serve`
-
-abbrev pub port_name : List ℕ
-port_name = codes "port"
-
-abbrev pub workers_name : List ℕ
-workers_name = codes "workers"
-
-abbrev pub connections_name : List ℕ
-connections_name = codes "connections"
-
--- the text is a port
-abbrev pub IsPortText : List ℕ → ℕ → Type 0
-IsPortText text port = IsNumber text port × (1 ≤ port) × (port ≤ 65_535)
-
--- the text is a number of workers
-abbrev pub IsWorkersText : List ℕ → ℕ → Type 0
-IsWorkersText text workers = IsNumber text workers × (1 ≤ workers) × (workers ≤ WORKERS)
-
--- the option's text is a number of connections, or the option isn't given and the number is 0
-abbrev pub IsConnectionsOf : Option (List ℕ) → ℕ → Type 0
-IsConnectionsOf None connections = connections ≡ 0
-IsConnectionsOf (Some text) connections = IsNumber text connections
-
--- the word `serve`, and options that name a port, a number of workers and perhaps one of connections
-pub record IsServe (words : List (List ℕ)) (port workers connections : ℕ) : Type 0 where
-  pub options : List (List ℕ)
-  pub port_text : List ℕ
-  pub workers_text : List ℕ
-  pub connections_text : Option (List ℕ)
-  pub split : words ≡ codes "serve" ∷ options
-  pub reads : AreOptions ((port_name, Some port_text) ∷ (workers_name, Some workers_text) ∷ (connections_name, connections_text) ∷ []) options
-  pub port_is : IsPortText port_text port
-  pub workers_is : IsWorkersText workers_text workers
-  pub connections_is : IsConnectionsOf connections_text connections
-
 -- ---- the command
 
 -- the words are this command
@@ -154,4 +118,3 @@ IsCommand words command.Run = IsRun words
 IsCommand words command.Trail = IsTrail words
 IsCommand words command.Check = IsCheck words
 IsCommand words (command.Sample seed rows) = IsSample words seed rows
-IsCommand words (command.Serve port workers connections) = IsServe words port workers connections

@@ -2,9 +2,8 @@
 ghost use Rattle.std.specs.Prelude.{◌≡◌, ◌∷◌, ℕ, List, IfOk, MatchOption, codes};
 ghost use Rattle.clap.specs.Words.{app_of};
 ghost use Rattle.au_words.specs.descent.Options.{FindsSample, options_app, sample_options};
-ghost use Rattle.au_words.specs.Words.{IsRowsText, IsSample};
+ghost use Rattle.au_words.specs.Words.{IsNumber, IsRowsText, IsSample};
 
-use crate::numbers::number_of;
 use crate::options::{matches_of, str_words};
 use au_base::limits::SAMPLE_ROWS;
 use au_base::{Memory, Text};
@@ -48,6 +47,16 @@ fn seed_and_rows(found: &ArgMatches<'_>) -> Option<(u32, u32)>
     let seed = number_of(found.get_str("seed")?)?;
     let rows = rows_of(found.get_str("rows")?)?;
     Some((seed, rows))
+}
+
+// The number that the text is.
+fn number_of(text: &str) -> Option<u32>
+    ensures { MatchOption result ((number : ℕ) → IsNumber text.now number → ⊥) (λ number. IsNumber text.now number) }
+{
+    match text.parse::<u32>() {
+        Ok(number) => Some(number),
+        Err(_) => None,
+    }
 }
 
 // The number of rows that the text is.
