@@ -14,4 +14,3 @@ pub mod Placing
 mod PrivilegeLemmas
 pub mod SamenessDecides
 pub mod SameLemmas
-mod Uppercase

@@ -91,15 +91,13 @@ pub const BODY_BYTES: usize = 262_144;
 pub const BODY_DEPTH: usize = 127;
 
 /// The most connections that one `serve` hands out, and the number of its last client. After the
-/// last it ends; it comes with the command `serve`, which isn't built yet.
+/// last it ends.
 pub const CONNECTIONS: u32 = 4_294_967_295;
 
-/// The most workers of `serve`. Beyond it the words are no command; it comes with the command
-/// `serve`, which isn't built yet.
+/// The most workers of `serve`. Beyond it the words are no command.
 pub const WORKERS: u32 = 64;
 
-/// The most rows of `sample`. Beyond it the words are no command; it comes with the command
-/// `sample`, which isn't built yet.
+/// The most rows of `sample`. Beyond it the words are no command.
 pub const SAMPLE_ROWS: u32 = 100_000;
 
 /// The most action parts of an audit policy. Beyond it 99003; it comes with ALTER AUDIT POLICY,

@@ -36,3 +36,8 @@ sample_alone P s r is seed rows same =
     let one : s ≡ seed = cc in
     let other : r ≡ rows = cc in
     subst (λ (n : ℕ). P seed n) other (subst (λ (n : ℕ). P n r) one is)
+
+pub serve_alone : (P : ℕ → Type 0) (p w n : ℕ) → P n → (port workers connections : ℕ) → word.Serve p w n ≡ word.Serve port workers connections → P connections
+serve_alone P p w n is port workers connections same =
+    let number : n ≡ connections = cc in
+    subst P number is

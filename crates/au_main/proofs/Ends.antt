@@ -71,7 +71,7 @@ open_says told all (fault.Damaged area at) before after says cause = says
 open_says told all fault.Worn before after says cause = says
 open_says told all fault.Memory before after says cause = tt
 
-open_completes : (told : Type 0) (all : Areas) (why : OpenFault) (before after : ℕ) → (told → OpenSays all why) → OpenCause why before after → told → IsReady all → NoneRose before after → IsDoneOrShort (status_of why)
+pub open_completes : (told : Type 0) (all : Areas) (why : OpenFault) (before after : ℕ) → (told → OpenSays all why) → OpenCause why before after → told → IsReady all → NoneRose before after → IsDoneOrShort (status_of why)
 open_completes told all fault.Disk before after says cause tells ready none = absurd (none cause.1)
 open_completes told all fault.Unformatted before after says cause tells ready none = absurd (ready.formatted (says tells))
 open_completes told all (fault.Damaged area at) before after says cause tells ready none = absurd (ready.whole area at (says tells))
@@ -151,7 +151,7 @@ module _ (told : Type 0) (password : List ℕ) (limit : ℕ) (old new : Meaning)
   init_is_a_command status to is = subst (λ (s : Status). InitTo s told password limit old new before after) is to
 
 -- where the bytes are why no store can be opened
-over_by : (status : Status) (why found : OpenFault) → status ≡ status_of found → (IsOfBytes found → found ≡ why) → IsEndOr (status_of why) status
+pub over_by : (status : Status) (why found : OpenFault) → status ≡ status_of found → (IsOfBytes found → found ≡ why) → IsEndOr (status_of why) status
 over_by status why fault.Disk is same = inr (inl is)
 over_by status why fault.Memory is same = inr (inr is)
 over_by status why fault.Unformatted is same = inl (is ∙ ap status_of (same tt))

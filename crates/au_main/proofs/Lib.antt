@@ -12,3 +12,4 @@ pub mod Pieces
 pub mod Running
 pub mod Runs
 pub mod Sampled
+pub mod Served

@@ -25,3 +25,8 @@ EndSays WriteFault told all before now = ⊤
 EndSays (BadLine line) told all before now = ⊤
 EndSays TooLong told all before now = ⊤
 EndSays Memory told all before now = ⊤
+
+-- why a command that may have a lobby ends so: where the lobby failed, its count of faults rose
+abbrev pub TopSays : Status → (told : Type 0) → Areas → (before now : ℕ) → (lobby lobby_now : ℕ) → Type 0
+TopSays LobbyFault told all before now lobby lobby_now = HasRisen lobby lobby_now
+TopSays status told all before now lobby lobby_now = EndSays status told all before now

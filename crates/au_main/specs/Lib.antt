@@ -9,5 +9,6 @@ pub mod Means
 pub mod OnDisk
 pub mod Ran
 pub mod Samples
+pub mod Serves
 pub mod Status
 pub mod descent

@@ -13,6 +13,7 @@ mod next_line;
 mod refill;
 mod run;
 mod sampling;
+mod serve;
 mod status;
 mod stop;
 mod stretch;

@@ -43,8 +43,8 @@ pub(crate) fn run<S: Source, W: Sink, D: Disk, C: Clock>(
     }
 }
 
-// How a run ends where no store was opened.
-fn unopened_status(why: OpenFault) -> Status
+/// How a command ends where no store was opened.
+pub(crate) fn unopened_status(why: OpenFault) -> Status
     ensures { result ≡ status_of why }
 {
     match why {

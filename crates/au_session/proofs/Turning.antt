@@ -1,6 +1,7 @@
 -- Steps in a turn, and sessions that are over.
-use Rattle.std.proofs.Common.{◌≡◌, inl, inr, ⊎_elim, ℕ, false, List, ◌++◌, Some, None, refl, sym, subst}
-use Rattle.std.specs.Prelude.{Option, is_some}
+use Rattle.std.proofs.Common.{◌≡◌, inl, inr, ⊎_elim, ℕ, true, false, List, ◌++◌, Some, None, refl, sym, ap, subst}
+use Rattle.std.specs.Prelude.{Option, MatchOption, is_some}
+use Rattle.au_base.specs.Codes.{DONE, NOT_LOGGED_ON}
 use Rattle.au_base.specs.declared.ask.Ask.{Ask}
 use Rattle.au_base.specs.declared.ask.Ask.TheVariants.{Logoff}
 use Rattle.au_base.specs.declared.numbers.ClientNo.{ClientNo}
@@ -10,8 +11,8 @@ use Rattle.au_base.specs.declared.reply.Said.TheVariants.{Replied, Disk, Full, M
 use Rattle.au_io.specs.Disk.{Meaning}
 use Rattle.au_io.specs.Time.{Ticking}
 use Rattle.au_step.specs.Sessions.{IsOff}
-use Rattle.au_step.specs.State.{State, stamp_of}
-use Rattle.au_step.specs.Step.{Logged, LoggedStep}
+use Rattle.au_step.specs.State.{OpenSession, State, stamp_of}
+use Rattle.au_step.specs.Step.{CodeStep, EndStep, Logged, LoggedStep, session_of}
 use Rattle.au_store.specs.declared.entry.Entry.{Entry}
 use Rattle.au_store.specs.History.{Fails, HistoryGoesOn, StandsFor, Tells, TriedTells}
 use Rattle.au_store.specs.Steps.{StepsBy, event_at}
@@ -62,8 +63,16 @@ off_replied law m n client reading answer step is =
     let logged = subst (λ (a : Said). StepsBy m (event_at client Logoff reading) a n) is.1 step in
     law m n client (stamp_of m reading) is.0 logged.0 logged.1
 
--- what such a LOGOFF left ends the session
-pub ending_replied : (client : ClientNo) (answer : Said) (made : List Entry) → Leaves client Logoff answer made → IsReply answer → IsEnding client made
-ending_replied client answer made leaves is =
+done_where : (found : Option OpenSession) → is_some found ≡ true → (m n : State) (client : ClientNo) (stamp : ℕ) (reply : Reply) (logged : Logged)
+    → MatchOption found (CodeStep m NOT_LOGGED_ON reply logged n) (λ seat. EndStep m seat.session client stamp reply logged n) → reply.code ≡ DONE
+done_where None is m n client stamp reply logged step = absurd (cc is)
+done_where (Some seat) is m n client stamp reply logged step = ap (λ r. r.code) step.replies
+
+-- the LOGOFF of a client that has a session is done where it is replied to, and what it left ends the session
+pub ending_replied : (m n : State) (client : ClientNo) (reading : ℕ) (answer : Said) (made : List Entry) → is_some (session_of m.sessions client) ≡ true
+    → StepsBy m (event_at client Logoff reading) answer n → Leaves client Logoff answer made → IsReply answer → IsEnding client made
+ending_replied m n client reading answer made on step leaves is =
+    let logged = subst (λ (a : Said). StepsBy m (event_at client Logoff reading) a n) is.1 step in
     let stepped = subst (λ (a : Said). Leaves client Logoff a made) is.1 leaves in
-    subst (λ (m : List Entry). IsEnding client m) (sym stepped.1) (replied stepped.0 is.0)
+    subst (λ (l : List Entry). IsEnding client l) (sym stepped.1)
+    (replied stepped.0 is.0 (done_where (session_of m.sessions client) on m n client (stamp_of m reading) is.0 logged.0 logged.1))

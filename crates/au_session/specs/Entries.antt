@@ -2,6 +2,7 @@
 use Rattle.std.specs.Prelude.{◌≡◌, ℕ, List, [], ◌∷◌, ◌++◌, Option}
 use Rattle.au_base.specs.declared.ask.Ask.{Ask}
 use Rattle.au_base.specs.declared.ask.Ask.TheVariants.{Logoff}
+use Rattle.au_base.specs.Codes.{DONE}
 use Rattle.au_base.specs.declared.numbers.ClientNo.{ClientNo}
 use Rattle.au_base.specs.declared.reply.Reply.{Reply}
 use Rattle.au_base.specs.declared.reply.Said.{Said}
@@ -35,8 +36,8 @@ IsReply answer = (reply : Reply) × (answer ≡ said.Replied reply)
 pub data IsEnding (client : ClientNo) : List Entry → Type 0 where
   -- none, since the client had no session
   none : IsEnding client []
-  -- that of its LOGOFF, which was replied to
-  replied : (reading : ℕ) (reply : Reply) → IsEnding client (Stepped client Logoff reading reply ∷ [])
+  -- that of its LOGOFF, which was done
+  replied : (reading : ℕ) (reply : Reply) → reply.code ≡ DONE → IsEnding client (Stepped client Logoff reading reply ∷ [])
   -- those of its LOGOFF, which wasn't replied to, and the one of its session, which was abandoned
   abandoned : (answer : Said) (made : List Entry) → Leaves client Logoff answer made → (IsReply answer → ⊥) → IsEnding client (made ++ Abandoned client ∷ [])
 

@@ -7,10 +7,9 @@ use Rattle.clap.specs.Matches.{first_value, found_of}
 use Rattle.clap.specs.Simple.{App, matches_of}
 use Rattle.clap.specs.Walk.{Text, first_of, rows_of}
 use Rattle.clap.specs.declared.parser.matches.ArgMatches.{ArgMatches}
-use Rattle.clap.proofs.WalkLemmas.{first_value-rows}
 use Rattle.au_words.specs.descent.Options.{FindsInit, IsFormed, init_options, options_app}
 use Rattle.au_words.specs.Words.{AreOptions, IsInit, IsLimitOf, limit_name, password_name}
-use Rattle.au_words.proofs.OptionLaws.{AreNames, IsFound, IsTaken, given, taken}
+use Rattle.au_words.proofs.OptionLaws.{AreNames, IsFound, IsTaken, given, taken, value_is}
 
 abbrev pub app : App
 app = options_app (codes "init") init_options
@@ -31,13 +30,13 @@ pub no_init : (words : List Text) → (All IsFormed words → fault_of app words
 no_init words none password limit x = let t = is_taken words password limit x in none t.formed t.passes
 
 module _ (words : List Text) (m : ArgMatches) (found : IsFound app words (rows_of (found_of m))) where
-  value_is : (id : Text) → first_value (found_of m) id ≡ first_of id (matches_of app words)
-  value_is id = first_value-rows (found_of m) id ∙ ap (first_of id) found.rows_are
+  value_at : (name : Text) → first_value (found_of m) name ≡ first_of name (matches_of app words)
+  value_at = value_is app words m found
 
   finds : (password : Text) (limit : ℕ) → IsInit (codes "init" ∷ words) password limit → FindsInit m password limit
   finds password limit x =
       let t = is_taken words password limit x in
-      (value_is password_name ∙ t.values.0, x.may_be, subst (λ (o : Option Text). IsLimitOf o limit) (sym (value_is limit_name ∙ t.values.1.0)) x.limit_is)
+      (value_at password_name ∙ t.values.0, x.may_be, subst (λ (o : Option Text). IsLimitOf o limit) (sym (value_at limit_name ∙ t.values.1.0)) x.limit_is)
 
   is_init : (password : Text) (limit : ℕ) → FindsInit m password limit → IsInit (codes "init" ∷ words) password limit
   is_init password limit is =
@@ -47,9 +46,9 @@ module _ (words : List Text) (m : ArgMatches) (found : IsFound app words (rows_o
         options = words;
         limit_text = here;
         split = refl;
-        reads = subst (λ (o : Option Text). AreOptions ((password_name, o) ∷ (limit_name, here) ∷ []) words) (sym (value_is password_name) ∙ is.0) g.are;
+        reads = subst (λ (o : Option Text). AreOptions ((password_name, o) ∷ (limit_name, here) ∷ []) words) (sym (value_at password_name) ∙ is.0) g.are;
         may_be = is.1;
-        limit_is = subst (λ (o : Option Text). IsLimitOf o limit) (value_is limit_name) is.2;
+        limit_is = subst (λ (o : Option Text). IsLimitOf o limit) (value_at limit_name) is.2;
       }
 
   pub init_read : {E : Type 0} (r : Result (Option (Text × ℕ)) E) → IfOk r (λ o. MatchOption o ((password : Text) (limit : ℕ) → FindsInit m password limit → ⊥) (λ init. FindsInit m init.0 init.1))

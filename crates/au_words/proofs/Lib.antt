@@ -2,4 +2,5 @@ pub mod InitLaws
 pub mod OneLaws
 pub mod OptionLaws
 pub mod SampleLaws
+pub mod ServeLaws
 pub mod WalkLaws

@@ -11,7 +11,7 @@ use Rattle.std.proofs.lemmas.Map.Keys.{IsDistinct-IsPermutation, IsDistinct-head
 use Rattle.std.proofs.lemmas.Slice.Eq.{bytes_eq-Decides}
 use Rattle.clap.specs.Faults.{built_fault, default_fault, defaults_fault, fault_of, given_default_fault, settle_fault, walk_fault}
 use Rattle.clap.specs.Kinds.{Kinds, or_else}
-use Rattle.clap.specs.Matches.{found_of}
+use Rattle.clap.specs.Matches.{first_value, found_of}
 use Rattle.clap.specs.Simple.{App, built, filled_from, matches_of, names_of}
 use Rattle.clap.specs.Takes.{is_given}
 use Rattle.clap.specs.Values.{reading_of}
@@ -22,6 +22,7 @@ use Rattle.clap.specs.declared.parser.matches.ArgMatches.{ArgMatches}
 use Rattle.clap.specs.declared.parser.matches.ValueSource.TheVariants.{CommandLine}
 use Rattle.clap.proofs.CutLemmas.{Lacks}
 use Rattle.clap.proofs.FaultLemmas.{leaf_fault}
+use Rattle.clap.proofs.WalkLemmas.{first_value-rows}
 use Rattle.au_words.specs.descent.Options.{Finds, IsFormed, option_of, options_app}
 use Rattle.au_words.specs.Words.{AreInTurn, AreOptions, IsOption, dashed, given_of, perhaps}
 use Rattle.au_words.proofs.WalkLaws.{HasOptions, IsNamed, Lacks-cons, Passes, Reads, all_fault, at, built_shape, complete, ends, first_none, more_than_none, option_rule, or_else_assoc, rows_behind, second_none, sound, takes, with_option}
@@ -655,15 +656,22 @@ not_without es first more is are = go are.0 (subst (λ (l : List Given). IsPermu
 
 -- ---- what was found
 
--- the text of an option that is given
-pub named_text : (o : Option Text) (P : Text → Type 0) → IsSomeAnd o P → (text : Text) × (o ≡ Some text) × P text
-named_text None P is = absurd is
-named_text (Some text) P is = (text, refl, is)
-
 pub record IsFound (app : App) (words : List Text) (rows : List Row) : Type 0 where
   pub formed : All IsFormed words
   pub passes : fault_of app words ≡ []
   pub rows_are : rows ≡ matches_of app words
+
+module _ (command : App) (words : List Text) (m : ArgMatches) (found : IsFound command words (rows_of (found_of m))) where
+  pub value_is : (name : Text) → first_value (found_of m) name ≡ first_of name (matches_of command words)
+  value_is name = first_value-rows (found_of m) name ∙ ap (first_of name) found.rows_are
+
+  -- the text of an option that is given
+  pub named_text : (name : Text) (P : Text → Type 0) → IsSomeAnd (first_value (found_of m) name) P → (text : Text) × (first_of name (matches_of command words) ≡ Some text) × P text
+  named_text name P is = go (first_value (found_of m) name) (value_is name) is
+    where
+      go : (o : Option Text) → o ≡ first_of name (matches_of command words) → IsSomeAnd o P → (text : Text) × (first_of name (matches_of command words) ≡ Some text) × P text
+      go None same is = absurd is
+      go (Some text) same is = (text, sym same, is)
 
 pub some_found : (asked command : App) (ws words : List Text) (o : Option ArgMatches) (found : ArgMatches) → asked ≡ command → ws ≡ words → Finds asked ws o → o ≡ Some found
     → IsFound command words (rows_of (found_of found))

@@ -7,10 +7,10 @@ use Rattle.clap.specs.Matches.{first_value, found_of}
 use Rattle.clap.specs.Simple.{App, matches_of}
 use Rattle.clap.specs.Walk.{Text, first_of, rows_of}
 use Rattle.clap.specs.declared.parser.matches.ArgMatches.{ArgMatches}
-use Rattle.clap.proofs.WalkLemmas.{first_value-rows}
 use Rattle.au_words.specs.descent.Options.{FindsSample, IsFormed, options_app, sample_options}
-use Rattle.au_words.specs.Words.{AreOptions, IsNumber, IsRowsText, IsSample, rows_name, seed_name}
-use Rattle.au_words.proofs.OptionLaws.{AreNames, IsFound, IsTaken, given, named_text, taken}
+use Rattle.au_base.specs.Limits.{SAMPLE_ROWS}
+use Rattle.au_words.specs.Words.{AreOptions, IsNumber, IsNumberWithin, IsSample, rows_name, seed_name}
+use Rattle.au_words.proofs.OptionLaws.{AreNames, IsFound, IsTaken, given, named_text, taken, value_is}
 
 abbrev pub app : App
 app = options_app (codes "sample") sample_options
@@ -30,23 +30,21 @@ pub no_sample : (words : List Text) → (All IsFormed words → fault_of app wor
 no_sample words none seed rows x = let t = is_taken words seed rows x in none t.formed t.passes
 
 module _ (words : List Text) (m : ArgMatches) (found : IsFound app words (rows_of (found_of m))) where
-  value_is : (id : Text) → first_value (found_of m) id ≡ first_of id (matches_of app words)
-  value_is id = first_value-rows (found_of m) id ∙ ap (first_of id) found.rows_are
+  value_at : (name : Text) → first_value (found_of m) name ≡ first_of name (matches_of app words)
+  value_at = value_is app words m found
 
   finds : (seed rows : ℕ) → IsSample (codes "sample" ∷ words) seed rows → FindsSample m seed rows
   finds seed rows x =
       let t = is_taken words seed rows x in (
-        subst (λ (o : Option Text). IsSomeAnd o (λ text. IsNumber text seed)) (sym (value_is seed_name ∙ t.values.0)) x.seed_is,
-        subst (λ (o : Option Text). IsSomeAnd o (λ text. IsRowsText text rows)) (sym (value_is rows_name ∙ t.values.1.0)) x.rows_is,
+        subst (λ (o : Option Text). IsSomeAnd o (λ text. IsNumber text seed)) (sym (value_at seed_name ∙ t.values.0)) x.seed_is,
+        subst (λ (o : Option Text). IsSomeAnd o (λ text. IsNumberWithin 1 SAMPLE_ROWS text rows)) (sym (value_at rows_name ∙ t.values.1.0)) x.rows_is,
       )
 
   is_sample : (seed rows : ℕ) → FindsSample m seed rows → IsSample (codes "sample" ∷ words) seed rows
   is_sample seed rows is =
       let g = taken (codes "sample") sample_options names words found.formed found.passes in
-      let seed_at = named_text (first_of seed_name (matches_of app words)) (λ text. IsNumber text seed)
-      (subst (λ (o : Option Text). IsSomeAnd o (λ text. IsNumber text seed)) (value_is seed_name) is.0) in
-      let rows_at = named_text (first_of rows_name (matches_of app words)) (λ text. IsRowsText text rows)
-      (subst (λ (o : Option Text). IsSomeAnd o (λ text. IsRowsText text rows)) (value_is rows_name) is.1) in
+      let seed_at = named_text app words m found seed_name (λ text. IsNumber text seed) is.0 in
+      let rows_at = named_text app words m found rows_name (λ text. IsNumberWithin 1 SAMPLE_ROWS text rows) is.1 in
       record {
         options = words;
         seed_text = seed_at.0;

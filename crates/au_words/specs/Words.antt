@@ -1,7 +1,7 @@
 -- The words after the program's name.
 use Rattle.std.specs.Prelude.{◌≡◌, ◌≢◌, ◌⊎◌, ◌<◌, ◌≤◌, ℕ, ◌^◌, List, [], ◌∷◌, ◌++◌, length, codes, Option, Some, None, IsPermutation}
 use Rattle.std.specs.Str.Parse.{IsNumeral, digits_value, without_leading_plus}
-use Rattle.au_base.specs.Limits.{JOURNAL_LIMIT_DEFAULT, JOURNAL_LIMIT_MAX, JOURNAL_LIMIT_MIN, PASSWORD_BYTES, SAMPLE_ROWS}
+use Rattle.au_base.specs.Limits.{JOURNAL_LIMIT_DEFAULT, JOURNAL_LIMIT_MAX, JOURNAL_LIMIT_MIN, PASSWORD_BYTES, SAMPLE_ROWS, WORKERS}
 use Rattle.au_words.specs.declared.command.Command.{Command}
 use Rattle.au_words.specs.declared.command.Command.TheVariants as command
 
@@ -57,6 +57,10 @@ pub record IsNumber (text : List ℕ) (number : ℕ) : Type 0 where
   pub value : number ≡ digits_value 10 (without_leading_plus text)
   pub fits : number < 2 ^ 32
 
+-- the text is a number from `low` to `high`
+abbrev pub IsNumberWithin : ℕ → ℕ → List ℕ → ℕ → Type 0
+IsNumberWithin low high text number = IsNumber text number × (low ≤ number) × (number ≤ high)
+
 -- ---- `init`
 
 abbrev pub password_name : List ℕ
@@ -69,14 +73,11 @@ limit_name = codes "limit"
 abbrev pub IsPassword : List ℕ → Type 0
 IsPassword text = (1 ≤ length text) × (length text ≤ PASSWORD_BYTES)
 
--- the text is a limit that a journal area may have
-abbrev pub IsLimitText : List ℕ → ℕ → Type 0
-IsLimitText text limit = IsNumber text limit × (JOURNAL_LIMIT_MIN ≤ limit) × (limit ≤ JOURNAL_LIMIT_MAX)
-
--- the option's text is a limit, or the option isn't given and the limit is the default
+-- the option's text is a limit that a journal area may have, or the option isn't given and the limit
+-- is the default
 abbrev pub IsLimitOf : Option (List ℕ) → ℕ → Type 0
 IsLimitOf None limit = limit ≡ JOURNAL_LIMIT_DEFAULT
-IsLimitOf (Some text) limit = IsLimitText text limit
+IsLimitOf (Some text) limit = IsNumberWithin JOURNAL_LIMIT_MIN JOURNAL_LIMIT_MAX text limit
 
 -- the word `init`, and options that name a password and perhaps a limit
 pub record IsInit (words : List (List ℕ)) (password : List ℕ) (limit : ℕ) : Type 0 where
@@ -95,10 +96,6 @@ seed_name = codes "seed"
 abbrev pub rows_name : List ℕ
 rows_name = codes "rows"
 
--- the text is a number of rows that a sample may have
-abbrev pub IsRowsText : List ℕ → ℕ → Type 0
-IsRowsText text rows = IsNumber text rows × (1 ≤ rows) × (rows ≤ SAMPLE_ROWS)
-
 -- the word `sample`, and options that name a seed and a number of rows
 pub record IsSample (words : List (List ℕ)) (seed rows : ℕ) : Type 0 where
   pub options : List (List ℕ)
@@ -107,7 +104,35 @@ pub record IsSample (words : List (List ℕ)) (seed rows : ℕ) : Type 0 where
   pub split : words ≡ codes "sample" ∷ options
   pub reads : AreOptions ((seed_name, Some seed_text) ∷ (rows_name, Some rows_text) ∷ []) options
   pub seed_is : IsNumber seed_text seed
-  pub rows_is : IsRowsText rows_text rows
+  pub rows_is : IsNumberWithin 1 SAMPLE_ROWS rows_text rows
+
+-- ---- `serve`
+
+abbrev pub port_name : List ℕ
+port_name = codes "port"
+
+abbrev pub workers_name : List ℕ
+workers_name = codes "workers"
+
+abbrev pub connections_name : List ℕ
+connections_name = codes "connections"
+
+-- the option's text is a number of connections, or the option isn't given and the number is 0
+abbrev pub IsConnectionsOf : Option (List ℕ) → ℕ → Type 0
+IsConnectionsOf None connections = connections ≡ 0
+IsConnectionsOf (Some text) connections = IsNumber text connections
+
+-- the word `serve`, and options that name a port, a number of workers and perhaps one of connections
+pub record IsServe (words : List (List ℕ)) (port workers connections : ℕ) : Type 0 where
+  pub options : List (List ℕ)
+  pub port_text : List ℕ
+  pub workers_text : List ℕ
+  pub connections_text : Option (List ℕ)
+  pub split : words ≡ codes "serve" ∷ options
+  pub reads : AreOptions ((port_name, Some port_text) ∷ (workers_name, Some workers_text) ∷ (connections_name, connections_text) ∷ []) options
+  pub port_is : IsNumberWithin 1 65_535 port_text port
+  pub workers_is : IsNumberWithin 1 WORKERS workers_text workers
+  pub connections_is : IsConnectionsOf connections_text connections
 
 -- ---- the command
 
@@ -118,3 +143,4 @@ IsCommand words command.Run = IsRun words
 IsCommand words command.Trail = IsTrail words
 IsCommand words command.Check = IsCheck words
 IsCommand words (command.Sample seed rows) = IsSample words seed rows
+IsCommand words (command.Serve port workers connections) = IsServe words port workers connections

@@ -4,12 +4,13 @@ ghost use Rattle.clap.specs.Words.{app_of};
 ghost use Rattle.au_words.specs.descent.Options.{FindsInit, init_options, options_app};
 ghost use Rattle.au_words.specs.Words.{IsInit, IsLimitOf, IsPassword};
 
-use crate::options::{matches_of, str_words};
+use crate::numbers::number_within;
+use crate::options::{bare_command, matches_of, str_words, with_option};
 use au_base::limits::{
     JOURNAL_LIMIT_DEFAULT, JOURNAL_LIMIT_MAX, JOURNAL_LIMIT_MIN, PASSWORD_BYTES,
 };
 use au_base::{Memory, Text};
-use clap::{Arg, ArgMatches, Command};
+use clap::{ArgMatches, Command};
 use std::alloc::Global;
 
 /// The password and the limit that the options of `init` name.
@@ -30,16 +31,9 @@ pub(crate) fn init_of(alloc: Global, options: &[Text]) -> Result<Option<(Text, u
 fn init_command<'a>(alloc: Global) -> Result<Command<'a>, Memory>
     ensures { IfOk result (λ command. app_of command ≡ options_app (codes "init") init_options) }
 {
-    let password = Arg::new(alloc, "sys-password")
-        .long("sys-password")
-        .required(true);
-    let limit = Arg::new(alloc, "limit").long("limit");
-    let command = Command::new(alloc, "init")
-        .no_binary_name(true)
-        .disable_help_flag(true)
-        .arg(password)?
-        .arg(limit)?;
-    Ok(command)
+    let command = bare_command(alloc, "init");
+    let command = with_option(alloc, command, "sys-password", true)?;
+    with_option(alloc, command, "limit", false)
 }
 
 // The password and the limit that the texts of the options are.
@@ -70,11 +64,8 @@ fn limit_of(text: Option<&str>) -> Option<u32>
     ensures { MatchOption result ((limit : ℕ) → IsLimitOf (option_map (λ s. s.now) text.entry) limit → ⊥)
         (λ limit. IsLimitOf (option_map (λ s. s.now) text.entry) limit) }
 {
-    let Some(text) = text else {
-        return Some(JOURNAL_LIMIT_DEFAULT);
-    };
-    match text.parse::<u32>() {
-        Ok(limit) if (JOURNAL_LIMIT_MIN..=JOURNAL_LIMIT_MAX).contains(&limit) => Some(limit),
-        _ => None,
+    match text {
+        Some(text) => number_within(text, JOURNAL_LIMIT_MIN, JOURNAL_LIMIT_MAX),
+        None => Some(JOURNAL_LIMIT_DEFAULT),
     }
 }

@@ -4,9 +4,11 @@
 mod command;
 mod init;
 mod laws;
+mod numbers;
 mod options;
 mod reading;
 mod sample;
+mod serve;
 
 pub use command::Command;
 pub use laws::one_command;

@@ -6,13 +6,15 @@ ghost use Rattle.au_words.specs.Words.{IsCommand};
 use crate::command::Command;
 use crate::init::init_of;
 use crate::sample::sample_of;
+use crate::serve::serve_of;
 use au_base::{Memory, Text};
 use std::alloc::Global;
 
 /// The command that the words are.
 ///
 /// It is `run`, `trail` or `check`; `init` and its options `--sys-password TEXT` and perhaps
-/// `--limit N`; or `sample` and its options `--seed N` and `--rows N`. Options come in any order, as
+/// `--limit N`; `sample` and its options `--seed N` and `--rows N`; or `serve` and its options
+/// `--port N`, `--workers N` and perhaps `--connections N`. Options come in any order, as
 /// `--name value` or as `--name=value`.
 pub fn command_of(alloc: Global, words: &[Text]) -> Result<Option<Command>, Memory>
     ensures { IfOk result (λ found. MatchOption found ((command : AnyCommand) → IsCommand words.now command → ⊥) (λ command. IsCommand words.now command)) }
@@ -29,13 +31,21 @@ pub fn command_of(alloc: Global, words: &[Text]) -> Result<Option<Command>, Memo
             let sample = sample_of(alloc, options)?;
             Ok(sample.map(|(seed, rows)| Command::Sample { seed, rows }))
         }
+        "serve" => {
+            let serve = serve_of(alloc, options)?;
+            Ok(serve.map(|(port, workers, connections)| Command::Serve {
+                port,
+                workers,
+                connections,
+            }))
+        }
         word if options.is_empty() => Ok(plain_command(word)),
         _ => Ok(None),
     }
 }
 
 // The command that is the one word.
-#[tactic(auto, using(crate::proofs::OneLaws::init_alone, crate::proofs::OneLaws::sample_alone))]
+#[tactic(auto, using(crate::proofs::OneLaws::init_alone, crate::proofs::OneLaws::sample_alone, crate::proofs::OneLaws::serve_alone))]
 fn plain_command(word: &str) -> Option<Command>
     ensures { MatchOption result ((command : AnyCommand) → IsCommand (word.now ∷ []) command → ⊥) (λ command. IsCommand (word.now ∷ []) command) }
 {

@@ -2,12 +2,13 @@
 ghost use Rattle.std.specs.Prelude.{◌≡◌, ◌∷◌, ℕ, List, IfOk, MatchOption, codes};
 ghost use Rattle.clap.specs.Words.{app_of};
 ghost use Rattle.au_words.specs.descent.Options.{FindsSample, options_app, sample_options};
-ghost use Rattle.au_words.specs.Words.{IsNumber, IsRowsText, IsSample};
+ghost use Rattle.au_words.specs.Words.{IsSample};
 
-use crate::options::{matches_of, str_words};
+use crate::numbers::{number_of, number_within};
+use crate::options::{bare_command, matches_of, str_words, with_option};
 use au_base::limits::SAMPLE_ROWS;
 use au_base::{Memory, Text};
-use clap::{Arg, ArgMatches, Command};
+use clap::{ArgMatches, Command};
 use std::alloc::Global;
 
 /// The seed and the rows that the options of `sample` name.
@@ -28,14 +29,9 @@ pub(crate) fn sample_of(alloc: Global, options: &[Text]) -> Result<Option<(u32, 
 fn sample_command<'a>(alloc: Global) -> Result<Command<'a>, Memory>
     ensures { IfOk result (λ command. app_of command ≡ options_app (codes "sample") sample_options) }
 {
-    let seed = Arg::new(alloc, "seed").long("seed").required(true);
-    let rows = Arg::new(alloc, "rows").long("rows").required(true);
-    let command = Command::new(alloc, "sample")
-        .no_binary_name(true)
-        .disable_help_flag(true)
-        .arg(seed)?
-        .arg(rows)?;
-    Ok(command)
+    let command = bare_command(alloc, "sample");
+    let command = with_option(alloc, command, "seed", true)?;
+    with_option(alloc, command, "rows", true)
 }
 
 // The seed and the rows that the texts of the options are.
@@ -45,26 +41,6 @@ fn seed_and_rows(found: &ArgMatches<'_>) -> Option<(u32, u32)>
         (λ sample. FindsSample found.now sample.0 sample.1) }
 {
     let seed = number_of(found.get_str("seed")?)?;
-    let rows = rows_of(found.get_str("rows")?)?;
+    let rows = number_within(found.get_str("rows")?, 1, SAMPLE_ROWS)?;
     Some((seed, rows))
-}
-
-// The number that the text is.
-fn number_of(text: &str) -> Option<u32>
-    ensures { MatchOption result ((number : ℕ) → IsNumber text.now number → ⊥) (λ number. IsNumber text.now number) }
-{
-    match text.parse::<u32>() {
-        Ok(number) => Some(number),
-        Err(_) => None,
-    }
-}
-
-// The number of rows that the text is.
-fn rows_of(text: &str) -> Option<u32>
-    ensures { MatchOption result ((rows : ℕ) → IsRowsText text.now rows → ⊥) (λ rows. IsRowsText text.now rows) }
-{
-    match text.parse::<u32>() {
-        Ok(rows) if (1..=SAMPLE_ROWS).contains(&rows) => Some(rows),
-        _ => None,
-    }
 }

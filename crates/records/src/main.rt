@@ -2,13 +2,15 @@
 #![tactic(auto)]
 
 use au_base::{Memory, Text};
-use au_io::{FileDisk, NoLobby, RealClock, StdSink, StdSource};
+use au_io::{FileDisk, RealClock, StdSink, StdSource, TcpLobby};
 use au_main::{Status, top};
 use std::alloc::Global;
 use std::env;
 use std::io::{Error, ErrorKind};
 use std::process::ExitCode;
 use std::rt::Env;
+use std::sync::Wait;
+use std::thread::Threads;
 
 /// Why there are no words.
 #[derive(Clone, Copy, Debug, PartialEq, Eq)]
@@ -56,20 +58,22 @@ fn keep_what_is_freed(alloc: Global) {
 }
 
 // Does what the words say, on the system's outside: the standard streams, the files of the working
-// folder, of which none is made before it is asked for, and the system's clock.
-fn run(rt: HostRuntime, words: &[Text]) -> Status {
+// folder, of which none is made before it is asked for, the system's clock, and a port of 127.0.0.1.
+fn run<R: Threads + Wait + Sync>(rt: HostRuntime, threads: &R, words: &[Text]) -> Status {
     let mut source = StdSource::new(rt.stdin());
     let mut sink = StdSink::new(rt.stdout());
     let disk = FileDisk::new(rt);
     let clock = RealClock::new(rt);
+    let lobby = TcpLobby::new(rt);
     let (status, _disk, _clock, _lobby) = top(
+        threads,
         rt.alloc(),
         words,
         &mut source,
         &mut sink,
         disk,
         clock,
-        NoLobby,
+        lobby,
     );
     status
 }
@@ -77,7 +81,7 @@ fn run(rt: HostRuntime, words: &[Text]) -> Status {
 fn main(rt: HostRuntime) -> ExitCode {
     keep_what_is_freed(rt.alloc());
     let status = match words(&rt) {
-        Ok(words) => run(rt, &words),
+        Ok(words) => run(rt, &rt, &words),
         Err(NoWords::Unread) => Status::Usage,
         Err(NoWords::Memory) => Status::Memory,
     };

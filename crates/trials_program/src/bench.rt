@@ -8,6 +8,8 @@ use crate::texts::push_indented;
 use crate::words::{bytes_of, first_word, number};
 use au_io::{Area, Disk, MemDisk};
 use std::alloc::Global;
+use std::sync::Wait;
+use std::thread::Threads;
 
 // The image of a disk that is as it reads.
 const AS_IT_READS: u8 = 1;
@@ -39,12 +41,18 @@ impl Bench {
     }
 
     /// Adds what comes of the line.
-    pub fn answer(&mut self, alloc: Global, line: &str, said: &mut String) -> Result<(), Fault> {
+    pub fn answer<R: Threads + Wait + Sync>(
+        &mut self,
+        rt: &R,
+        alloc: Global,
+        line: &str,
+        said: &mut String,
+    ) -> Result<(), Fault> {
         let (step, part) = first_word(line);
         match step {
-            "try" => self.try_all(alloc, Call::Top, part, said),
-            "alone" => self.try_all(alloc, Call::Alone, part, said),
-            "do" => self.do_once(alloc, part, said),
+            "try" => self.try_all(rt, alloc, Call::Top, part, said),
+            "alone" => self.try_all(rt, alloc, Call::Alone, part, said),
+            "do" => self.do_once(rt, alloc, part, said),
             "read" => self.read(alloc, part, said),
             "end" => push_named_end(said, part),
             _ => self.set_up(alloc, step, part),
@@ -63,8 +71,9 @@ impl Bench {
     }
 
     // Adds what comes of the command on copies of the disk, in pieces of each size.
-    fn try_all(
+    fn try_all<R: Threads + Wait + Sync>(
         &self,
+        rt: &R,
         alloc: Global,
         call: Call,
         words: &str,
@@ -73,17 +82,18 @@ impl Bench {
         let Some((piece, others)) = self.setting.pieces.split_first() else {
             return Err(Fault::NoCase);
         };
-        let first = self.in_pieces(alloc, call, words, *piece)?;
+        let first = self.in_pieces(rt, alloc, call, words, *piece)?;
         said.push_str(&first)?;
         for piece in others {
-            let other = self.in_pieces(alloc, call, words, *piece)?;
+            let other = self.in_pieces(rt, alloc, call, words, *piece)?;
             push_other(said, *piece, &first, &other)?;
         }
         Ok(())
     }
 
-    fn in_pieces(
+    fn in_pieces<R: Threads + Wait + Sync>(
         &self,
+        rt: &R,
         alloc: Global,
         call: Call,
         words: &str,
@@ -91,14 +101,20 @@ impl Bench {
     ) -> Result<String, Fault> {
         let mut copy = self.disk.image(alloc, AS_IT_READS)?;
         let handed = self.setting.handed(piece);
-        done(alloc, call, words, &handed, &mut copy)
+        done(rt, alloc, call, words, &handed, &mut copy)
     }
 
     // Adds what comes of the command on the disk itself, in pieces of the first size.
-    fn do_once(&mut self, alloc: Global, words: &str, said: &mut String) -> Result<(), Fault> {
+    fn do_once<R: Threads + Wait + Sync>(
+        &mut self,
+        rt: &R,
+        alloc: Global,
+        words: &str,
+        said: &mut String,
+    ) -> Result<(), Fault> {
         let piece = self.setting.pieces.first().copied().unwrap_or(4096);
         let handed = self.setting.handed(piece);
-        let text = done(alloc, Call::Top, words, &handed, &mut self.disk)?;
+        let text = done(rt, alloc, Call::Top, words, &handed, &mut self.disk)?;
         said.push_str(&text)?;
         Ok(())
     }
@@ -124,7 +140,8 @@ fn push_other(said: &mut String, piece: u64, first: &str, other: &str) -> Result
 }
 
 // What comes of the command on the disk, by that call.
-fn done(
+fn done<R: Threads + Wait + Sync>(
+    rt: &R,
     alloc: Global,
     call: Call,
     words: &str,
@@ -132,7 +149,7 @@ fn done(
     disk: &mut MemDisk,
 ) -> Result<String, Fault> {
     let outcome = match call {
-        Call::Top => top_command(alloc, words, handed, disk)?,
+        Call::Top => top_command(rt, alloc, words, handed, disk)?,
         Call::Alone => command(alloc, words, handed, disk)?,
     };
     said_outcome(alloc, &outcome)

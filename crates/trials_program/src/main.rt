@@ -15,8 +15,9 @@
 //!   from 0, or none where `-` stands
 //! - `try WORD ..`: the command of these words, in which `''` is the empty word, on a copy of the disk,
 //!   by the call that is handed a lobby; `do WORD ..`: the same on the disk itself, in pieces of the first
-//!   size; `alone WORD ..`: what `try` does, by the call that takes no lobby. What comes is how it ended,
-//!   with its exit status, how often the clock was read, and what was given, line by line
+//!   size; `alone WORD ..`: what `try` does, by the call that takes no lobby; the first word isn't `serve`.
+//!   What comes is how it ended, with its exit status, how often the clock was read, and what was given,
+//!   line by line
 //! - `scribble AT DIGITS`: these bytes are written at that place of area A; `cut SIZE`: the area has that
 //!   size from here on; `read AT COUNT`: so many of its bytes from that place on
 //! - `end NAME`: the text of an end, and its exit status
@@ -73,6 +74,8 @@ mod trials;
 mod words;
 
 use std::io;
+use std::sync::Wait;
+use std::thread::Threads;
 use trials::Trials;
 
 fn main(rt: HostRuntime) -> io::Result<()> {
@@ -80,7 +83,10 @@ fn main(rt: HostRuntime) -> io::Result<()> {
     answer_all(&rt, &mut trials)
 }
 
-fn answer_all(rt: &(impl Input + Print + AllocGlobal), trials: &mut Trials) -> io::Result<()> {
+fn answer_all<R: Threads + Wait + Sync + Input + Print + AllocGlobal>(
+    rt: &R,
+    trials: &mut Trials,
+) -> io::Result<()> {
     for line in rt.lines(rt.alloc()) {
         answer(rt, trials, &line?)?;
     }
@@ -90,9 +96,13 @@ fn answer_all(rt: &(impl Input + Print + AllocGlobal), trials: &mut Trials) -> i
 }
 
 // Prints the line and what comes of it, up to a fault.
-fn answer(rt: &(impl Print + AllocGlobal), trials: &mut Trials, line: &str) -> io::Result<()> {
+fn answer<R: Threads + Wait + Sync + Print + AllocGlobal>(
+    rt: &R,
+    trials: &mut Trials,
+    line: &str,
+) -> io::Result<()> {
     let mut said = String::new(rt.alloc());
-    let answered = trials.answer(rt.alloc(), line, &mut said);
+    let answered = trials.answer(rt, rt.alloc(), line, &mut said);
     print!(rt; "{said}")?;
     Ok(answered?)
 }

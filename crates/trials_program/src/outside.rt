@@ -1,12 +1,15 @@
 //! The program's commands on an outside in memory: a disk, a source, a sink and a clock.
+ghost use Rattle.au_main.specs.Serves.{SaysServe};
 
 use crate::fault::Fault;
-use crate::words::words_of;
+use crate::words::{says_serve, words_of};
 use au_base::{Memory, Text};
 use au_io::{MemClock, MemDisk, MemSink, MemSource, NoLobby};
 use au_main::{Status, alone, top};
 use std::alloc::Global;
 use std::mem;
+use std::sync::Wait;
+use std::thread::Threads;
 
 /// A clock that reads 1,000,000, and then one more each time.
 pub const CLOCK: MemClock = MemClock {
@@ -59,7 +62,8 @@ struct Rest {
     first: u64,
 }
 
-/// Does the command of these words by the call that takes no lobby. The disk is what it leaves.
+/// Does the command of these words, which isn't `serve`, by the call that takes no lobby. The disk is what
+/// it leaves.
 pub fn command(
     alloc: Global,
     words: &str,
@@ -67,18 +71,22 @@ pub fn command(
     disk: &mut MemDisk,
 ) -> Result<Outcome, Fault> {
     let mut rest = rest_of(alloc, words, handed)?;
+    if says_serve(&rest.words) {
+        return Err(Fault::NoCase);
+    }
     by_alone(alloc, &mut rest, disk)
 }
 
 /// Does it by the call that is handed a lobby.
-pub fn top_command(
+pub fn top_command<R: Threads + Wait + Sync>(
+    rt: &R,
     alloc: Global,
     words: &str,
     handed: &Handed<'_>,
     disk: &mut MemDisk,
 ) -> Result<Outcome, Fault> {
     let mut rest = rest_of(alloc, words, handed)?;
-    by_top(alloc, &mut rest, disk)
+    by_top(rt, alloc, &mut rest, disk)
 }
 
 /// Puts an empty disk in the place of the disk.
@@ -112,7 +120,9 @@ fn rest_of(alloc: Global, words: &str, handed: &Handed<'_>) -> Result<Rest, Faul
     })
 }
 
-fn by_alone(alloc: Global, rest: &mut Rest, disk: &mut MemDisk) -> Result<Outcome, Fault> {
+fn by_alone(alloc: Global, rest: &mut Rest, disk: &mut MemDisk) -> Result<Outcome, Fault>
+    requires { ¬ (SaysServe rest.old.words.items) }
+{
     let held = take(alloc, disk)?;
     let (status, left, clock) = alone(
         alloc,
@@ -127,9 +137,15 @@ fn by_alone(alloc: Global, rest: &mut Rest, disk: &mut MemDisk) -> Result<Outcom
     outcome_of(alloc, status, rest)
 }
 
-fn by_top(alloc: Global, rest: &mut Rest, disk: &mut MemDisk) -> Result<Outcome, Fault> {
+fn by_top<R: Threads + Wait + Sync>(
+    rt: &R,
+    alloc: Global,
+    rest: &mut Rest,
+    disk: &mut MemDisk,
+) -> Result<Outcome, Fault> {
     let held = take(alloc, disk)?;
     let (status, left, clock, _lobby) = top(
+        rt,
         alloc,
         &rest.words,
         &mut rest.source,

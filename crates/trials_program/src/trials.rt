@@ -6,6 +6,8 @@ use crate::fault::Fault;
 use crate::script::Script;
 use crate::words::asks;
 use std::alloc::Global;
+use std::sync::Wait;
+use std::thread::Threads;
 
 /// The kind of lines that come.
 #[derive(Clone, Copy)]
@@ -35,7 +37,13 @@ impl Trials {
     }
 
     /// Adds the line and what comes of it. Lines of a script are added once it ends.
-    pub fn answer(&mut self, alloc: Global, line: &str, said: &mut String) -> Result<(), Fault> {
+    pub fn answer<R: Threads + Wait + Sync>(
+        &mut self,
+        rt: &R,
+        alloc: Global,
+        line: &str,
+        said: &mut String,
+    ) -> Result<(), Fault> {
         if let Some(name) = line.strip_prefix("=== ") {
             self.end(alloc, said)?;
             self.part = part_of(name)?;
@@ -44,17 +52,23 @@ impl Trials {
         }
         match self.part {
             Part::Scripts => self.script.add(alloc, line, said),
-            Part::Commands | Part::Crashes => self.answer_line(alloc, line, said),
+            Part::Commands | Part::Crashes => self.answer_line(rt, alloc, line, said),
         }
     }
 
-    fn answer_line(&mut self, alloc: Global, line: &str, said: &mut String) -> Result<(), Fault> {
+    fn answer_line<R: Threads + Wait + Sync>(
+        &mut self,
+        rt: &R,
+        alloc: Global,
+        line: &str,
+        said: &mut String,
+    ) -> Result<(), Fault> {
         writeln!(said, "{line}")?;
         if !asks(line) {
             return Ok(());
         }
         match self.part {
-            Part::Commands => self.bench.answer(alloc, line, said),
+            Part::Commands => self.bench.answer(rt, alloc, line, said),
             Part::Crashes | Part::Scripts => push_case(alloc, line, said),
         }
     }

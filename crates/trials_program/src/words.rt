@@ -1,4 +1,6 @@
 //! The parts of a line: words, numbers, and bytes as hexadecimal digits.
+ghost use Rattle.std.specs.Prelude.{◌≡◌, false};
+ghost use Rattle.au_main.specs.Serves.{SaysServe};
 
 use crate::fault::Fault;
 use au_base::Text;
@@ -42,6 +44,16 @@ pub fn words_of(alloc: Global, text: &str) -> Result<Vec<Text>, Fault> {
         words.push(Text::from_str(alloc, word)?)?;
     }
     Ok(words)
+}
+
+/// Whether the first word is `serve`.
+pub fn says_serve(words: &[Text]) -> bool
+    ensures { result ≡ false → ¬ (SaysServe words.now) }
+{
+    match words.split_first() {
+        Some((word, _)) => word.as_str() == "serve",
+        None => false,
+    }
 }
 
 /// The bytes that the digits spell. Blanks may part them.

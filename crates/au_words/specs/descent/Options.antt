@@ -4,7 +4,8 @@ use Rattle.std.specs.List.{All}
 use Rattle.clap.specs.Simple.{new_shape}
 use Rattle.clap.specs.Words.{App, Rule, Text, fault_of, first_value, found_of, matches_of, new_rule, rows_of}
 use Rattle.clap.specs.declared.parser.matches.ArgMatches.{ArgMatches}
-use Rattle.au_words.specs.Words.{IsLimitOf, IsNumber, IsOwnWord, IsPassword, IsRowsText, limit_name, password_name, rows_name, seed_name}
+use Rattle.au_base.specs.Limits.{SAMPLE_ROWS, WORKERS}
+use Rattle.au_words.specs.Words.{IsConnectionsOf, IsLimitOf, IsNumber, IsNumberWithin, IsOwnWord, IsPassword, connections_name, limit_name, password_name, port_name, rows_name, seed_name, workers_name}
 
 -- ---- words
 
@@ -42,6 +43,10 @@ init_options = (password_name, true) ∷ (limit_name, false) ∷ []
 abbrev pub sample_options : List (Text × Bool)
 sample_options = (seed_name, true) ∷ (rows_name, true) ∷ []
 
+-- the options of `serve`
+abbrev pub serve_options : List (Text × Bool)
+serve_options = (port_name, true) ∷ (workers_name, true) ∷ (connections_name, false) ∷ []
+
 -- what the command finds among the words: nothing, unless each is formed as an option or a value
 -- and the command takes them
 abbrev pub Finds : App → List Text → Option ArgMatches → Type 0
@@ -61,4 +66,11 @@ FindsInit found password limit =
 abbrev pub FindsSample : ArgMatches → ℕ → ℕ → Type 0
 FindsSample found seed rows =
     IsSomeAnd (first_value (found_of found) seed_name) (λ text. IsNumber text seed)
-    × IsSomeAnd (first_value (found_of found) rows_name) (λ text. IsRowsText text rows)
+    × IsSomeAnd (first_value (found_of found) rows_name) (λ text. IsNumberWithin 1 SAMPLE_ROWS text rows)
+
+-- what was found for `serve` is this port, this number of workers and this one of connections
+abbrev pub FindsServe : ArgMatches → ℕ → ℕ → ℕ → Type 0
+FindsServe found port workers connections =
+    IsSomeAnd (first_value (found_of found) port_name) (λ text. IsNumberWithin 1 65_535 text port)
+    × IsSomeAnd (first_value (found_of found) workers_name) (λ text. IsNumberWithin 1 WORKERS text workers)
+    × IsConnectionsOf (first_value (found_of found) connections_name) connections

@@ -33,7 +33,8 @@ returns-clause-off g c = λ is.
     record {
       came = before.0 ++ step.made;
       ending = step.made;
-      ends = ending_replied c.args.client c.answer_held-said.result step.made step.leaves reply;
+      ends = ending_replied c.take-store.result.state step.reached.state c.args.client step.reading c.answer_held-said.result step.made
+          (sym c.stands.ensures ∙ c.if-not-stands.false) step.step step.leaves reply;
       went = by_once c.args.pass.now c.take-store.new.pass c.answer_held-said.new.pass step.made before c.take-store.ensures.mine step.grew;
       gone = (
         step.reached,

@@ -2,7 +2,7 @@ use Rattle.std.proofs.Common.{◌∙◌, ap, sym, subst, map, length, IsUtf8}
 use Rattle.std.proofs.lemmas.List.{length-map}
 use Rattle.std.specs.Char.{to_ascii_uppercase}
 use Rattle.smallvec.proofs.SmallVecLemmas.{items-with_items}
-use Rattle.au_base.proofs.Uppercase.{stays_utf8}
+use Rattle.std_alloc.proofs.string.Cased.{raised as stays_utf8}
 use Rattle.au_base.proofs.text.Text.make_ascii_uppercase.Goals as goal
 
 pub invariant_of-self : goal.invariant_of-self

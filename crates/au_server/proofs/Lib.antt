@@ -1,0 +1,3 @@
+mod Returning
+mod Sends
+mod Written
